@@ -87,7 +87,8 @@ def picture(scenes, colours):
 
 
 def main(words):
-    scenes = read_table((DOCS / "BENCH.md").read_text())
+    page = (DOCS / "BENCH.md").read_text()
+    scenes = read_table(page[page.index("## Beside Box2D and Chipmunk") : page.index("## Where a step's time goes")])
     stale = []
     for name, colours in (("steps.svg", LIGHT), ("steps_dark.svg", DARK)):
         path, drawn = DOCS / "pictures" / name, picture(scenes, colours)

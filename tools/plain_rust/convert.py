@@ -39,6 +39,7 @@ DROPPED = [
     re.compile(r"^#\[cycle\([a-z]*\)\]\n", re.M),
     re.compile(r"^[ \t]*#\[error\([^\n]*\)\]\n", re.M),
     re.compile(r"^#\[derive\(Drop\)\]\n", re.M),
+    re.compile(r"^#\[derive_where\([^\n]*\)\]\n", re.M),
     re.compile(r"^use (?:std::marker::Model|thiserror::Error);\n", re.M),
     re.compile(r"#\[cfg\(test\)\]\nmod [a-z_]+;\n"),
 ]

@@ -1,4 +1,4 @@
-pub mod Places
+pub mod SlotEntries
 pub mod Calls
 pub mod Orders
 pub mod IdTexts

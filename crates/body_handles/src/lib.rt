@@ -16,12 +16,12 @@ ghost use Rattle.body_handles.specs.Calls.{RemovedStaysGone};
 mod handle;
 mod handles;
 mod ids;
-mod places;
+mod slot_table;
 
 pub use handle::Handle;
 pub use handles::Handles;
 pub use ids::{Id, handle_of};
-pub use places::{MAX_SLOTS, Place, WORN_OUT, limits_in_digits};
+pub use slot_table::{MAX_SLOTS, SlotEntry, WORN_OUT, limits_in_digits};
 
 /// The law of generations: a handle that was taken back is never live again, whatever is given out and taken
 /// back afterwards. The function does nothing; its contract is the law.

@@ -10,36 +10,36 @@ use Rattle.box_tree.specs.Tables.{loose_keys, keys_of, place_at, place_of, leaf_
 use Rattle.std.specs.List.{IsDistinct}
 use Rattle.box_tree.specs.BoxLists.{keys_over, box_at, is_over}
 use Rattle.box_tree.specs.Indexes.{IsPlaceOf, IsStanding, AreStanding, filled, IsIndex}
-use Rattle.box_tree.specs.declared.places.TheConstants.{MAX_KEYS}
+use Rattle.box_tree.specs.declared.key_entries.TheConstants.{MAX_KEYS}
 use Rattle.fixed_geom.specs.declared.boxes.Box2.{Box2}
 use Rattle.box_tree_base.specs.declared.leaves.Leaf.{Leaf}
-use Rattle.box_tree.specs.declared.places.Place.{Place}
+use Rattle.box_tree.specs.declared.key_entries.KeyEntry.{KeyEntry}
 use Rattle.box_tree.proofs.KeptLemmas.{fresh, others_differ, old_in}
 use Rattle.box_tree_base.proofs.WalkLemmas.{overlaps_within}
 
 -- ---- places and boxes side by side
 
-pub standing_at : (n k : ℕ) (places : List (Option Place)) (boxes : List (Option Box2)) → AreStanding n places boxes → IsStanding (n + k) (place_at places k) (box_at boxes k)
+pub standing_at : (n k : ℕ) (places : List (Option KeyEntry)) (boxes : List (Option Box2)) → AreStanding n places boxes → IsStanding (n + k) (place_at places k) (box_at boxes k)
 standing_at n k [] [] h = tt
 standing_at n k [] (b ∷ boxes) h = absurd h
 standing_at n k (o ∷ places) [] h = absurd h
 standing_at n zero (o ∷ places) (b ∷ boxes) h = let e : n + 0 ≡ n = omega arith in rw e h.0
 standing_at n (suc k) (o ∷ places) (b ∷ boxes) h = let e : n + suc k ≡ suc n + k = omega arith in rw e (standing_at (suc n) k places boxes h.1)
 
-pub standing_set : (n k : ℕ) (o : Option Place) (b : Option Box2) (places : List (Option Place)) (boxes : List (Option Box2)) → AreStanding n places boxes → IsStanding (n + k) o b → AreStanding n (slice_set places k o) (slice_set boxes k b)
+pub standing_set : (n k : ℕ) (o : Option KeyEntry) (b : Option Box2) (places : List (Option KeyEntry)) (boxes : List (Option Box2)) → AreStanding n places boxes → IsStanding (n + k) o b → AreStanding n (slice_set places k o) (slice_set boxes k b)
 standing_set n k o b [] [] h s = tt
 standing_set n k o b [] (c ∷ boxes) h s = absurd h
 standing_set n k o b (p ∷ places) [] h s = absurd h
 standing_set n zero o b (p ∷ places) (c ∷ boxes) h s = let e : n + 0 ≡ n = omega arith in (rw e at s, h.1)
 standing_set n (suc k) o b (p ∷ places) (c ∷ boxes) h s = let e : n + suc k ≡ suc n + k = omega arith in (h.0, standing_set (suc n) k o b places boxes h.1 (rw e at s))
 
-pub standing_length : (n : ℕ) (places : List (Option Place)) (boxes : List (Option Box2)) → AreStanding n places boxes → length places ≡ length boxes
+pub standing_length : (n : ℕ) (places : List (Option KeyEntry)) (boxes : List (Option Box2)) → AreStanding n places boxes → length places ≡ length boxes
 standing_length n [] [] h = refl
 standing_length n [] (b ∷ boxes) h = absurd h
 standing_length n (o ∷ places) [] h = absurd h
 standing_length n (o ∷ places) (b ∷ boxes) h = ap suc (standing_length (suc n) places boxes h.1)
 
-pub standing_more : (n : ℕ) (places : List (Option Place)) (boxes : List (Option Box2)) → AreStanding n places boxes → AreStanding n (places ++ None ∷ []) (boxes ++ None ∷ [])
+pub standing_more : (n : ℕ) (places : List (Option KeyEntry)) (boxes : List (Option Box2)) → AreStanding n places boxes → AreStanding n (places ++ None ∷ []) (boxes ++ None ∷ [])
 standing_more n [] [] h = (tt, tt)
 standing_more n [] (b ∷ boxes) h = absurd h
 standing_more n (o ∷ places) [] h = absurd h
@@ -48,39 +48,39 @@ standing_more n (o ∷ places) (b ∷ boxes) h = (h.0, standing_more (suc n) pla
 from_zero : (k : ℕ) → 0 + k ≡ k
 from_zero k = omega arith
 
-pub standing_here : (k : ℕ) (places : List (Option Place)) (boxes : List (Option Box2)) → AreStanding 0 places boxes → IsStanding k (place_at places k) (box_at boxes k)
+pub standing_here : (k : ℕ) (places : List (Option KeyEntry)) (boxes : List (Option Box2)) → AreStanding 0 places boxes → IsStanding k (place_at places k) (box_at boxes k)
 standing_here k places boxes h = subst (λ (n : ℕ). IsStanding n (place_at places k) (box_at boxes k)) (from_zero k) (standing_at 0 k places boxes h)
 
-pub standing_put : (k : ℕ) (o : Option Place) (b : Option Box2) (places : List (Option Place)) (boxes : List (Option Box2)) → AreStanding 0 places boxes → IsStanding k o b → AreStanding 0 (slice_set places k o) (slice_set boxes k b)
+pub standing_put : (k : ℕ) (o : Option KeyEntry) (b : Option Box2) (places : List (Option KeyEntry)) (boxes : List (Option Box2)) → AreStanding 0 places boxes → IsStanding k o b → AreStanding 0 (slice_set places k o) (slice_set boxes k b)
 standing_put k o b places boxes h s = standing_set 0 k o b places boxes h (subst (λ (n : ℕ). IsStanding n o b) (sym (from_zero k)) s)
 
 -- ---- how many there are
 
-pub filled_more : (places : List (Option Place)) → filled (places ++ None ∷ []) ≡ filled places
+pub filled_more : (places : List (Option KeyEntry)) → filled (places ++ None ∷ []) ≡ filled places
 filled_more [] = refl
 filled_more (None ∷ places) = filled_more places
 filled_more (Some p ∷ places) = ap suc (filled_more places)
 
-pub filled_few : (places : List (Option Place)) → filled places ≤ length places
+pub filled_few : (places : List (Option KeyEntry)) → filled places ≤ length places
 filled_few [] = omega arith
 filled_few (None ∷ places) = omega (arith, filled_few places)
 filled_few (Some p ∷ places) = omega (arith, filled_few places)
 
-pub filled_put : (places : List (Option Place)) (k : ℕ) (p : Place) → k < length places → place_at places k ≡ None → filled (slice_set places k (Some p)) ≡ suc (filled places)
+pub filled_put : (places : List (Option KeyEntry)) (k : ℕ) (p : KeyEntry) → k < length places → place_at places k ≡ None → filled (slice_set places k (Some p)) ≡ suc (filled places)
 filled_put [] k p lt h = absurd (omega arith)
 filled_put (None ∷ places) zero p lt h = refl
 filled_put (Some q ∷ places) zero p lt h = cc
 filled_put (None ∷ places) (suc k) p lt h = filled_put places k p (omega arith) h
 filled_put (Some q ∷ places) (suc k) p lt h = ap suc (filled_put places k p (omega arith) h)
 
-pub filled_take : (places : List (Option Place)) (k : ℕ) (p : Place) → place_at places k ≡ Some p → suc (filled (slice_set places k None)) ≡ filled places
+pub filled_take : (places : List (Option KeyEntry)) (k : ℕ) (p : KeyEntry) → place_at places k ≡ Some p → suc (filled (slice_set places k None)) ≡ filled places
 filled_take [] k p h = cc
 filled_take (None ∷ places) zero p h = cc
 filled_take (Some q ∷ places) zero p h = refl
 filled_take (None ∷ places) (suc k) p h = filled_take places k p h
 filled_take (Some q ∷ places) (suc k) p h = ap suc (filled_take places k p h)
 
-pub filled_same : (places : List (Option Place)) (k : ℕ) (p q : Place) → place_at places k ≡ Some p → filled (slice_set places k (Some q)) ≡ filled places
+pub filled_same : (places : List (Option KeyEntry)) (k : ℕ) (p q : KeyEntry) → place_at places k ≡ Some p → filled (slice_set places k (Some q)) ≡ filled places
 filled_same [] k p q h = cc
 filled_same (None ∷ places) zero p q h = cc
 filled_same (Some r ∷ places) zero p q h = refl
@@ -93,21 +93,21 @@ added_length e old new a =
     let m : length (a.front ++ e ∷ a.back) ≡ length a.front + length (e ∷ a.back) = length-append a.front (e ∷ a.back) in
     rw (a.was, a.is) (omega arith)
 
-pub few_leaves : (leaves : List Leaf) (places : List (Option Place)) (boxes : List (Option Box2)) → IsIndex leaves places boxes → length leaves ≤ MAX_KEYS
+pub few_leaves : (leaves : List Leaf) (places : List (Option KeyEntry)) (boxes : List (Option Box2)) → IsIndex leaves places boxes → length leaves ≤ MAX_KEYS
 few_leaves leaves places boxes h = omega (arith, h.count, filled_few places, standing_length 0 places boxes h.standing, h.few)
 
 -- ---- ranks
 
-rank_standing : (k : ℕ) (p : Place) (b : Option Box2) → IsStanding k (Some p) b → p.rank % MAX_KEYS ≡ k
+rank_standing : (k : ℕ) (p : KeyEntry) (b : Option Box2) → IsStanding k (Some p) b → p.rank % MAX_KEYS ≡ k
 rank_standing k p None h = absurd h
 rank_standing k p (Some x) h = h.rank
 
-pub ranked_place : (leaves : List Leaf) (places : List (Option Place)) (boxes : List (Option Box2)) (k : ℕ) (p : Place) → IsIndex leaves places boxes → place_at places k ≡ Some p → p.rank % MAX_KEYS ≡ k
+pub ranked_place : (leaves : List Leaf) (places : List (Option KeyEntry)) (boxes : List (Option Box2)) (k : ℕ) (p : KeyEntry) → IsIndex leaves places boxes → place_at places k ≡ Some p → p.rank % MAX_KEYS ≡ k
 ranked_place leaves places boxes k p h is =
     let s : IsStanding k (place_at places k) (box_at boxes k) = standing_here k places boxes h.standing in
     rank_standing k p (box_at boxes k) (rw is at s)
 
-pub ranked : (leaves : List Leaf) (places : List (Option Place)) (boxes : List (Option Box2)) (e : Leaf) → IsIndex leaves places boxes → IsIn e leaves → e.rank % MAX_KEYS ≡ e.key
+pub ranked : (leaves : List Leaf) (places : List (Option KeyEntry)) (boxes : List (Option Box2)) (e : Leaf) → IsIndex leaves places boxes → IsIn e leaves → e.rank % MAX_KEYS ≡ e.key
 ranked leaves places boxes e h i =
     let s : IsStanding e.key (place_at places e.key) (box_at boxes e.key) = standing_here e.key places boxes h.standing in
     rank_standing e.key (place_of e) (box_at boxes e.key) (rw (h.kept.sound e i) at s)
@@ -119,26 +119,26 @@ each_other : (rank key : ℕ) (leaves : List Leaf) → rank % MAX_KEYS ≡ key �
 each_other rank key [] r f g = tt
 each_other rank key (e ∷ leaves) r f g = (differ_rank rank e.rank key e.key r (f e (inl refl)) (g e (inl refl)), each_other rank key leaves r (λ x i. f x (inr i)) (λ x i. g x (inr i)))
 
-none_standing : (k : ℕ) (o : Option Place) (b : Option Box2) → IsStanding k o b → b ≡ None → o ≡ None
+none_standing : (k : ℕ) (o : Option KeyEntry) (b : Option Box2) → IsStanding k o b → b ≡ None → o ≡ None
 none_standing k None b h e = refl
 none_standing k (Some p) None h e = absurd h
 none_standing k (Some p) (Some x) h e = cc
 
-pub free_place : (leaves : List Leaf) (places : List (Option Place)) (boxes : List (Option Box2)) (k : ℕ) → IsIndex leaves places boxes → box_at boxes k ≡ None → place_at places k ≡ None
+pub free_place : (leaves : List Leaf) (places : List (Option KeyEntry)) (boxes : List (Option Box2)) (k : ℕ) → IsIndex leaves places boxes → box_at boxes k ≡ None → place_at places k ≡ None
 free_place leaves places boxes k h e = none_standing k (place_at places k) (box_at boxes k) (standing_here k places boxes h.standing) e
 
-some_standing : (k : ℕ) (o : Option Place) (b : Option Box2) → IsStanding k o b → is_some b ≡ true → o ≡ None → ⊥
+some_standing : (k : ℕ) (o : Option KeyEntry) (b : Option Box2) → IsStanding k o b → is_some b ≡ true → o ≡ None → ⊥
 some_standing k None None h e n = cc
 some_standing k None (Some x) h e n = h
 some_standing k (Some p) b h e n = cc
 
-pub taken_place : (leaves : List Leaf) (places : List (Option Place)) (boxes : List (Option Box2)) (k : ℕ) → IsIndex leaves places boxes → is_some (box_at boxes k) ≡ true → place_at places k ≡ None → ⊥
+pub taken_place : (leaves : List Leaf) (places : List (Option KeyEntry)) (boxes : List (Option Box2)) (k : ℕ) → IsIndex leaves places boxes → is_some (box_at boxes k) ≡ true → place_at places k ≡ None → ⊥
 taken_place leaves places boxes k h e n = some_standing k (place_at places k) (box_at boxes k) (standing_here k places boxes h.standing) e n
 
-pub new_rank : (leaves : List Leaf) (places : List (Option Place)) (boxes : List (Option Box2)) (k rank : ℕ) → IsIndex leaves places boxes → place_at places k ≡ None → rank % MAX_KEYS ≡ k → Each (IsOther rank) leaves
+pub new_rank : (leaves : List Leaf) (places : List (Option KeyEntry)) (boxes : List (Option Box2)) (k rank : ℕ) → IsIndex leaves places boxes → place_at places k ≡ None → rank % MAX_KEYS ≡ k → Each (IsOther rank) leaves
 new_rank leaves places boxes k rank h none r = each_other rank k leaves r (λ e i. ranked leaves places boxes e h i) (λ e i. fresh leaves places k h.kept none e i)
 
-pub moved_rank : (leaves rest : List Leaf) (places : List (Option Place)) (boxes : List (Option Box2)) (e : Leaf) (rank : ℕ) → IsIndex leaves places boxes → rank % MAX_KEYS ≡ e.key → IsAdded e rest leaves → Each (IsOther rank) rest
+pub moved_rank : (leaves rest : List Leaf) (places : List (Option KeyEntry)) (boxes : List (Option Box2)) (e : Leaf) (rank : ℕ) → IsIndex leaves places boxes → rank % MAX_KEYS ≡ e.key → IsAdded e rest leaves → Each (IsOther rank) rest
 moved_rank leaves rest places boxes e rank h r a =
     each_other rank e.key rest r (λ x i. ranked leaves places boxes x h (old_in x e rest leaves a i)) (λ x i. others_differ e x a.front a.back (rw a.is at h.kept.distinct) (rw a.was at i))
 
@@ -149,7 +149,7 @@ length_boxes [] k o = refl
 length_boxes (x ∷ boxes) zero o = refl
 length_boxes (x ∷ boxes) (suc k) o = ap suc (length_boxes boxes k o)
 
-pub index_insert : (leaves new : List Leaf) (places : List (Option Place)) (boxes : List (Option Box2)) (k : ℕ) (p : Place) (x : Box2) → IsIndex leaves places boxes → k < length boxes → box_at boxes k ≡ None → IsPlaceOf k p x → IsAdded (leaf_of k p) leaves new → IsKept new (slice_set places k (Some p)) → IsIndex new (slice_set places k (Some p)) (slice_set boxes k (Some x))
+pub index_insert : (leaves new : List Leaf) (places : List (Option KeyEntry)) (boxes : List (Option Box2)) (k : ℕ) (p : KeyEntry) (x : Box2) → IsIndex leaves places boxes → k < length boxes → box_at boxes k ≡ None → IsPlaceOf k p x → IsAdded (leaf_of k p) leaves new → IsKept new (slice_set places k (Some p)) → IsIndex new (slice_set places k (Some p)) (slice_set boxes k (Some x))
 index_insert leaves new places boxes k p x h lt free place a kept =
     let l : length places ≡ length boxes = standing_length 0 places boxes h.standing in
     let n : length new ≡ suc (length leaves) = added_length (leaf_of k p) leaves new a in
@@ -162,7 +162,7 @@ index_insert leaves new places boxes k p x h lt free place a kept =
       few = rw (length_boxes boxes k (Some x)) h.few;
     }
 
-pub index_remove : (leaves rest : List Leaf) (places : List (Option Place)) (boxes : List (Option Box2)) (k : ℕ) (p : Place) → IsIndex leaves places boxes → place_at places k ≡ Some p → IsAdded (leaf_of k p) rest leaves → IsKept rest (slice_set places k None) → IsIndex rest (slice_set places k None) (slice_set boxes k None)
+pub index_remove : (leaves rest : List Leaf) (places : List (Option KeyEntry)) (boxes : List (Option Box2)) (k : ℕ) (p : KeyEntry) → IsIndex leaves places boxes → place_at places k ≡ Some p → IsAdded (leaf_of k p) rest leaves → IsKept rest (slice_set places k None) → IsIndex rest (slice_set places k None) (slice_set boxes k None)
 index_remove leaves rest places boxes k p h is a kept =
     let n : length leaves ≡ suc (length rest) = added_length (leaf_of k p) rest leaves a in
     let f : suc (filled (slice_set places k None)) ≡ filled places = filled_take places k p is in
@@ -174,7 +174,7 @@ index_remove leaves rest places boxes k p h is a kept =
       few = rw (length_boxes boxes k None) h.few;
     }
 
-pub index_move : (leaves new : List Leaf) (places : List (Option Place)) (boxes : List (Option Box2)) (k : ℕ) (p q : Place) (x : Box2) → IsIndex leaves places boxes → place_at places k ≡ Some p → IsPlaceOf k q x → IsMoved (leaf_of k p) (leaf_of k q) leaves new → IsKept new (slice_set places k (Some q)) → IsIndex new (slice_set places k (Some q)) (slice_set boxes k (Some x))
+pub index_move : (leaves new : List Leaf) (places : List (Option KeyEntry)) (boxes : List (Option Box2)) (k : ℕ) (p q : KeyEntry) (x : Box2) → IsIndex leaves places boxes → place_at places k ≡ Some p → IsPlaceOf k q x → IsMoved (leaf_of k p) (leaf_of k q) leaves new → IsKept new (slice_set places k (Some q)) → IsIndex new (slice_set places k (Some q)) (slice_set boxes k (Some x))
 index_move leaves new places boxes k p q x h is place m kept =
     let n : length leaves ≡ suc (length m.rest) = added_length (leaf_of k p) m.rest leaves m.taken in
     let o : length new ≡ suc (length m.rest) = added_length (leaf_of k q) m.rest new m.put in
@@ -187,13 +187,13 @@ index_move leaves new places boxes k p q x h is place m kept =
       few = rw (length_boxes boxes k (Some x)) h.few;
     }
 
-set_itself : (places : List (Option Place)) (k : ℕ) (p : Place) → place_at places k ≡ Some p → slice_set places k (Some p) ≡ places
+set_itself : (places : List (Option KeyEntry)) (k : ℕ) (p : KeyEntry) → place_at places k ≡ Some p → slice_set places k (Some p) ≡ places
 set_itself [] k p h = cc
-set_itself (o ∷ places) zero p h = ap (λ (q : Option Place). q ∷ places) (sym h)
-set_itself (o ∷ places) (suc k) p h = ap (λ (qs : List (Option Place)). o ∷ qs) (set_itself places k p h)
+set_itself (o ∷ places) zero p h = ap (λ (q : Option KeyEntry). q ∷ places) (sym h)
+set_itself (o ∷ places) (suc k) p h = ap (λ (qs : List (Option KeyEntry)). o ∷ qs) (set_itself places k p h)
 
 -- the box changes within its loose one
-pub index_stay : (leaves : List Leaf) (places : List (Option Place)) (boxes : List (Option Box2)) (k : ℕ) (p : Place) (x : Box2) → IsIndex leaves places boxes → place_at places k ≡ Some p → Contains p.bounds x → IsIndex leaves places (slice_set boxes k (Some x))
+pub index_stay : (leaves : List Leaf) (places : List (Option KeyEntry)) (boxes : List (Option Box2)) (k : ℕ) (p : KeyEntry) (x : Box2) → IsIndex leaves places boxes → place_at places k ≡ Some p → Contains p.bounds x → IsIndex leaves places (slice_set boxes k (Some x))
 index_stay leaves places boxes k p x h is inside =
     let place : IsPlaceOf k p x = record { inside = inside; rank = ranked_place leaves places boxes k p h is } in
     let set : AreStanding 0 (slice_set places k (Some p)) (slice_set boxes k (Some x)) = standing_put k (Some p) (Some x) places boxes h.standing place in
@@ -210,7 +210,7 @@ over_step : (t u : Bool) (n : ℕ) (test : ℕ → Bool) (us vs : List ℕ) → 
 over_step false u n test us vs f e h = rw (f refl) h
 over_step true u n test us vs f e h = rw (e, h) refl
 
-over_from : (b : Box2) (all : List (Option Box2)) (n : ℕ) (places : List (Option Place)) (boxes : List (Option Box2)) → AreStanding n places boxes → ((j : ℕ) → box_at boxes j ≡ box_at all (n + j)) → filter (λ k. is_over b (box_at all k)) (loose_keys b n places) ≡ keys_over b n boxes
+over_from : (b : Box2) (all : List (Option Box2)) (n : ℕ) (places : List (Option KeyEntry)) (boxes : List (Option Box2)) → AreStanding n places boxes → ((j : ℕ) → box_at boxes j ≡ box_at all (n + j)) → filter (λ k. is_over b (box_at all k)) (loose_keys b n places) ≡ keys_over b n boxes
 over_from b all n [] [] h f = refl
 over_from b all n [] (x ∷ boxes) h f = absurd h
 over_from b all n (o ∷ places) [] h f = absurd h
@@ -223,12 +223,12 @@ over_from b all n (Some p ∷ places) (Some x ∷ boxes) h f =
     over_step (overlaps p.bounds b) (overlaps x b) n (λ k. is_over b (box_at all k)) (loose_keys b (suc n) places) (keys_over b (suc n) boxes) (overlaps_within p.bounds x b h.0.inside) (ap (is_over b) here)
     (over_from b all (suc n) places boxes h.1 (λ j. let e : n + suc j ≡ suc n + j = omega arith in f (suc j) ∙ ap (box_at all) e))
 
-pub over_is_scan : (b : Box2) (leaves : List Leaf) (places : List (Option Place)) (boxes : List (Option Box2)) → IsIndex leaves places boxes → filter (λ k. is_over b (box_at boxes k)) (loose_keys b 0 places) ≡ keys_over b 0 boxes
+pub over_is_scan : (b : Box2) (leaves : List Leaf) (places : List (Option KeyEntry)) (boxes : List (Option Box2)) → IsIndex leaves places boxes → filter (λ k. is_over b (box_at boxes k)) (loose_keys b 0 places) ≡ keys_over b 0 boxes
 over_is_scan b leaves places boxes h = over_from b boxes 0 places boxes h.standing (λ j. ap (box_at boxes) (sym (from_zero j)))
 
 -- ---- as the code reads the lists
 
-pub place_read : (places : List (Option Place)) (k : ℕ) → slice_index_or places k None ≡ place_at places k
+pub place_read : (places : List (Option KeyEntry)) (k : ℕ) → slice_index_or places k None ≡ place_at places k
 place_read [] k = refl
 place_read (o ∷ places) zero = refl
 place_read (o ∷ places) (suc k) = place_read places k
@@ -243,7 +243,7 @@ box_there [] k o lt h = absurd (omega arith)
 box_there (b ∷ boxes) zero o lt h = sym h
 box_there (b ∷ boxes) (suc k) o lt h = box_there boxes k o (omega arith) h
 
-pub room_for : (leaves : List Leaf) (places : List (Option Place)) (boxes : List (Option Box2)) (k : ℕ) → IsIndex leaves places boxes → k < length boxes → k < length places
+pub room_for : (leaves : List Leaf) (places : List (Option KeyEntry)) (boxes : List (Option Box2)) (k : ℕ) → IsIndex leaves places boxes → k < length boxes → k < length places
 room_for leaves places boxes k h lt = omega (arith, standing_length 0 places boxes h.standing)
 
 none_distinct : IsDistinct eqb (keys_of [])
@@ -259,7 +259,7 @@ no_boxes = record {
 }
 
 -- one key more, with no box
-place_more : (places : List (Option Place)) (k : ℕ) → place_at (places ++ None ∷ []) k ≡ place_at places k
+place_more : (places : List (Option KeyEntry)) (k : ℕ) → place_at (places ++ None ∷ []) k ≡ place_at places k
 place_more [] zero = refl
 place_more [] (suc k) = refl
 place_more (o ∷ places) zero = refl
@@ -269,7 +269,7 @@ length_more : (boxes : List (Option Box2)) → length (boxes ++ None ∷ []) ≡
 length_more [] = refl
 length_more (b ∷ boxes) = ap suc (length_more boxes)
 
-pub index_grow : (leaves : List Leaf) (places : List (Option Place)) (boxes : List (Option Box2)) → IsIndex leaves places boxes → length boxes < MAX_KEYS → IsIndex leaves (places ++ None ∷ []) (boxes ++ None ∷ [])
+pub index_grow : (leaves : List Leaf) (places : List (Option KeyEntry)) (boxes : List (Option Box2)) → IsIndex leaves places boxes → length boxes < MAX_KEYS → IsIndex leaves (places ++ None ∷ []) (boxes ++ None ∷ [])
 index_grow leaves places boxes h lt =
     let n : length (boxes ++ None ∷ []) ≡ suc (length boxes) = length_more boxes in
     record {

@@ -8,7 +8,7 @@ use Rattle.box_tree_base.specs.Lists.{IsIn, IsAdded}
 use Rattle.box_tree.specs.Tables.{keys_of, place_at, place_of, leaf_of, IsKept}
 use Rattle.box_tree_base.specs.Roots.{IsMoved}
 use Rattle.box_tree_base.specs.declared.leaves.Leaf.{Leaf}
-use Rattle.box_tree.specs.declared.places.Place.{Place}
+use Rattle.box_tree.specs.declared.key_entries.KeyEntry.{KeyEntry}
 
 in_middle : {X : Type 0} (x e : X) (f b : List X) → IsIn x (f ++ e ∷ b) → (x ≡ e) ⊎ IsIn x (f ++ b)
 in_middle x e [] b h = h
@@ -31,12 +31,12 @@ old_in x e old new a h = rw a.is (middle_in x e a.front a.back (rw a.was at h))
 pub itself_in : {X : Type 0} (e : X) (old new : List X) → IsAdded e old new → IsIn e new
 itself_in e old new a = rw a.is (middle_itself e a.front a.back)
 
-pub set_same : (places : List (Option Place)) (k : ℕ) (o : Option Place) → k < length places → place_at (slice_set places k o) k ≡ o
+pub set_same : (places : List (Option KeyEntry)) (k : ℕ) (o : Option KeyEntry) → k < length places → place_at (slice_set places k o) k ≡ o
 set_same [] k o h = absurd (omega arith)
 set_same (q ∷ places) zero o h = refl
 set_same (q ∷ places) (suc k) o h = set_same places k o (omega arith)
 
-set_other : (places : List (Option Place)) (k j : ℕ) (o : Option Place) → j ≢ k → place_at (slice_set places k o) j ≡ place_at places j
+set_other : (places : List (Option KeyEntry)) (k j : ℕ) (o : Option KeyEntry) → j ≢ k → place_at (slice_set places k o) j ≡ place_at places j
 set_other [] k j o h = refl
 set_other (q ∷ places) zero zero o h = absurd (h refl)
 set_other (q ∷ places) zero (suc j) o h = refl
@@ -83,10 +83,10 @@ others_differ e x (y ∷ f) b d h =
       | inr q ↦ others_differ e x f b (IsDistinct-tail eqb y.key (keys_of (f ++ e ∷ b)) d) q
     ]
 
-differ : (p : Place) → Some p ≡ None → ⊥
+differ : (p : KeyEntry) → Some p ≡ None → ⊥
 differ p e = cc
 
-pub fresh : (leaves : List Leaf) (places : List (Option Place)) (k : ℕ) → IsKept leaves places → place_at places k ≡ None → (x : Leaf) → IsIn x leaves → x.key ≢ k
+pub fresh : (leaves : List Leaf) (places : List (Option KeyEntry)) (k : ℕ) → IsKept leaves places → place_at places k ≡ None → (x : Leaf) → IsIn x leaves → x.key ≢ k
 fresh leaves places k kept none x i = λ e. let s : place_at places k ≡ Some (place_of x) = rw e at (kept.sound x i) in absurd (differ (place_of x) (sym s ∙ none))
 
 cases_at : (j k : ℕ) (b : Bool) → eqb j k ≡ b → (j ≡ k) ⊎ (j ≢ k)
@@ -96,7 +96,7 @@ cases_at j k false e = inr (eqb-false j k e)
 cases_equal : (j k : ℕ) → (j ≡ k) ⊎ (j ≢ k)
 cases_equal j k = cases_at j k (eqb j k) refl
 
-pub kept_add : (leaves new : List Leaf) (places : List (Option Place)) (k : ℕ) (p : Place) → IsKept leaves places → k < length places → place_at places k ≡ None → IsAdded (leaf_of k p) leaves new → IsKept new (slice_set places k (Some p))
+pub kept_add : (leaves new : List Leaf) (places : List (Option KeyEntry)) (k : ℕ) (p : KeyEntry) → IsKept leaves places → k < length places → place_at places k ≡ None → IsAdded (leaf_of k p) leaves new → IsKept new (slice_set places k (Some p))
 kept_add leaves new places k p kept room none a = record {
   sound = λ e i. elim (in_new e (leaf_of k p) leaves new a i) [
     | inl q ↦ subst (λ (z : Leaf). place_at (slice_set places k (Some p)) z.key ≡ Some (place_of z)) (sym q) (set_same places k (Some p) room)
@@ -112,7 +112,7 @@ kept_add leaves new places k p kept room none a = record {
   distinct = rw a.is (distinct_middle (leaf_of k p) a.front a.back (λ x i. fresh leaves places k kept none x (rw a.was i)) (rw a.was at kept.distinct));
 }
 
-pub kept_remove : (leaves rest : List Leaf) (places : List (Option Place)) (e : Leaf) → IsKept leaves places → e.key < length places → IsAdded e rest leaves → IsKept rest (slice_set places e.key None)
+pub kept_remove : (leaves rest : List Leaf) (places : List (Option KeyEntry)) (e : Leaf) → IsKept leaves places → e.key < length places → IsAdded e rest leaves → IsKept rest (slice_set places e.key None)
 kept_remove leaves rest places e kept room a = record {
   sound = λ x i. set_other places e.key x.key None (others_differ e x a.front a.back (rw a.is at kept.distinct) (rw a.was at i)) ∙ kept.sound x (old_in x e rest leaves a i);
   complete = λ j q h. elim (cases_equal j e.key) [
@@ -125,17 +125,17 @@ kept_remove leaves rest places e kept room a = record {
   distinct = rw a.was (distinct_unmiddle e a.front a.back (rw a.is at kept.distinct));
 }
 
-pub set_set : (places : List (Option Place)) (k : ℕ) (o q : Option Place) → slice_set (slice_set places k o) k q ≡ slice_set places k q
+pub set_set : (places : List (Option KeyEntry)) (k : ℕ) (o q : Option KeyEntry) → slice_set (slice_set places k o) k q ≡ slice_set places k q
 set_set [] k o q = refl
 set_set (x ∷ places) zero o q = refl
 set_set (x ∷ places) (suc k) o q = ap (λ l. x ∷ l) (set_set places k o q)
 
-pub length_set : (places : List (Option Place)) (k : ℕ) (o : Option Place) → length (slice_set places k o) ≡ length places
+pub length_set : (places : List (Option KeyEntry)) (k : ℕ) (o : Option KeyEntry) → length (slice_set places k o) ≡ length places
 length_set [] k o = refl
 length_set (x ∷ places) zero o = refl
 length_set (x ∷ places) (suc k) o = ap suc (length_set places k o)
 
-pub kept_replace : (leaves new : List Leaf) (places : List (Option Place)) (e : Leaf) (p : Place) → IsKept leaves places → e.key < length places → IsMoved e (leaf_of e.key p) leaves new → IsKept new (slice_set places e.key (Some p))
+pub kept_replace : (leaves new : List Leaf) (places : List (Option KeyEntry)) (e : Leaf) (p : KeyEntry) → IsKept leaves places → e.key < length places → IsMoved e (leaf_of e.key p) leaves new → IsKept new (slice_set places e.key (Some p))
 kept_replace leaves new places e p kept room m =
     let wide : e.key < length (slice_set places e.key None) = rw (length_set places e.key None) room in
     let less = kept_remove leaves m.rest places e kept room m.taken in

@@ -10,7 +10,7 @@ use Rattle.box_tree_base.specs.declared.rays.Hit.{Hit}
 use Rattle.box_tree.specs.BoxLists.{box_at, first_hit, AreHitsWithin, found_in, asked_hit}
 use Rattle.box_tree.specs.Tables.{keys_of, place_at, place_of, leaf_of}
 use Rattle.box_tree.specs.Indexes.{IsStanding, IsIndex}
-use Rattle.box_tree.specs.declared.places.Place.{Place}
+use Rattle.box_tree.specs.declared.key_entries.KeyEntry.{KeyEntry}
 use Rattle.box_tree.proofs.IndexLemmas.{standing_here, taken_place}
 
 -- ---- the first hit on the keys of a set
@@ -180,15 +180,15 @@ has_key : (k : ℕ) (leaves : List Leaf) → IsIn k (keys_of leaves) → HasKey 
 has_key k [] h = absurd h
 has_key k (x ∷ leaves) h = elim h [ inl e ↦ record { leaf = x; among = inl refl; key = sym e } | inr i ↦ let t = has_key k leaves i in record { leaf = t.leaf; among = inr t.among; key = t.key } ]
 
-standing_some : (k : ℕ) (p : Place) (b : Option Box2) → IsStanding k (Some p) b → is_some b ≡ true
+standing_some : (k : ℕ) (p : KeyEntry) (b : Option Box2) → IsStanding k (Some p) b → is_some b ≡ true
 standing_some k p None h = absurd h
 standing_some k p (Some b) h = refl
 
-there : (leaves : List Leaf) (places : List (Option Place)) (boxes : List (Option Box2)) (k : ℕ) (o : Option Place) → IsIndex leaves places boxes → place_at places k ≡ o → (o ≡ None → ⊥) → IsIn k (keys_of leaves)
+there : (leaves : List Leaf) (places : List (Option KeyEntry)) (boxes : List (Option Box2)) (k : ℕ) (o : Option KeyEntry) → IsIndex leaves places boxes → place_at places k ≡ o → (o ≡ None → ⊥) → IsIn k (keys_of leaves)
 there leaves places boxes k None h e f = absurd (f refl)
 there leaves places boxes k (Some p) h e f = key_in (leaf_of k p) leaves (h.kept.complete k p e)
 
-pub first_is_scan : (hit : ℕ → Option ℕ) (leaves : List Leaf) (places : List (Option Place)) (boxes : List (Option Box2)) → IsIndex leaves places boxes → first_among hit leaves None ≡ first_hit hit 0 boxes None
+pub first_is_scan : (hit : ℕ → Option ℕ) (leaves : List Leaf) (places : List (Option KeyEntry)) (boxes : List (Option Box2)) → IsIndex leaves places boxes → first_among hit leaves None ≡ first_hit hit 0 boxes None
 first_is_scan hit leaves places boxes h =
     let to : (k : ℕ) → IsIn k (keys_of leaves) → IsIn k (keys_in 0 boxes) = λ k i.
     let t = has_key k leaves i in
@@ -209,11 +209,11 @@ each_from : (P : Leaf → Type 0) (leaves : List Leaf) → ((leaf : Leaf) → Is
 each_from P [] f = tt
 each_from P (leaf ∷ leaves) f = (f leaf (inl refl), each_from P leaves (λ x i. f x (inr i)))
 
-loose_within : (reaches : Box2 → Bool) (hit : ℕ → Option ℕ) (k : ℕ) (p : Place) (o : Option Box2) → ((outer inner : Box2) → Contains outer inner → reaches outer ≡ false → reaches inner ≡ false) → IsStanding k (Some p) o → ((b : Box2) → o ≡ Some b → reaches b ≡ false → hit k ≡ None) → reaches p.bounds ≡ false → hit k ≡ None
+loose_within : (reaches : Box2 → Bool) (hit : ℕ → Option ℕ) (k : ℕ) (p : KeyEntry) (o : Option Box2) → ((outer inner : Box2) → Contains outer inner → reaches outer ≡ false → reaches inner ≡ false) → IsStanding k (Some p) o → ((b : Box2) → o ≡ Some b → reaches b ≡ false → hit k ≡ None) → reaches p.bounds ≡ false → hit k ≡ None
 loose_within reaches hit k p None law s f e = absurd s
 loose_within reaches hit k p (Some b) law s f e = f b refl (law p.bounds b s.inside e)
 
-pub leaves_within : (reaches : Box2 → Bool) (hit : ℕ → Option ℕ) (leaves : List Leaf) (places : List (Option Place)) (boxes : List (Option Box2)) → ((outer inner : Box2) → Contains outer inner → reaches outer ≡ false → reaches inner ≡ false) → IsIndex leaves places boxes → AreHitsWithin reaches hit boxes → Each (IsHitWithin reaches hit) leaves
+pub leaves_within : (reaches : Box2 → Bool) (hit : ℕ → Option ℕ) (leaves : List Leaf) (places : List (Option KeyEntry)) (boxes : List (Option Box2)) → ((outer inner : Box2) → Contains outer inner → reaches outer ≡ false → reaches inner ≡ false) → IsIndex leaves places boxes → AreHitsWithin reaches hit boxes → Each (IsHitWithin reaches hit) leaves
 leaves_within reaches hit leaves places boxes law h within =
     each_from (IsHitWithin reaches hit) leaves (λ leaf i.
     let s : IsStanding leaf.key (place_at places leaf.key) (box_at boxes leaf.key) = standing_here leaf.key places boxes h.standing in

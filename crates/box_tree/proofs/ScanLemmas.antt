@@ -6,7 +6,7 @@ use Rattle.box_tree_base.specs.Queries.{keys_over}
 use Rattle.box_tree.specs.Tables.{loose_keys, place_at, place_of, leaf_of, IsKept}
 use Rattle.fixed_geom.specs.declared.boxes.Box2.{Box2}
 use Rattle.box_tree_base.specs.declared.leaves.Leaf.{Leaf}
-use Rattle.box_tree.specs.declared.places.Place.{Place}
+use Rattle.box_tree.specs.declared.key_entries.KeyEntry.{KeyEntry}
 use Rattle.box_tree_base.proofs.ListLemmas.{each_map}
 use Rattle.box_tree.proofs.RisingLemmas.{IsRising, same_rising}
 
@@ -45,26 +45,26 @@ over_in b e (x ∷ leaves) h o =
     ]
 
 -- a place with this key, counted from n, whose box overlaps
-pub record IsPlaced (b : Box2) (n k : ℕ) (places : List (Option Place)) : Type 0 where
+pub record IsPlaced (b : Box2) (n k : ℕ) (places : List (Option KeyEntry)) : Type 0 where
   pub at : ℕ
-  pub place : Place
+  pub place : KeyEntry
   pub is : place_at places at ≡ Some place
   pub key : k ≡ n + at
   pub over : overlaps place.bounds b ≡ true
 
-placed_later : (b : Box2) (n k : ℕ) (o : Option Place) (places : List (Option Place)) → IsPlaced b (suc n) k places → IsPlaced b n k (o ∷ places)
+placed_later : (b : Box2) (n k : ℕ) (o : Option KeyEntry) (places : List (Option KeyEntry)) → IsPlaced b (suc n) k places → IsPlaced b n k (o ∷ places)
 placed_later b n k o places f = let e : k ≡ suc n + f.at = f.key in record { at = suc f.at; place = f.place; is = f.is; key = omega arith; over = f.over }
 
-placed_step : (b : Box2) (n k : ℕ) (p : Place) (places : List (Option Place)) (t : Bool) → overlaps p.bounds b ≡ t → (IsIn k (loose_keys b (suc n) places) → IsPlaced b (suc n) k places) → IsIn k (cond t (n ∷ loose_keys b (suc n) places) (loose_keys b (suc n) places)) → IsPlaced b n k (Some p ∷ places)
+placed_step : (b : Box2) (n k : ℕ) (p : KeyEntry) (places : List (Option KeyEntry)) (t : Bool) → overlaps p.bounds b ≡ t → (IsIn k (loose_keys b (suc n) places) → IsPlaced b (suc n) k places) → IsIn k (cond t (n ∷ loose_keys b (suc n) places) (loose_keys b (suc n) places)) → IsPlaced b n k (Some p ∷ places)
 placed_step b n k p places true q f h = elim h [ inl e ↦ record { at = 0; place = p; is = refl; key = omega arith; over = q } | inr r ↦ placed_later b n k (Some p) places (f r) ]
 placed_step b n k p places false q f h = placed_later b n k (Some p) places (f h)
 
-pub placed_in : (b : Box2) (n k : ℕ) (places : List (Option Place)) → IsIn k (loose_keys b n places) → IsPlaced b n k places
+pub placed_in : (b : Box2) (n k : ℕ) (places : List (Option KeyEntry)) → IsIn k (loose_keys b n places) → IsPlaced b n k places
 placed_in b n k [] h = absurd h
 placed_in b n k (None ∷ places) h = placed_later b n k None places (placed_in b (suc n) k places h)
 placed_in b n k (Some p ∷ places) h = placed_step b n k p places (overlaps p.bounds b) refl (placed_in b (suc n) k places) h
 
-pub loose_in : (b : Box2) (n k : ℕ) (p : Place) (places : List (Option Place)) → place_at places k ≡ Some p → overlaps p.bounds b ≡ true → IsIn (n + k) (loose_keys b n places)
+pub loose_in : (b : Box2) (n k : ℕ) (p : KeyEntry) (places : List (Option KeyEntry)) → place_at places k ≡ Some p → overlaps p.bounds b ≡ true → IsIn (n + k) (loose_keys b n places)
 loose_in b n k p [] h o = cc
 loose_in b n zero p (None ∷ places) h o = cc
 loose_in b n zero p (Some q ∷ places) h o =
@@ -80,7 +80,7 @@ above_step : (n : ℕ) (t : Bool) (us : List ℕ) → Each (λ y. suc n ≤ y) u
 above_step n true us a = (omega arith, each_map (λ y. suc n ≤ y) (λ y. n ≤ y) (λ y h. omega arith) us a)
 above_step n false us a = each_map (λ y. suc n ≤ y) (λ y. n ≤ y) (λ y h. omega arith) us a
 
-above : (b : Box2) (n : ℕ) (places : List (Option Place)) → Each (λ y. n ≤ y) (loose_keys b n places)
+above : (b : Box2) (n : ℕ) (places : List (Option KeyEntry)) → Each (λ y. n ≤ y) (loose_keys b n places)
 above b n [] = tt
 above b n (None ∷ places) = each_map (λ y. suc n ≤ y) (λ y. n ≤ y) (λ y h. omega arith) (loose_keys b (suc n) places) (above b (suc n) places)
 above b n (Some p ∷ places) = above_step n (overlaps p.bounds b) (loose_keys b (suc n) places) (above b (suc n) places)
@@ -89,13 +89,13 @@ rising_step : (n : ℕ) (t : Bool) (us : List ℕ) → Each (λ y. suc n ≤ y) 
 rising_step n true us a r = (each_map (λ y. suc n ≤ y) (λ y. n < y) (λ y h. omega arith) us a, r)
 rising_step n false us a r = r
 
-pub loose_rising : (b : Box2) (n : ℕ) (places : List (Option Place)) → IsRising (loose_keys b n places)
+pub loose_rising : (b : Box2) (n : ℕ) (places : List (Option KeyEntry)) → IsRising (loose_keys b n places)
 loose_rising b n [] = tt
 loose_rising b n (None ∷ places) = loose_rising b (suc n) places
 loose_rising b n (Some p ∷ places) = rising_step n (overlaps p.bounds b) (loose_keys b (suc n) places) (above b (suc n) places) (loose_rising b (suc n) places)
 
 -- a rising list of the keys found is the list of loose keys
-pub found_is_loose : (b : Box2) (leaves : List Leaf) (places : List (Option Place)) (zs : List ℕ) → IsKept leaves places → IsRising zs → ((k : ℕ) → IsIn k zs → IsIn k (keys_over b leaves)) → ((k : ℕ) → IsIn k (keys_over b leaves) → IsIn k zs) → zs ≡ loose_keys b 0 places
+pub found_is_loose : (b : Box2) (leaves : List Leaf) (places : List (Option KeyEntry)) (zs : List ℕ) → IsKept leaves places → IsRising zs → ((k : ℕ) → IsIn k zs → IsIn k (keys_over b leaves)) → ((k : ℕ) → IsIn k (keys_over b leaves) → IsIn k zs) → zs ≡ loose_keys b 0 places
 found_is_loose b leaves places zs kept r f g =
     let u : (k : ℕ) → IsIn k zs → IsIn k (loose_keys b 0 places) = λ k i.
     let d = found_in b k leaves (f k i) in

@@ -12,7 +12,7 @@ use Rattle.box_tree_base.specs.Queries.{keys_over}
 use Rattle.box_tree.specs.Tables.{loose_keys, keys_of, IsKept}
 use Rattle.fixed_geom.specs.declared.boxes.Box2.{Box2}
 use Rattle.box_tree_base.specs.declared.leaves.Leaf.{Leaf}
-use Rattle.box_tree.specs.declared.places.Place.{Place}
+use Rattle.box_tree.specs.declared.key_entries.KeyEntry.{KeyEntry}
 use Rattle.std.specs.Prelude.{Option}
 use Rattle.box_tree.proofs.RisingLemmas.{IsRising}
 use Rattle.box_tree.proofs.ScanLemmas.{found_is_loose}
@@ -66,7 +66,7 @@ flipped : (x y : ℕ) (b : Bool) → eqb x y ≡ b → b ≡ eqb y x
 flipped x y true e = sym (eq-eqb y x (sym (eqb-true x y e)))
 flipped x y false e = let q : x ≢ y = eqb-false x y e in sym (ne_eqb y x (omega arith))
 
-pub sorted_is_loose : (b : Box2) (leaves : List Leaf) (places : List (Option Place)) (zs : List ℕ) → IsKept leaves places → IsPermutation (keys_over b leaves) zs → IsSorted nat_cmp zs → zs ≡ loose_keys b 0 places
+pub sorted_is_loose : (b : Box2) (leaves : List Leaf) (places : List (Option KeyEntry)) (zs : List ℕ) → IsKept leaves places → IsPermutation (keys_over b leaves) zs → IsSorted nat_cmp zs → zs ≡ loose_keys b 0 places
 sorted_is_loose b leaves places zs kept p s =
     found_is_loose b leaves places zs kept
     (rising_from zs (IsNonDecreasingBy-from_sort (λ x. x) zs s) (IsDistinct-IsPermutation eqb (λ x y. flipped x y (eqb x y) refl) (keys_over b leaves) zs p (distinct_over b leaves kept.distinct)))

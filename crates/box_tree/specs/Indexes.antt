@@ -5,35 +5,35 @@ use Rattle.fixed_geom.specs.declared.boxes.Box2.{Box2}
 use Rattle.box_tree_base.specs.Roots.{leaves_of}
 use Rattle.box_tree_base.specs.declared.leaves.Leaf.{Leaf}
 use Rattle.box_tree.specs.Tables.{IsKept}
-use Rattle.box_tree.specs.declared.places.TheConstants.{MAX_KEYS}
-use Rattle.box_tree.specs.declared.places.Place.{Place}
+use Rattle.box_tree.specs.declared.key_entries.TheConstants.{MAX_KEYS}
+use Rattle.box_tree.specs.declared.key_entries.KeyEntry.{KeyEntry}
 use Rattle.box_tree.specs.declared.boxes.BoxTree.TheInside.{Inside}
 
 -- the place's box is round the key's own, and its rank ends in the key
-pub record IsPlaceOf (key : ℕ) (place : Place) (bounds : Box2) : Type 0 where
+pub record IsPlaceOf (key : ℕ) (place : KeyEntry) (bounds : Box2) : Type 0 where
   pub inside : Contains place.bounds bounds
   pub rank : place.rank % MAX_KEYS ≡ key
 
-abbrev pub IsStanding : ℕ → Option Place → Option Box2 → Type 0
+abbrev pub IsStanding : ℕ → Option KeyEntry → Option Box2 → Type 0
 IsStanding key None None = Unit {0}
 IsStanding key None (Some bounds) = ⊥
 IsStanding key (Some place) None = ⊥
 IsStanding key (Some place) (Some bounds) = IsPlaceOf key place bounds
 
 -- each key from this one on has a place just where it has a box
-abbrev pub AreStanding : ℕ → List (Option Place) → List (Option Box2) → Type 0
+abbrev pub AreStanding : ℕ → List (Option KeyEntry) → List (Option Box2) → Type 0
 AreStanding key [] [] = Unit {0}
 AreStanding key [] (b ∷ boxes) = ⊥
 AreStanding key (o ∷ places) [] = ⊥
 AreStanding key (o ∷ places) (b ∷ boxes) = IsStanding key o b × AreStanding (suc key) places boxes
 
 -- how many keys have a place
-abbrev pub filled : List (Option Place) → ℕ
+abbrev pub filled : List (Option KeyEntry) → ℕ
 filled [] = 0
 filled (None ∷ places) = filled places
 filled (Some place ∷ places) = suc (filled places)
 
-pub record IsIndex (leaves : List Leaf) (places : List (Option Place)) (boxes : List (Option Box2)) : Type 0 where
+pub record IsIndex (leaves : List Leaf) (places : List (Option KeyEntry)) (boxes : List (Option Box2)) : Type 0 where
   pub kept : IsKept leaves places
   pub standing : AreStanding 0 places boxes
   pub count : length leaves ≡ filled places

@@ -6,7 +6,7 @@ ghost use Rattle.box_tree_base.specs.Depths.{least_leaves};
 ghost use Rattle.box_tree.specs.BoxLists.{box_at, boxed, keys_over, first_hit, AreHitsWithin};
 
 use crate::index;
-use crate::places::{MAX_KEYS, Place};
+use crate::key_entries::{KeyEntry, MAX_KEYS};
 use crate::rays::RayAmongBoxes;
 use box_tree_base::{Hit, Ray, Tree, roots};
 use fixed_geom::{Box2, Refusal};
@@ -19,7 +19,7 @@ pub struct BoxTree {
     // The tree: a list of at most one.
     root: Vec<Tree>,
     // Where each key stands in the tree, with a loose box round its own.
-    places: Vec<Option<Place>>,
+    places: Vec<Option<KeyEntry>>,
     boxes: Vec<Option<Box2>>,
 }
 

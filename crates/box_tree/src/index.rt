@@ -6,14 +6,14 @@ ghost use Rattle.box_tree.specs.Tables.{place_at};
 ghost use Rattle.box_tree.specs.BoxLists.{box_at, is_over, keys_over};
 ghost use Rattle.box_tree.specs.Indexes.{IsIndex};
 
-use crate::places::{Place, place_after, place_for};
+use crate::key_entries::{KeyEntry, key_entry_after, key_entry_for};
 use crate::table;
 use box_tree_base::Tree;
 use fixed_geom::{Box2, contains, overlaps};
 use std::alloc::{AllocError, Global};
 
 /// The place of a key, where it has one.
-pub(crate) fn place_in(places: &[Option<Place>], key: u32) -> Option<Place>
+pub(crate) fn place_in(places: &[Option<KeyEntry>], key: u32) -> Option<KeyEntry>
     requires { key < length places.now }
     ensures { result ≡ place_at places.now key }
 {
@@ -41,7 +41,7 @@ fn is_over(boxes: &[Option<Box2>], key: u32, wanted: &Box2) -> bool
 }
 
 /// One key more, for which there is room, with no place.
-pub(crate) fn push_none(places: &mut Vec<Option<Place>>)
+pub(crate) fn push_none(places: &mut Vec<Option<KeyEntry>>)
     requires { 1 ≤ vec_capacity places.old - vec_len places.old }
     ensures { places.new.items ≡ places.old.items ++ None ∷ [] }
 {
@@ -51,7 +51,7 @@ pub(crate) fn push_none(places: &mut Vec<Option<Place>>)
 /// Gives a key that has none a box.
 pub(crate) fn insert(
     root: &mut Vec<Tree>,
-    places: &mut Vec<Option<Place>>,
+    places: &mut Vec<Option<KeyEntry>>,
     boxes: &mut Vec<Option<Box2>>,
     key: u32,
     bounds: &Box2,
@@ -64,7 +64,7 @@ pub(crate) fn insert(
     ensures inserted { OnOk result (boxes.new.items ≡ slice_set boxes.old.items key (Some bounds.now)) }
     ensures refused { OnErr result (boxes.new.items ≡ boxes.old.items) }
 {
-    let place = place_for(key, bounds);
+    let place = key_entry_for(key, bounds);
     table::insert(root, places, key, &place, alloc)?;
     boxes[key as usize] = Some(*bounds);
     Ok(())
@@ -73,10 +73,10 @@ pub(crate) fn insert(
 /// Takes the box of a key that stands at this place.
 pub(crate) fn remove(
     root: &mut Vec<Tree>,
-    places: &mut Vec<Option<Place>>,
+    places: &mut Vec<Option<KeyEntry>>,
     boxes: &mut Vec<Option<Box2>>,
     key: u32,
-    place: &Place,
+    place: &KeyEntry,
 )
     requires index { IsIndex (leaves_of root.old.items) places.old.items boxes.old.items }
     requires room { key < length boxes.old.items }
@@ -91,10 +91,10 @@ pub(crate) fn remove(
 // Moves a key that stands at this place to where its box is now.
 fn moved(
     root: &mut Vec<Tree>,
-    places: &mut Vec<Option<Place>>,
+    places: &mut Vec<Option<KeyEntry>>,
     boxes: &mut Vec<Option<Box2>>,
     key: u32,
-    old: &Place,
+    old: &KeyEntry,
     bounds: &Box2,
 )
     requires index { IsIndex (leaves_of root.old.items) places.old.items boxes.old.items }
@@ -103,7 +103,7 @@ fn moved(
     ensures index { IsIndex (leaves_of root.new.items) places.new.items boxes.new.items }
     ensures moved { boxes.new.items ≡ slice_set boxes.old.items key (Some bounds.now) }
 {
-    let place = place_after(key, old, bounds);
+    let place = key_entry_after(key, old, bounds);
     table::replace(root, places, key, old, &place);
     boxes[key as usize] = Some(*bounds);
 }
@@ -111,10 +111,10 @@ fn moved(
 /// Gives a key that stands at this place another box. The tree stays as it is where the loose box holds the new one.
 pub(crate) fn replace(
     root: &mut Vec<Tree>,
-    places: &mut Vec<Option<Place>>,
+    places: &mut Vec<Option<KeyEntry>>,
     boxes: &mut Vec<Option<Box2>>,
     key: u32,
-    place: &Place,
+    place: &KeyEntry,
     bounds: &Box2,
 )
     requires index { IsIndex (leaves_of root.old.items) places.old.items boxes.old.items }
@@ -133,7 +133,7 @@ pub(crate) fn replace(
 /// The keys whose boxes overlap the wanted one, ascending.
 pub(crate) fn overlapping(
     root: &[Tree],
-    places: &[Option<Place>],
+    places: &[Option<KeyEntry>],
     boxes: &[Option<Box2>],
     wanted: &Box2,
     alloc: Global,

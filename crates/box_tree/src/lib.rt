@@ -15,10 +15,10 @@
 
 mod boxes;
 mod index;
-mod places;
+mod key_entries;
 mod rays;
 mod table;
 
 pub use box_tree_base::{Hit, Ray};
 pub use boxes::BoxTree;
-pub use places::{MAX_KEYS, limits_in_digits};
+pub use key_entries::{MAX_KEYS, limits_in_digits};

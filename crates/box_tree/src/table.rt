@@ -7,13 +7,13 @@ ghost use Rattle.box_tree_base.specs.Roots.{leaves_of, IsMoved};
 ghost use Rattle.box_tree_base.specs.declared.leaves.Leaf.{Leaf as AnyLeaf};
 ghost use Rattle.box_tree.specs.Tables.{IsKept, loose_keys, place_at, place_of, leaf_of};
 
-use crate::places::Place;
+use crate::key_entries::KeyEntry;
 use box_tree_base::{Leaf, Tree, roots};
 use fixed_geom::Box2;
 use std::alloc::{AllocError, Global};
 
 /// The leaf of a key at a place.
-pub(crate) fn leaf_at(key: u32, place: &Place) -> Leaf
+pub(crate) fn leaf_at(key: u32, place: &KeyEntry) -> Leaf
     ensures { result ≡ leaf_of key place.now }
 {
     Leaf {
@@ -26,9 +26,9 @@ pub(crate) fn leaf_at(key: u32, place: &Place) -> Leaf
 /// Puts a key's leaf into the tree and its place into the table, or changes nothing.
 pub(crate) fn insert(
     root: &mut Vec<Tree>,
-    places: &mut Vec<Option<Place>>,
+    places: &mut Vec<Option<KeyEntry>>,
     key: u32,
-    place: &Place,
+    place: &KeyEntry,
     alloc: Global,
 ) -> Result<(), AllocError>
     requires kept { IsKept (leaves_of root.old.items) places.old.items }
@@ -48,7 +48,12 @@ pub(crate) fn insert(
 }
 
 /// Takes a key's leaf out of the tree and its place out of the table.
-pub(crate) fn remove(root: &mut Vec<Tree>, places: &mut Vec<Option<Place>>, key: u32, place: &Place)
+pub(crate) fn remove(
+    root: &mut Vec<Tree>,
+    places: &mut Vec<Option<KeyEntry>>,
+    key: u32,
+    place: &KeyEntry,
+)
     requires kept { IsKept (leaves_of root.old.items) places.old.items }
     requires there { IsIn (leaf_of key place.now) (leaves_of root.old.items) }
     requires few { length (leaves_of root.old.items) < 2 ^ 32 }
@@ -64,10 +69,10 @@ pub(crate) fn remove(root: &mut Vec<Tree>, places: &mut Vec<Option<Place>>, key:
 /// Gives a key another place, in the boxes of the old one.
 pub(crate) fn replace(
     root: &mut Vec<Tree>,
-    places: &mut Vec<Option<Place>>,
+    places: &mut Vec<Option<KeyEntry>>,
     key: u32,
-    old: &Place,
-    new: &Place,
+    old: &KeyEntry,
+    new: &KeyEntry,
 )
     requires kept { IsKept (leaves_of root.old.items) places.old.items }
     requires there { IsIn (leaf_of key old.now) (leaves_of root.old.items) }
@@ -85,7 +90,7 @@ pub(crate) fn replace(
 /// The keys whose loose boxes overlap the wanted one, ascending.
 pub(crate) fn overlapping(
     root: &[Tree],
-    places: &[Option<Place>],
+    places: &[Option<KeyEntry>],
     wanted: &Box2,
     alloc: Global,
 ) -> Result<Vec<u32>, AllocError>

@@ -56,5 +56,5 @@ pub record IsTree (n : Node) : Type 0 where
   pub below : (outline n).height < length (outline n).leaves
 
 -- the height h that a fork of these heights settles to
-abbrev pub IsSettled : ℕ → ℕ → ℕ → Type 0
-IsSettled l r h = (max l r ≤ h) × (h ≤ max l r + 1) × (DifferByAtMost 1 l r → h ≡ max l r + 1)
+abbrev pub IsForkHeight : ℕ → ℕ → ℕ → Type 0
+IsForkHeight l r h = (max l r ≤ h) × (h ≤ max l r + 1) × (DifferByAtMost 1 l r → h ≡ max l r + 1)

@@ -2,7 +2,7 @@
 
 ghost use Rattle.std.specs.Prelude.{◌≡◌, ◌≢◌, ◌+◌, ◌^◌, ◌<◌, ◌≤◌, max, ◌++◌, ◌∷◌, [], length};
 ghost use Rattle.box_tree_base.specs.Lists.{Each, IsAdded};
-ghost use Rattle.box_tree_base.specs.Trees.{outline, IsTree, IsBelow, IsFrom, DifferByAtMost, IsSettled};
+ghost use Rattle.box_tree_base.specs.Trees.{outline, IsTree, IsBelow, IsFrom, DifferByAtMost, IsForkHeight};
 
 use crate::leaves::Leaf;
 use crate::tree::{Node, Stem, Tree, taken};
@@ -53,20 +53,20 @@ pub(crate) fn balanced(left: Box<Tree>, split: u64, right: Box<Tree>) -> Node
     requires few { length (left.value.leaves ++ right.value.leaves) < 2 ^ 32 }
     ensures tree { IsTree result }
     ensures leaves { (outline result).leaves ≡ left.value.leaves ++ right.value.leaves }
-    ensures height { IsSettled left.value.height right.value.height (outline result).height }
+    ensures height { IsForkHeight left.value.height right.value.height (outline result).height }
 {
     let (high, low) = (left.height(), right.height());
     if high > low + 1 {
-        turned_right(left, split, right)
+        rotated_right(left, split, right)
     } else if low > high + 1 {
-        turned_left(left, split, right)
+        rotated_left(left, split, right)
     } else {
         fork(left, split, right)
     }
 }
 
 // The left tree is two higher: its inner side goes over to the right, or is parted between both.
-fn turned_right(mut left: Box<Tree>, split: u64, right: Box<Tree>) -> Node
+fn rotated_right(mut left: Box<Tree>, split: u64, right: Box<Tree>) -> Node
     requires below { Each (IsBelow split) left.value.leaves }
     requires from { Each (IsFrom split) right.value.leaves }
     requires two_higher { left.value.height ≡ right.value.height + 2 }
@@ -92,7 +92,7 @@ fn turned_right(mut left: Box<Tree>, split: u64, right: Box<Tree>) -> Node
 }
 
 // The right tree is two higher: its inner side goes over to the left, or is parted between both.
-fn turned_left(left: Box<Tree>, split: u64, mut right: Box<Tree>) -> Node
+fn rotated_left(left: Box<Tree>, split: u64, mut right: Box<Tree>) -> Node
     requires below { Each (IsBelow split) left.value.leaves }
     requires from { Each (IsFrom split) right.value.leaves }
     requires two_higher { right.value.height ≡ left.value.height + 2 }

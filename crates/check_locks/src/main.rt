@@ -21,7 +21,7 @@ mod work;
 mod worker;
 
 use checks::check;
-use refused::{Call, tell_trial};
+use refused::{Call, word_of_trial};
 use std::alloc::Global;
 use std::process::ExitCode;
 use std::rt::Env;
@@ -66,7 +66,7 @@ fn do_try<R: Print + Threads + Wait + Clock + Sync>(
 ) -> Result<(), Stop> {
     match Call::of_word(call) {
         Some(call) => {
-            println!(rt; "{}", tell_trial(rt, alloc, text, call))?;
+            println!(rt; "{}", word_of_trial(rt, alloc, text, call))?;
             Ok(())
         }
         None => print_unknown(rt),

@@ -369,7 +369,7 @@ fn set_up<R: Threads + Wait + Clock + Sync>(
 
 /// Makes a call in the shared world of a text while memory may be refused to it. Tells `kept` where a refused call left everything as it was and then succeeded, `none` where it
 /// met no refusal, `outside` where something beside it met one, and else what differs.
-pub fn tell_trial<R: Threads + Wait + Clock + Sync>(
+pub fn word_of_trial<R: Threads + Wait + Clock + Sync>(
     rt: &R,
     alloc: Global,
     text: &str,

@@ -16,7 +16,7 @@ const STALE: Handle = Handle {
 };
 
 /// Pushes a body, and tells the answer.
-fn tell_push<T: Drop, S: Shared<T>, R: Wait>(
+fn write_push<T: Drop, S: Shared<T>, R: Wait>(
     rt: &R,
     told: &mut String,
     shared: &S,
@@ -29,7 +29,7 @@ fn tell_push<T: Drop, S: Shared<T>, R: Wait>(
     Ok(())
 }
 
-fn tell_frame<T: Drop, S: Shared<T>, R: Wait>(
+fn write_frame<T: Drop, S: Shared<T>, R: Wait>(
     rt: &R,
     told: &mut String,
     shared: &S,
@@ -41,7 +41,7 @@ fn tell_frame<T: Drop, S: Shared<T>, R: Wait>(
     Ok(())
 }
 
-fn tell_events<T: Drop, S: Shared<T>, R: Wait>(
+fn write_events<T: Drop, S: Shared<T>, R: Wait>(
     rt: &R,
     told: &mut String,
     shared: &S,
@@ -54,7 +54,7 @@ fn tell_events<T: Drop, S: Shared<T>, R: Wait>(
 }
 
 /// The first seat pushes three times, the journal is settled, the second seat pushes twice, the first is refused, and both look.
-fn tell_turns<T: Drop, S: Shared<T>, R: Wait>(
+fn write_turns<T: Drop, S: Shared<T>, R: Wait>(
     rt: &R,
     told: &mut String,
     shared: &S,
@@ -62,16 +62,16 @@ fn tell_turns<T: Drop, S: Shared<T>, R: Wait>(
     second: &mut T,
 ) -> Result<(), Refusal> {
     for _ in 0..3 {
-        tell_push(rt, told, shared, first, FIRST, Vec2 { x: 1, y: 0 })?;
+        write_push(rt, told, shared, first, FIRST, Vec2 { x: 1, y: 0 })?;
     }
     let settled = shared.settle(rt);
     writeln!(told, "settled: {settled:?}")?;
     for _ in 0..2 {
-        tell_push(rt, told, shared, second, FIRST, Vec2 { x: 0, y: 2 })?;
+        write_push(rt, told, shared, second, FIRST, Vec2 { x: 0, y: 2 })?;
     }
-    tell_push(rt, told, shared, first, STALE, Vec2 { x: 1, y: 0 })?;
-    tell_frame(rt, told, shared, first)?;
-    tell_events(rt, told, shared, second)
+    write_push(rt, told, shared, first, STALE, Vec2 { x: 1, y: 0 })?;
+    write_frame(rt, told, shared, first)?;
+    write_events(rt, told, shared, second)
 }
 
 /// Closes the world without its second seat, which is refused, and then with both.
@@ -107,7 +107,7 @@ pub fn take_turns<T: Drop, S: Shared<T>, R: Wait>(
         return Err(Refusal::WrongSeats);
     };
     match seats.first_mut() {
-        Some(first) => tell_turns(rt, &mut told, &shared, first, &mut second)?,
+        Some(first) => write_turns(rt, &mut told, &shared, first, &mut second)?,
         None => return Err(Refusal::WrongSeats),
     }
     let mut left = close_late(shared, seats, second, &mut told)?;

@@ -108,7 +108,7 @@ where
 }
 
 /// Tells each reader of what was published.
-fn tell_all<S, T, K: Told, P: Shows<S, T, K>, R: Wait>(
+fn send_to_all<S, T, K: Told, P: Shows<S, T, K>, R: Wait>(
     rt: &R,
     publisher: &P,
     boxes: &[Mutex<Letters<K>>],
@@ -137,7 +137,7 @@ fn publish_often<S: Shared<T>, T: Drop, K: Told, P: Shows<S, T, K>, R: Wait>(
     for _ in 0..FRAMES {
         push(rt, shared, seat)?;
         let _ = publisher.publish(rt, shared, seat)?;
-        tell_all(rt, publisher, boxes)?;
+        send_to_all(rt, publisher, boxes)?;
     }
     Ok(())
 }

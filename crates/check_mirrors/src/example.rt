@@ -33,20 +33,20 @@ fn push_twice<T: Drop, S: Shared<T>, R: Wait>(
     push(rt, shared, seat)
 }
 
-fn tell_published<R: Print>(rt: &R, answer: Result<u64, Refusal>) -> Result<(), Stop> {
+fn print_published<R: Print>(rt: &R, answer: Result<u64, Refusal>) -> Result<(), Stop> {
     println!(rt; "published: {answer:?}")?;
     Ok(())
 }
 
 /// What a reader shows of the circle, and the ledger's total.
-fn tell_reader<K, D: Reads<K>, R: Print>(rt: &R, name: &str, reader: &mut D) -> Result<(), Stop> {
+fn print_reader<K, D: Reads<K>, R: Print>(rt: &R, name: &str, reader: &mut D) -> Result<(), Stop> {
     let (pose, total) = (reader.pose(FIRST), reader.total());
     println!(rt; "{name}: {pose:?}, {total:?}")?;
     Ok(())
 }
 
 /// What lies where the circle came to, and what a ray from below hits.
-fn tell_shapes<K, D: Reads<K>, R: Print>(
+fn print_shapes<K, D: Reads<K>, R: Print>(
     rt: &R,
     alloc: Global,
     reader: &mut D,
@@ -69,14 +69,14 @@ fn look_often<K, D: Reads<K>>(reader: &mut D) {
 }
 
 /// The reader learns a copy of the other's mark.
-fn tell_on<K: Told, D: Reads<K>>(from: &D, to: &mut D) -> Result<(), Refusal> {
+fn pass_on<K: Told, D: Reads<K>>(from: &D, to: &mut D) -> Result<(), Refusal> {
     let mark = from.seen()?;
     to.learn(mark.copied()?);
     Ok(())
 }
 
 /// Which marks the longer of two covers, and whether the shorter one covers it.
-fn tell_covered<K: Told, R: Print>(rt: &R, short: &K, long: &K) -> Result<(), Stop> {
+fn print_covered<K: Told, R: Print>(rt: &R, short: &K, long: &K) -> Result<(), Stop> {
     let copy = long.copied()?;
     let (itself, before, after) = (long.covers(&copy), long.covers(short), short.covers(long));
     println!(rt; "covers its copy: {itself}, the mark before: {before}, the mark after: {after}")?;
@@ -95,10 +95,10 @@ pub fn publish_first<
     push_twice(rt, shared, seat)?;
     shared.call(rt, seat, Command::Step(1))?;
     let before = publisher.seen()?;
-    tell_published(rt, publisher.publish(rt, shared, seat))?;
-    tell_covered(rt, &before, &publisher.seen()?)?;
+    print_published(rt, publisher.publish(rt, shared, seat))?;
+    print_covered(rt, &before, &publisher.seen()?)?;
     told.learn(publisher.seen()?);
-    tell_reader(rt, "told", told)
+    print_reader(rt, "told", told)
 }
 
 /// A second world, which has fewer calls, isn't published.
@@ -111,8 +111,8 @@ pub fn publish_second<
     R: Print + Wait,
 >(rt: &R, shared: &S, seat: &mut T, publisher: &mut P, told: &mut D) -> Result<(), Stop> {
     push_twice(rt, shared, seat)?;
-    tell_published(rt, publisher.publish(rt, shared, seat))?;
-    tell_reader(rt, "told", told)
+    print_published(rt, publisher.publish(rt, shared, seat))?;
+    print_reader(rt, "told", told)
 }
 
 /// The other reader finds what was published by itself, and learns then what the first has seen.
@@ -123,8 +123,8 @@ pub fn read_on<K: Told, D: Reads<K>, R: Print>(
     untold: &mut D,
 ) -> Result<(), Stop> {
     look_often(untold);
-    tell_reader(rt, "untold", untold)?;
-    tell_shapes(rt, alloc, told)?;
-    tell_on(told, untold)?;
-    tell_reader(rt, "untold", untold)
+    print_reader(rt, "untold", untold)?;
+    print_shapes(rt, alloc, told)?;
+    pass_on(told, untold)?;
+    print_reader(rt, "untold", untold)
 }

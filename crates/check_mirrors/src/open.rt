@@ -135,7 +135,7 @@ fn boxes_for<K: Drop>(alloc: Global, readers: usize) -> Result<Vec<Mutex<Letters
 }
 
 /// What came of the readers on threads of their own.
-fn tell_crowd<K: Drop, R: Print>(rt: &R, boxes: Vec<Mutex<Letters<K>>>) -> Result<(), Stop> {
+fn print_crowd<K: Drop, R: Print>(rt: &R, boxes: Vec<Mutex<Letters<K>>>) -> Result<(), Stop> {
     for letters in boxes {
         let letters = letters.into_inner();
         let (learnt, went_back) = (letters.learnt, letters.went_back);
@@ -158,7 +158,7 @@ where
 {
     let boxes = boxes_for(alloc, readers.len())?;
     race(rt, shared, seat, publisher, readers, boxes.as_slice())?;
-    tell_crowd(rt, boxes)
+    print_crowd(rt, boxes)
 }
 
 fn do_work<N: Opened, J: Mirrored + Send + Sync, R: Print + Threads + Wait + Clock + Sync>(

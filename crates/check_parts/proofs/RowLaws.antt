@@ -3,7 +3,7 @@ use Rattle.std.proofs.Common.{◌≡◌, ◌<◌, ℕ, zero, suc, List, [], ◌�
 use Rattle.std.specs.Prelude.{All}
 use Rattle.momenta.specs.declared.state.BodyState.{BodyState}
 use Rattle.colour_solver.specs.declared.constraint_row.ConstraintRow.{ConstraintRow}
-use Rattle.colour_solver.specs.ConstraintTurns.{constraint_slots}
+use Rattle.colour_solver.specs.ConstraintVisits.{constraint_slots}
 use Rattle.colour_solver.specs.Colour.{IsColour}
 
 alone : (states : List BodyState) (r : ConstraintRow) → IsColour constraint_slots states (r ∷ [])

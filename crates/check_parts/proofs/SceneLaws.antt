@@ -8,9 +8,9 @@ use Rattle.fixed_geom.specs.declared.boxes.Box2.{Box2}
 use Rattle.fixed_geom.specs.Boxes.{overlaps}
 use Rattle.contacts_base.specs.declared.near.Proxy.{Proxy}
 use Rattle.contacts_base.specs.declared.contact.ContactEntry.{ContactEntry}
-use Rattle.contacts_base.specs.Contacts.{AreContacts}
+use Rattle.contacts_base.specs.ContactLists.{AreContacts}
 use Rattle.contacts_base.specs.Keys.{id_number}
-use Rattle.contacts_base.specs.Near.{IsProxy, IsProxyList, number_of}
+use Rattle.contacts_base.specs.Proxies.{IsProxy, IsProxyList, number_of}
 use Rattle.contacts_base.specs.Surfaces.{IsSurface}
 use Rattle.contacts.specs.declared.forbidden.BodyPair.{BodyPair}
 use Rattle.contacts.specs.ByPairs.{contacts_between}

@@ -3,7 +3,7 @@ use Rattle.std.specs.Prelude.{ℕ, ◌<◌, List, All}
 use Rattle.std.specs.List.{Contains}
 use Rattle.contacts_base.specs.declared.near.Proxy.{Proxy}
 use Rattle.contacts_base.specs.declared.contact.ContactEntry.{ContactEntry}
-use Rattle.contacts_base.specs.Near.{IsProxyList}
+use Rattle.contacts_base.specs.Proxies.{IsProxyList}
 use Rattle.contacts.specs.Known.{IsPairKey}
 
 pub record Shown : Type 0 where

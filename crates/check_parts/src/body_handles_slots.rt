@@ -51,7 +51,7 @@ fn gives_a_freed_slot_out_at_its_next_generation(rt: HostRuntime) -> Result<(), 
     same(&rt, &give(&mut handles), &Ok(handle(1, 2)));
     same(&rt, &give(&mut handles), &Ok(handle(3, 1)));
     same(&rt, &handles.is_live(SECOND), &false);
-    same(&rt, &handles.places().len(), &4);
+    same(&rt, &handles.slot_entries().len(), &4);
     Ok(())
 }
 

@@ -1,6 +1,6 @@
 ghost use Rattle.std.specs.Prelude.{◌≡◌, ◌^◌, ◌≤◌, ◌≤ℤ◌, pos, unsigned_abs};
 ghost use Rattle.fixed_geom.specs.Vectors.{IsWithin};
-ghost use Rattle.momenta.specs.Impulses.{AreStates, IsState};
+ghost use Rattle.momenta.specs.ImpulseBounds.{AreStates, IsState};
 ghost use Rattle.colour_solver_base.specs.Rows.{IsPointRow, IsRow};
 
 use crate::assertions::{same, same_items};

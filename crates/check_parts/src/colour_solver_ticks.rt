@@ -2,11 +2,11 @@
 
 ghost use Rattle.std.specs.Prelude.{◌≡◌, ◌^◌, ◌≤◌, [], ◌∷◌, length, IfOk, true, false, pos, neg_ℤ, ◌≤ℤ◌, unsigned_abs};
 ghost use Rattle.fixed_geom.specs.Vectors.{IsWithin};
-ghost use Rattle.momenta.specs.Impulses.{IsState};
+ghost use Rattle.momenta.specs.ImpulseBounds.{IsState};
 ghost use Rattle.colour_solver_base.specs.Rows.{IsRow};
 ghost use Rattle.colour_solver.specs.States.{AreAllStates, HaveCourses, carried_of, is_carried, movers_of};
 ghost use Rattle.colour_solver.specs.ColourRows.{all_rows};
-ghost use Rattle.colour_solver.specs.ConstraintTurns.{AreRowsBelow, IsRowBelow};
+ghost use Rattle.colour_solver.specs.ConstraintVisits.{AreRowsBelow, IsRowBelow};
 ghost use Rattle.colour_solver.specs.declared.constraint_row.ConstraintRow.TheVariants.{Contact};
 ghost use Rattle.colour_solver.specs.Ticks.{start, ticks};
 

@@ -4,7 +4,7 @@ ghost use Rattle.std.specs.Prelude.{◌≡◌, ◌≤◌, IfOk, unsigned_abs};
 ghost use Rattle.fixed_geom.specs.declared.limits.TheConstants.{MAX_OFFSET as most_offset};
 ghost use Rattle.contacts_base.specs.Limits.{IsPackable};
 ghost use Rattle.contacts_base.specs.Surfaces.{IsSurface};
-ghost use Rattle.contacts_base.specs.Near.{IsProxy};
+ghost use Rattle.contacts_base.specs.Proxies.{IsProxy};
 
 use crate::assertions::{same, same_items};
 use crate::contacts_forbidden::NO_PAIR;
@@ -90,7 +90,7 @@ pub(crate) fn add(broad: &mut PairSweep, proxy: Proxy) -> Result<(), Refusal>
 }
 
 fn collide(alloc: Global, old: &Contacts, broad: &mut PairSweep) -> Result<Changes, Refusal> {
-    broad.update_contacts(alloc, &NO_PAIR, old.as_slice())
+    broad.update_contacts(Vec::new(alloc), &NO_PAIR, old.as_slice())
 }
 
 const FLOOR: Shape = Shape::Segment {

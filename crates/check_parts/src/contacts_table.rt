@@ -2,7 +2,7 @@
 
 ghost use Rattle.std.specs.Prelude.{◌≡◌, ◌<◌, All, IfOk, []};
 ghost use Rattle.contacts_base.specs.Keys.{id_number};
-ghost use Rattle.contacts_base.specs.Near.{IsProxyList};
+ghost use Rattle.contacts_base.specs.Proxies.{IsProxyList};
 ghost use Rattle.contacts.specs.Known.{found};
 ghost use Rattle.contacts.specs.Fates.{stirs_in};
 ghost use Rattle.check_parts.specs.Scenes.{ArePairs, IsListed};
@@ -37,7 +37,7 @@ impl Model for Scene {
 }
 
 /// The shape with this name, if it is there.
-fn shape_named(shapes: &[Proxy], id: ShapeId) -> Option<Proxy>
+fn shape_with_id(shapes: &[Proxy], id: ShapeId) -> Option<Proxy>
     ensures { result ≡ found shapes.now (id_number id) }
 {
     for place in 0..shapes.len() {
@@ -58,7 +58,7 @@ fn stirs_in(shape: Option<Proxy>) -> bool
     }
 }
 
-impl ShapesByName for Scene {
+impl ShapesById for Scene {
     ghost proxies = { λ s. s.shapes };
 
     ghost awake = { λ s. s.slots };
@@ -66,11 +66,11 @@ impl ShapesByName for Scene {
     ghost carried = { λ s. s.slots };
 
     fn shape(&self, id: ShapeId) -> Option<Proxy> {
-        shape_named(self.shapes.proxies(), id)
+        shape_with_id(self.shapes.proxies(), id)
     }
 
     fn stirs(&self, id: ShapeId) -> bool {
-        stirs_in(shape_named(self.shapes.proxies(), id))
+        stirs_in(shape_with_id(self.shapes.proxies(), id))
     }
 
     fn awake(&self) -> &[u32] {

@@ -22,25 +22,25 @@ use world_core_base::{BodyTable, JointTable};
 
 const NONE: Total = Total { x: 0, y: 0 };
 
-const PLACES: [Place; 2] = [
-    Place {
+const PLACES: [SlotEntry; 2] = [
+    SlotEntry {
         generation: 2,
         live: true,
     },
-    Place {
+    SlotEntry {
         generation: 5,
         live: false,
     },
 ];
 
 fn handles_of_places(alloc: Global) -> Result<Handles, Refusal> {
-    Handles::from_places(alloc, PLACES.as_slice())
+    Handles::from_slot_entries(alloc, PLACES.as_slice())
 }
 
 #[test]
 fn places_give_the_lowest_free_slot_out_first(rt: HostRuntime) -> Result<(), Fail> {
     let mut handles = handles_of_places(rt.alloc())?;
-    same_items(&rt, handles.places(), &PLACES);
+    same_items(&rt, handles.slot_entries(), &PLACES);
     let second = Handle {
         slot: 1,
         generation: 5,

@@ -2,7 +2,8 @@
 
 ghost use Rattle.std.specs.Prelude.{◌≡◌, ◌+◌, ℕ, IfOk, Some, None, true, replicate, [], ◌∷◌, ◌++◌};
 ghost use Rattle.graph_colours.specs.Movers.{shares};
-ghost use Rattle.graph_colours.specs.Colours.{ids_of, least_colour, with_placed, released, colour_of};
+ghost use Rattle.graph_colours.specs.Colours.{ids_of, least_colour, with_placed, released};
+ghost use Rattle.graph_colours.specs.FoundMembers.{colour_of};
 
 use crate::assertions::{same, same_items};
 use crate::constraint::{Joint, between};
@@ -127,7 +128,7 @@ fn a_static_floor_does_not_count(rt: HostRuntime) -> Result<(), Fail> {
 }
 
 // Constraint 5 alone, which acts on the mover in slot 0, is in colour 0.
-#[tactic(auto, unfolding(graph_colours::specs::Members::is_free, graph_colours::specs::Members::has_id, graph_colours::specs::Members::without_member, graph_colours::specs::Colours::least_colour, graph_colours::specs::Colours::with_placed, graph_colours::specs::Colours::released, graph_colours::specs::Colours::colour_of,))]
+#[tactic(auto, unfolding(graph_colours::specs::Members::is_free, graph_colours::specs::FoundMembers::has_id, graph_colours::specs::Members::without_member, graph_colours::specs::Colours::least_colour, graph_colours::specs::Colours::with_placed, graph_colours::specs::Colours::released, graph_colours::specs::FoundMembers::colour_of,))]
 fn definitions_compute()
     ensures second_of_one { shares (record { first = 7; second = Some 2 }) (record { first = 2; second = None }) ≡ true }
     ensures taken { least_colour {C = ℕ} ((record { id = 5; movers = record { first = 0; second = None } } ∷ []) ∷ replicate COLOURS []) (record { first = 3; second = Some 0 }) ≡ 1 }

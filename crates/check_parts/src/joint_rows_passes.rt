@@ -3,7 +3,7 @@
 ghost use Rattle.std.specs.Prelude.{◌≡◌, ◌^◌, ◌≤◌, ◌⊎◌, ◌≤ℤ◌, true, pos, unsigned_abs};
 ghost use Rattle.fixed_geom.specs.Facings.{IsFacing};
 ghost use Rattle.fixed_geom.specs.Vectors.{IsWithin};
-ghost use Rattle.momenta.specs.Impulses.{AreStates, IsState};
+ghost use Rattle.momenta.specs.ImpulseBounds.{AreStates, IsState};
 ghost use Rattle.joint_rows.specs.Joints.{IsJoint};
 ghost use Rattle.joint_rows.specs.Rows.{IsJointRow};
 

@@ -1,6 +1,6 @@
 ghost use Rattle.std.specs.Prelude.{◌≡◌, ◌^◌, ◌≤◌, ◌≤ℤ◌, pos, true, unsigned_abs};
 ghost use Rattle.fixed_geom.specs.Vectors.{IsWithin};
-ghost use Rattle.momenta.specs.Impulses.{AreStates, IsLine, IsState};
+ghost use Rattle.momenta.specs.ImpulseBounds.{AreStates, IsLine, IsState};
 ghost use Rattle.momenta.specs.Motions.{IsMass, IsMotion};
 
 use crate::assertions::{same, same_items};

@@ -5,7 +5,7 @@ ghost use Rattle.fixed_geom.specs.Facings.{IsFacing};
 ghost use Rattle.fixed_geom.specs.Vectors.{IsWithin};
 ghost use Rattle.shapes.specs.Shapes.{IsShape};
 ghost use Rattle.shapes.specs.Poses.{IsPose};
-ghost use Rattle.shape_rays.specs.Hits.{IsPlacedShape};
+ghost use Rattle.shape_rays.specs.Hits.{IsPosedShape};
 
 use crate::assertions::{same, same_items};
 use crate::shapes_outlines::{at, capsule, circle, segment};
@@ -122,12 +122,12 @@ fn boxes_off_the_way_are_passed_over(rt: HostRuntime) {
     same_items(&rt, &reached, &[true, false]);
 }
 
-fn named(slot: u32, index: u8, shape: Shape, pose: Pose) -> PlacedShape
+fn named(slot: u32, index: u8, shape: Shape, pose: Pose) -> PosedShape
     requires shape { IsShape shape }
     requires pose { IsPose pose }
-    ensures { IsPlacedShape result }
+    ensures { IsPosedShape result }
 {
-    PlacedShape {
+    PosedShape {
         id: ShapeId { slot, index },
         shape,
         pose,
@@ -142,9 +142,9 @@ fn on(fraction: u32, slot: u32, index: u8) -> Option<Hit> {
 }
 
 /// The first hit on two shapes.
-fn first_of(cast: &RayCast, one: PlacedShape, other: PlacedShape) -> Option<Hit>
-    requires one { IsPlacedShape one }
-    requires other { IsPlacedShape other }
+fn first_of(cast: &RayCast, one: PosedShape, other: PosedShape) -> Option<Hit>
+    requires one { IsPosedShape one }
+    requires other { IsPosedShape other }
 {
     first_hit(cast, [one, other].as_slice())
 }

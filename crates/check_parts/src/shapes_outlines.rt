@@ -169,7 +169,7 @@ fn boxes_hold_their_shapes(rt: HostRuntime) {
     same_items(&rt, &boxes, &[fat, turned]);
     same(
         &rt,
-        &placed(at(100, 200), Vec2 { x: -5, y: 40 }),
+        &transformed(at(100, 200), Vec2 { x: -5, y: 40 }),
         &Vec2 { x: 95, y: 240 },
     );
 }

@@ -48,7 +48,7 @@ fn joint() -> Member<Joint> {
 
 /// The constraints of the pair and the one.
 fn listed(alloc: Global) -> Result<Vec<Member<Joint>>, Refusal> {
-    a_pair_and_one(alloc)?.list_ties()
+    a_pair_and_one(alloc)?.list_ties(Vec::new(alloc))
 }
 
 /// How many constraints the pair and the one have, and those with the numbers 5 and 6.

@@ -1,7 +1,7 @@
 //! The census: a static body, a disabled one, an awake one and two sleeping sets, with joints and contacts.
 
 use crate::assertions::{same, same_items};
-use body_handles::{Handle, Place};
+use body_handles::{Handle, SlotEntry};
 use contacts_base::{
     ContactEntry, ContactKey, ContactPoint, PackedContact, PackedSurface, ShapeId, Surface,
 };
@@ -17,7 +17,7 @@ use std::test::Fail;
 
 const ORIGIN: Vec2 = Vec2 { x: 0, y: 0 };
 
-const PLACE: Place = Place {
+const PLACE: SlotEntry = SlotEntry {
     generation: 1,
     live: true,
 };
@@ -98,11 +98,18 @@ fn census(alloc: Global) -> Result<Census, Refusal> {
         Some(body(alloc, Kind::Dynamic, true, Some(3))),
         Some(body(alloc, Kind::Dynamic, true, Some(5))),
     ];
-    let places = [PLACE, PLACE, PLACE, PLACE, PLACE, PLACE];
+    let slot_entries = [PLACE, PLACE, PLACE, PLACE, PLACE, PLACE];
     let joints = [Some(joint(3, 4)), Some(joint(1, 2)), Some(joint(0, 2))];
-    let joint_places = [PLACE, PLACE, PLACE];
+    let joint_entries = [PLACE, PLACE, PLACE];
     let contacts = [apart(0, 2), touching(0, 5), apart(3, 5)];
-    take_census(alloc, &places, &bodies, &joint_places, &joints, &contacts)
+    take_census(
+        alloc,
+        &slot_entries,
+        &bodies,
+        &joint_entries,
+        &joints,
+        &contacts,
+    )
 }
 
 fn of_body(slot: u32) -> Item {

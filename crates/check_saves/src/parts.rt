@@ -1,6 +1,6 @@
 //! Saved worlds and their parts: each read, and what was read written.
 
-use body_handles::Place;
+use body_handles::SlotEntry;
 use contacts_base::{ContactEntry, PackedSurface, Surface};
 use fixed_geom::Refusal;
 use islands::{IslandState, Label};
@@ -20,7 +20,7 @@ use world_file_base::{
 const MOST_TICKS: u64 = 1_000;
 
 /// The places of eight bodies.
-const PLACES: [Place; 8] = [Place {
+const PLACES: [SlotEntry; 8] = [SlotEntry {
     generation: 1,
     live: true,
 }; 8];
@@ -129,7 +129,7 @@ fn bodies(
 ) -> Result<Value, Broken> {
     let saved = read_bodies(alloc, reader, Some(value), version, MOST_TICKS)?;
     let labels = labels_of(alloc, &saved.memberships)?;
-    written(bodies_value(alloc, &saved.places, &saved.bodies, &labels))
+    written(bodies_value(alloc, &saved.slot_entries, &saved.bodies, &labels))
 }
 
 /// The joints of what was read, and the colour of each.
@@ -166,7 +166,13 @@ fn joints(
 ) -> Result<Value, Broken> {
     let saved = read_joints(alloc, reader, Some(value), version)?;
     let lists = joint_lists(alloc, &saved.joints)?;
-    written(joints_value(alloc, &PLACES, &saved.places, &lists.joints, &lists.colours))
+    written(joints_value(
+        alloc,
+        &PLACES,
+        &saved.slot_entries,
+        &lists.joints,
+        &lists.colours,
+    ))
 }
 
 /// The contacts of what was read, and the colour of each.
@@ -236,7 +242,7 @@ pub fn sizes(alloc: Global, text: &str) -> Result<String, Broken> {
         return Ok(format!(in alloc; "no save")?);
     };
     let (plain, _) = read?;
-    let (slots, contacts) = (plain.places().len(), plain.contacts().len());
-    let (joints, steps) = (plain.joint_places().len(), plain.steps());
+    let (slots, contacts) = (plain.slot_entries().len(), plain.contacts().len());
+    let (joints, steps) = (plain.joint_entries().len(), plain.steps());
     Ok(format!(in alloc; "{slots} slots, {joints} joints, {contacts} contacts, {steps} steps")?)
 }

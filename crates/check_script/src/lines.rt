@@ -5,7 +5,7 @@ use json::Scratch;
 use script_engine::{BadLine, explain, request_of};
 use std::alloc::Global;
 use std::test::Fail;
-use world_script_base::{LineFault, broken_place};
+use world_script_base::{LineFault, broken_path};
 
 /// What is wrong with a line, in words.
 fn told(alloc: Global, line: &[u8]) -> Result<String, Fail> {
@@ -111,7 +111,7 @@ fn world_with(alloc: Global, second: &str) -> Result<String, Fail> {
 /// The place at which a saved world breaks a clause by itself, in words.
 fn place_in(alloc: Global, second: &str) -> Result<String, Fail> {
     let world = world_with(alloc, second)?;
-    match broken_place(alloc, world.as_str()) {
+    match broken_path(alloc, world.as_str()) {
         Ok(Some(place)) => Ok(place.to_string(alloc)?),
         Ok(None) => Ok(String::from_str(alloc, "none")?),
         Err(_) => Err(Fail::from("no memory")),

@@ -72,7 +72,7 @@ fn print_texts<R: Print>(
 }
 
 /// Replays the journal in a world, and tells what came of it.
-fn tell_replay<W: World, R: Print>(
+fn print_replay<W: World, R: Print>(
     rt: &R,
     alloc: Global,
     work: Work,
@@ -96,12 +96,12 @@ fn replay<W: World, R: Print>(
     ended: &Ended<W>,
 ) -> Result<(), Stop> {
     match two_piles::<W>(alloc) {
-        Ok(mut world) => tell_replay(rt, alloc, work, ended, &mut world),
+        Ok(mut world) => print_replay(rt, alloc, work, ended, &mut world),
         Err(refusal) => Err(Stop::Refused(refusal)),
     }
 }
 
-fn tell_ended<W: World, R: Print>(
+fn print_ended<W: World, R: Print>(
     rt: &R,
     alloc: Global,
     work: Work,
@@ -119,7 +119,7 @@ pub fn run_round<R: Print + Threads + Wait + Sync>(
     alloc: Global,
     work: Work,
 ) -> Result<(), Stop> {
-    tell_ended(rt, alloc, work, share_piles(rt, alloc, work))
+    print_ended(rt, alloc, work, share_piles(rt, alloc, work))
 }
 
 /// So many rounds of stress.

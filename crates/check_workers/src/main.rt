@@ -20,7 +20,7 @@ use std::sync::Wait;
 use std::thread::Threads;
 use std::{env, io};
 use text_commands::{Piles, Stop};
-use tries::{Call, tell_try, told_untried};
+use tries::{Call, word_of_try, word_of_untried};
 use world_core::{Refusal, WorldCore};
 
 /// Reads the program's words, of which the first is its name.
@@ -60,7 +60,7 @@ fn print_told<R: Print>(rt: &R, told: &str) -> Result<(), Stop> {
 fn end_without<R: Print>(rt: &R, task: Task<'_>, refusal: Refusal) -> Result<(), Stop> {
     match task {
         Task::Steps(_, _) => Err(Stop::Refused(refusal)),
-        Task::Try(_, _) => print_told(rt, told_untried(refusal)),
+        Task::Try(_, _) => print_told(rt, word_of_untried(refusal)),
     }
 }
 
@@ -71,7 +71,7 @@ fn do_in<R: AllocGlobal + Print + Threads + Wait + Sync>(
 ) -> Result<(), Stop> {
     match task {
         Task::Steps(piles, steps) => check(rt, piles, worlds, steps),
-        Task::Try(_, call) => print_told(rt, tell_try(rt, call, worlds)),
+        Task::Try(_, call) => print_told(rt, word_of_try(rt, call, worlds)),
     }
 }
 

@@ -45,7 +45,7 @@ impl Call {
 #[derive(Clone, Copy)]
 enum Verdict {
     /// It was answered what it was due, and has left what it was to leave.
-    Due,
+    PendingUpdate,
     /// Memory or a thread was refused, and nothing has changed.
     Refused,
     /// This differs from what was to come.
@@ -86,7 +86,7 @@ fn judge<W: World>(
         return Ok(Verdict::Differs("differs: the answer"));
     }
     let are_same = worlds.are_same(alloc)?;
-    Ok(verdict_by(are_same, Verdict::Due, "differs: the world"))
+    Ok(verdict_by(are_same, Verdict::PendingUpdate, "differs: the world"))
 }
 
 /// Makes the call between the marks of what may refuse memory or threads.
@@ -104,7 +104,7 @@ fn attempt<R: AllocGlobal + Threads + Wait + Sync>(
 /// What is told of a call that was made again.
 fn told_again(verdict: Verdict) -> &'static str {
     match verdict {
-        Verdict::Due => "kept",
+        Verdict::PendingUpdate => "kept",
         Verdict::Refused => "differs: it is refused again",
         Verdict::Differs(told) => told,
     }
@@ -118,7 +118,7 @@ fn try_twice<R: AllocGlobal + Threads + Wait + Sync>(
 ) -> Result<&'static str, Refusal> {
     let answer = attempt(rt, call, &mut worlds.world);
     match judge(rt.alloc(), call, answer, worlds)? {
-        Verdict::Due => Ok("none"),
+        Verdict::PendingUpdate => Ok("none"),
         Verdict::Refused => {
             let answer = attempt(rt, call, &mut worlds.world);
             let verdict = judge(rt.alloc(), call, answer, worlds)?;
@@ -129,7 +129,7 @@ fn try_twice<R: AllocGlobal + Threads + Wait + Sync>(
 }
 
 /// What is told where a call couldn't be tried: something beside it was refused memory, or anything else.
-pub fn told_untried(refusal: Refusal) -> &'static str {
+pub fn word_of_untried(refusal: Refusal) -> &'static str {
     match refusal {
         Refusal::NoMemory => "outside",
         _ => "refused",
@@ -138,13 +138,13 @@ pub fn told_untried(refusal: Refusal) -> &'static str {
 
 /// Makes a call in a world while memory or threads may be refused to it. Tells `kept` where a refused call left everything as it was and then
 /// succeeded, `none` where it met no refusal, `outside` where something beside it met one, and else what differs.
-pub fn tell_try<R: AllocGlobal + Threads + Wait + Sync>(
+pub fn word_of_try<R: AllocGlobal + Threads + Wait + Sync>(
     rt: &R,
     call: Call,
     worlds: &mut Worlds<WorldCore>,
 ) -> &'static str {
     match try_twice(rt, call, worlds) {
         Ok(told) => told,
-        Err(refusal) => told_untried(refusal),
+        Err(refusal) => word_of_untried(refusal),
     }
 }

@@ -399,7 +399,7 @@ impl<W: World> Check<W> {
     }
 
     fn see_counts_of(&mut self, lists: &Plain) {
-        self.see(Seen::Count("places", lists.places().len() as u64));
+        self.see(Seen::Count("places", lists.slot_entries().len() as u64));
         self.see(Seen::Count("bodies", lists.bodies().len() as u64));
         self.see(Seen::Count("steps", lists.steps()));
         self.see(Seen::Count("calls", lists.calls()));

@@ -15,8 +15,8 @@ use Rattle.colour_solver_base.specs.Rows.{IsRow}
 use Rattle.colour_solver_base.specs.RowsAfter.{RowAfter}
 use Rattle.colour_solver.specs.declared.constraint_row.ConstraintRow.{ConstraintRow}
 use Rattle.colour_solver.specs.declared.constraint_row.ConstraintRow.TheVariants.{Joint, Contact}
-use Rattle.colour_solver.specs.Turns.{AreRowsOn, IsPassed, between}
-use Rattle.colour_solver.specs.ConstraintTurns.{IsConstraintRow, both_turns, constraint_slots, contact_in, contact_slots, contacts_among, joint_in, joint_slots, joints_among}
+use Rattle.colour_solver.specs.RowVisits.{AreRowsOn, IsPassed, between}
+use Rattle.colour_solver.specs.ConstraintVisits.{IsConstraintRow, both_visits, constraint_slots, contact_in, contact_slots, contacts_among, joint_in, joint_slots, joints_among}
 use Rattle.colour_solver.specs.ColourRows.{AreEnds, colours_of, cut, each_joints_first, joints_first, last_end, left_of, rows_kept, rows_left}
 use Rattle.colour_solver.proofs.ColourRowLaws.{cut_all, cut_count, cut_end, cut_long, cut_more, cut_next, cut_same, end_high, end_low, ends_end, ends_more, ends_taken, last_more, left_end, left_from, left_more, taken_high}
 use Rattle.colour_solver.proofs.KindLaws.{contacts_each, joints_each, joints_first_contacts, joints_first_joints}
@@ -94,7 +94,7 @@ first_rows k je ce joints contacts = flat_map (λ (rs : List ConstraintRow). rs)
 
 -- the pass from the bodies ss, the joints and the contacts at first on has come through k colours
 pub record HasPassed (f : JointRow → Ends → RowAfter JointRow) (g : ContactRow → Ends → RowAfter ContactRow) (k : ℕ) (je ce : List ℕ) (ss : List BodyState) (joints : List JointRow) (contacts : List ContactRow) (ts : List BodyState) (js : List JointRow) (cs : List ContactRow) (given : Vec2) : Type 0 where
-  pub passed : IsPassed constraint_slots IsConstraintRow (both_turns f g) ss (first_rows k je ce joints contacts) ts (first_rows k je ce js cs) given
+  pub passed : IsPassed constraint_slots IsConstraintRow (both_visits f g) ss (first_rows k je ce joints contacts) ts (first_rows k je ce js cs) given
   pub joints_behind : drop (last_end 0 (take k je)) js ≡ drop (last_end 0 (take k je)) joints
   pub contacts_behind : drop (last_end 0 (take k ce)) cs ≡ drop (last_end 0 (take k ce)) contacts
   pub as_many_joints : length js ≡ length joints
@@ -103,8 +103,8 @@ pub record HasPassed (f : JointRow → Ends → RowAfter JointRow) (g : ContactR
   pub all_contacts : AreRowsOn contact_slots IsRow (length ts) cs
 
 -- a pass over the rows between two places of each list: it leaves those before and behind them
-pub record HasTurned (f : JointRow → Ends → RowAfter JointRow) (g : ContactRow → Ends → RowAfter ContactRow) (n m d e : ℕ) (ss : List BodyState) (joints : List JointRow) (contacts : List ContactRow) (ts : List BodyState) (js : List JointRow) (cs : List ContactRow) (given : Vec2) : Type 0 where
-  pub passed : IsPassed constraint_slots IsConstraintRow (both_turns f g) ss (joints_first (between n d joints) (between m e contacts)) ts (joints_first (between n d js) (between m e cs)) given
+pub record HasVisited (f : JointRow → Ends → RowAfter JointRow) (g : ContactRow → Ends → RowAfter ContactRow) (n m d e : ℕ) (ss : List BodyState) (joints : List JointRow) (contacts : List ContactRow) (ts : List BodyState) (js : List JointRow) (cs : List ContactRow) (given : Vec2) : Type 0 where
+  pub passed : IsPassed constraint_slots IsConstraintRow (both_visits f g) ss (joints_first (between n d joints) (between m e contacts)) ts (joints_first (between n d js) (between m e cs)) given
   pub joints_before : take n js ≡ take n joints
   pub joints_behind : drop d js ≡ drop d joints
   pub contacts_before : take m cs ≡ take m contacts
@@ -176,7 +176,7 @@ between_same {R} n e rows all same = ap (λ (l : List R). take (e - n) l) same
 -- one colour more
 pub has_passed_more : (f : JointRow → Ends → RowAfter JointRow) (g : ContactRow → Ends → RowAfter ContactRow) (k : ℕ) (je ce : List ℕ) (ss ts us : List BodyState) (joints js kept : List JointRow) (contacts cs held : List ContactRow) (given more : Vec2)
     → AreBothEnds je ce joints contacts → k < length je → HasPassed f g k je ce ss joints contacts ts js cs given
-    → HasTurned f g (last_end 0 (take k je)) (last_end 0 (take k ce)) (get_or je k 0) (get_or ce k 0) ts js cs us kept held more
+    → HasVisited f g (last_end 0 (take k je)) (last_end 0 (take k ce)) (get_or je k 0) (get_or ce k 0) ts js cs us kept held more
     → HasPassed f g (k + 1) je ce ss joints contacts us kept held (plus given more)
 has_passed_more f g k je ce ss ts us joints js kept contacts cs held given more ends lt known made =
     let also : k < length ce = omega (arith, lt, ends.as_many) in
@@ -196,12 +196,12 @@ has_passed_more f g k je ce ss ts us joints js kept contacts cs held given more 
     let contact_end : last_end 0 (take (k + 1) ce) ≡ e = ap (last_end 0) (take_more ce k 0 also) ∙ last_more 0 (take k ce) e in
     record {
       passed =
-          passed_alike constraint_slots IsConstraintRow (both_turns f g) ss us
+          passed_alike constraint_slots IsConstraintRow (both_visits f g) ss us
           (first_rows k je ce joints contacts ++ joints_first (between n d js) (between m e cs)) (first_rows (k + 1) je ce joints contacts)
           (first_rows k je ce js cs ++ joints_first (between n d kept) (between m e held)) (first_rows (k + 1) je ce kept held) (plus given more)
           (next_rows k je ce joints contacts ends lt ∙ ap (λ (l : List ConstraintRow). first_rows k je ce joints contacts ++ l) (sym old))
           (next_rows k je ce kept held now lt ∙ ap (λ (l : List ConstraintRow). l ++ joints_first (between n d kept) (between m e held)) first_now)
-          (passed_on constraint_slots IsConstraintRow (both_turns f g) ss ts us (first_rows k je ce joints contacts) (joints_first (between n d js) (between m e cs)) (first_rows k je ce js cs) (joints_first (between n d kept) (between m e held)) given more known.passed made.passed);
+          (passed_on constraint_slots IsConstraintRow (both_visits f g) ss ts us (first_rows k je ce joints contacts) (joints_first (between n d js) (between m e cs)) (first_rows k je ce js cs) (joints_first (between n d kept) (between m e held)) given more known.passed made.passed);
       joints_behind = subst (λ (p : ℕ). drop p kept ≡ drop p joints) (sym joint_end) (made.joints_behind ∙ drop_further n d js joints (end_low k 0 je (length joints) 0 ends.of_joints lt) known.joints_behind);
       contacts_behind = subst (λ (p : ℕ). drop p held ≡ drop p contacts) (sym contact_end) (made.contacts_behind ∙ drop_further m e cs contacts (end_low k 0 ce (length contacts) 0 ends.of_contacts also) known.contacts_behind);
       as_many_joints = many;
@@ -221,8 +221,8 @@ left_rows je ce joints contacts ends =
 
 -- all colours, and then the rows of the one that hasn't ended
 pub all_passed : (f : JointRow → Ends → RowAfter JointRow) (g : ContactRow → Ends → RowAfter ContactRow) (k : ℕ) (je ce : List ℕ) (ss ts us : List BodyState) (joints js kept : List JointRow) (contacts cs held : List ContactRow) (given more : Vec2)
-    → AreBothEnds je ce joints contacts → length je ≤ k → HasPassed f g k je ce ss joints contacts ts js cs given → HasTurned f g (last_end 0 je) (last_end 0 ce) (length js) (length cs) ts js cs us kept held more
-    → IsPassed constraint_slots IsConstraintRow (both_turns f g) ss (rows_kept je ce joints contacts) us (rows_kept je ce kept held) (plus given more)
+    → AreBothEnds je ce joints contacts → length je ≤ k → HasPassed f g k je ce ss joints contacts ts js cs given → HasVisited f g (last_end 0 je) (last_end 0 ce) (length js) (length cs) ts js cs us kept held more
+    → IsPassed constraint_slots IsConstraintRow (both_visits f g) ss (rows_kept je ce joints contacts) us (rows_kept je ce kept held) (plus given more)
 all_passed f g k je ce ss ts us joints js kept contacts cs held given more ends high known made =
     let n = last_end 0 je in
     let m = last_end 0 ce in
@@ -246,20 +246,20 @@ all_passed f g k je ce ss ts us joints js kept contacts cs held given more ends 
     same_rows k je ce js kept cs held earlier made.as_many_joints made.as_many_contacts (subst (λ (l : List ℕ). take (last_end 0 l) kept ≡ take (last_end 0 l) js) (sym whole) made.joints_before) (subst (λ (l : List ℕ). take (last_end 0 l) held ≡ take (last_end 0 l) cs) (sym whole_too) made.contacts_before) in
     let all_first : (xs : List JointRow) (ys : List ContactRow) → flat_map (λ (rs : List ConstraintRow). rs) (colours_of je ce xs ys) ≡ first_rows k je ce xs ys =
     λ xs ys. ap (λ (l : List ℕ). flat_map (λ (rs : List ConstraintRow). rs) (colours_of l ce xs ys)) (sym whole) ∙ ap (λ (l : List ℕ). flat_map (λ (rs : List ConstraintRow). rs) (colours_of (take k je) l xs ys)) (sym whole_too) in
-    passed_alike constraint_slots IsConstraintRow (both_turns f g) ss us
+    passed_alike constraint_slots IsConstraintRow (both_visits f g) ss us
     (first_rows k je ce joints contacts ++ joints_first (between n (length js) js) (between m (length cs) cs)) (rows_kept je ce joints contacts)
     (first_rows k je ce js cs ++ joints_first (between n (length js) kept) (between m (length cs) held)) (rows_kept je ce kept held) (plus given more)
     (ap (λ (l : List ConstraintRow). l ++ rows_left je ce joints contacts) (all_first joints contacts) ∙ ap (λ (l : List ConstraintRow). first_rows k je ce joints contacts ++ l) last_old)
     (ap (λ (l : List ConstraintRow). l ++ rows_left je ce kept held) (all_first kept held ∙ before) ∙ ap (λ (l : List ConstraintRow). first_rows k je ce js cs ++ l) last_now)
-    (passed_on constraint_slots IsConstraintRow (both_turns f g) ss ts us (first_rows k je ce joints contacts) (joints_first (between n (length js) js) (between m (length cs) cs)) (first_rows k je ce js cs) (joints_first (between n (length js) kept) (between m (length cs) held)) given more known.passed made.passed)
+    (passed_on constraint_slots IsConstraintRow (both_visits f g) ss ts us (first_rows k je ce joints contacts) (joints_first (between n (length js) js) (between m (length cs) cs)) (first_rows k je ce js cs) (joints_first (between n (length js) kept) (between m (length cs) held)) given more known.passed made.passed)
 
 -- the same pass, its places named otherwise
-pub turned_there : (f : JointRow → Ends → RowAfter JointRow) (g : ContactRow → Ends → RowAfter ContactRow) (n m d e a b p q : ℕ) (ss : List BodyState) (joints : List JointRow) (contacts : List ContactRow) (ts : List BodyState) (js : List JointRow) (cs : List ContactRow) (given : Vec2)
-    → n ≡ a → m ≡ b → d ≡ p → e ≡ q → HasTurned f g n m d e ss joints contacts ts js cs given → HasTurned f g a b p q ss joints contacts ts js cs given
-turned_there f g n m d e a b p q ss joints contacts ts js cs given h i j k known =
-    subst (λ (z : ℕ). HasTurned f g z b p q ss joints contacts ts js cs given) h
-    (subst (λ (z : ℕ). HasTurned f g n z p q ss joints contacts ts js cs given) i
-    (subst (λ (z : ℕ). HasTurned f g n m z q ss joints contacts ts js cs given) j (subst (λ (z : ℕ). HasTurned f g n m d z ss joints contacts ts js cs given) k known)))
+pub visited_there : (f : JointRow → Ends → RowAfter JointRow) (g : ContactRow → Ends → RowAfter ContactRow) (n m d e a b p q : ℕ) (ss : List BodyState) (joints : List JointRow) (contacts : List ContactRow) (ts : List BodyState) (js : List JointRow) (cs : List ContactRow) (given : Vec2)
+    → n ≡ a → m ≡ b → d ≡ p → e ≡ q → HasVisited f g n m d e ss joints contacts ts js cs given → HasVisited f g a b p q ss joints contacts ts js cs given
+visited_there f g n m d e a b p q ss joints contacts ts js cs given h i j k known =
+    subst (λ (z : ℕ). HasVisited f g z b p q ss joints contacts ts js cs given) h
+    (subst (λ (z : ℕ). HasVisited f g n z p q ss joints contacts ts js cs given) i
+    (subst (λ (z : ℕ). HasVisited f g n m z q ss joints contacts ts js cs given) j (subst (λ (z : ℕ). HasVisited f g n m d z ss joints contacts ts js cs given) k known)))
 
 -- ---- ends of one kind, each a part of the ends of a colour
 

@@ -14,36 +14,36 @@ use Rattle.colour_solver_base.specs.Rows.{IsRow}
 use Rattle.colour_solver_base.specs.RowsAfter.{RowAfter}
 use Rattle.colour_solver.specs.declared.constraint_row.ConstraintRow.{ConstraintRow}
 use Rattle.colour_solver.specs.declared.constraint_row.ConstraintRow.TheVariants.{Joint, Contact}
-use Rattle.colour_solver.specs.Turns.{AreRowsOn, IsPassed, IsRowOn, after, ends_of, got, passed, rows_passed, share, turn_of}
-use Rattle.colour_solver.specs.ConstraintTurns.{AreRowsBelow, IsConstraintRow, IsRowBelow, both_turns, constraint_slots, contact_in, contact_slots, contacts_among, joint_in, joint_slots, joints_among}
+use Rattle.colour_solver.specs.RowVisits.{AreRowsOn, IsPassed, IsRowOn, after, ends_of, got, passed, rows_passed, share, visit_of}
+use Rattle.colour_solver.specs.ConstraintVisits.{AreRowsBelow, IsConstraintRow, IsRowBelow, both_visits, constraint_slots, contact_in, contact_slots, contacts_among, joint_in, joint_slots, joints_among}
 use Rattle.colour_solver.specs.ColourRows.{each_joints_first, joints_first}
 use Rattle.colour_solver.proofs.PassedLaws.{passed_on}
 
 -- ---- a pass over joints alone, and over contacts alone
 
-joints_passed : (f : JointRow → Ends → RowAfter JointRow) (g : ContactRow → Ends → RowAfter ContactRow) (ss : List BodyState) (rs : List JointRow) → passed constraint_slots (both_turns f g) ss (map Joint rs) ≡ passed joint_slots f ss rs
+joints_passed : (f : JointRow → Ends → RowAfter JointRow) (g : ContactRow → Ends → RowAfter ContactRow) (ss : List BodyState) (rs : List JointRow) → passed constraint_slots (both_visits f g) ss (map Joint rs) ≡ passed joint_slots f ss rs
 joints_passed f g ss [] = refl
 joints_passed f g ss (r ∷ rs) = joints_passed f g (after joint_slots f ss r) rs
 
-contacts_passed : (f : JointRow → Ends → RowAfter JointRow) (g : ContactRow → Ends → RowAfter ContactRow) (ss : List BodyState) (rs : List ContactRow) → passed constraint_slots (both_turns f g) ss (map Contact rs) ≡ passed contact_slots g ss rs
+contacts_passed : (f : JointRow → Ends → RowAfter JointRow) (g : ContactRow → Ends → RowAfter ContactRow) (ss : List BodyState) (rs : List ContactRow) → passed constraint_slots (both_visits f g) ss (map Contact rs) ≡ passed contact_slots g ss rs
 contacts_passed f g ss [] = refl
 contacts_passed f g ss (r ∷ rs) = contacts_passed f g (after contact_slots g ss r) rs
 
-joints_turned : (f : JointRow → Ends → RowAfter JointRow) (g : ContactRow → Ends → RowAfter ContactRow) (ss : List BodyState) (rs : List JointRow) → rows_passed constraint_slots (both_turns f g) ss (map Joint rs) ≡ map Joint (rows_passed joint_slots f ss rs)
-joints_turned f g ss [] = refl
-joints_turned f g ss (r ∷ rs) = ap (λ (l : List ConstraintRow). Joint (turn_of joint_slots f ss r).row ∷ l) (joints_turned f g (after joint_slots f ss r) rs)
+joints_visited : (f : JointRow → Ends → RowAfter JointRow) (g : ContactRow → Ends → RowAfter ContactRow) (ss : List BodyState) (rs : List JointRow) → rows_passed constraint_slots (both_visits f g) ss (map Joint rs) ≡ map Joint (rows_passed joint_slots f ss rs)
+joints_visited f g ss [] = refl
+joints_visited f g ss (r ∷ rs) = ap (λ (l : List ConstraintRow). Joint (visit_of joint_slots f ss r).row ∷ l) (joints_visited f g (after joint_slots f ss r) rs)
 
-contacts_turned : (f : JointRow → Ends → RowAfter JointRow) (g : ContactRow → Ends → RowAfter ContactRow) (ss : List BodyState) (rs : List ContactRow) → rows_passed constraint_slots (both_turns f g) ss (map Contact rs) ≡ map Contact (rows_passed contact_slots g ss rs)
-contacts_turned f g ss [] = refl
-contacts_turned f g ss (r ∷ rs) = ap (λ (l : List ConstraintRow). Contact (turn_of contact_slots g ss r).row ∷ l) (contacts_turned f g (after contact_slots g ss r) rs)
+contacts_visited : (f : JointRow → Ends → RowAfter JointRow) (g : ContactRow → Ends → RowAfter ContactRow) (ss : List BodyState) (rs : List ContactRow) → rows_passed constraint_slots (both_visits f g) ss (map Contact rs) ≡ map Contact (rows_passed contact_slots g ss rs)
+contacts_visited f g ss [] = refl
+contacts_visited f g ss (r ∷ rs) = ap (λ (l : List ConstraintRow). Contact (visit_of contact_slots g ss r).row ∷ l) (contacts_visited f g (after contact_slots g ss r) rs)
 
-joints_share : (f : JointRow → Ends → RowAfter JointRow) (g : ContactRow → Ends → RowAfter ContactRow) (ss : List BodyState) (rs : List JointRow) → share constraint_slots (both_turns f g) ss (map Joint rs) ≡ share joint_slots f ss rs
+joints_share : (f : JointRow → Ends → RowAfter JointRow) (g : ContactRow → Ends → RowAfter ContactRow) (ss : List BodyState) (rs : List JointRow) → share constraint_slots (both_visits f g) ss (map Joint rs) ≡ share joint_slots f ss rs
 joints_share f g ss [] = refl
-joints_share f g ss (r ∷ rs) = ap (plus (got (ends_of joint_slots ss r) (turn_of joint_slots f ss r).ends)) (joints_share f g (after joint_slots f ss r) rs)
+joints_share f g ss (r ∷ rs) = ap (plus (got (ends_of joint_slots ss r) (visit_of joint_slots f ss r).ends)) (joints_share f g (after joint_slots f ss r) rs)
 
-contacts_share : (f : JointRow → Ends → RowAfter JointRow) (g : ContactRow → Ends → RowAfter ContactRow) (ss : List BodyState) (rs : List ContactRow) → share constraint_slots (both_turns f g) ss (map Contact rs) ≡ share contact_slots g ss rs
+contacts_share : (f : JointRow → Ends → RowAfter JointRow) (g : ContactRow → Ends → RowAfter ContactRow) (ss : List BodyState) (rs : List ContactRow) → share constraint_slots (both_visits f g) ss (map Contact rs) ≡ share contact_slots g ss rs
 contacts_share f g ss [] = refl
-contacts_share f g ss (r ∷ rs) = ap (plus (got (ends_of contact_slots ss r) (turn_of contact_slots g ss r).ends)) (contacts_share f g (after contact_slots g ss r) rs)
+contacts_share f g ss (r ∷ rs) = ap (plus (got (ends_of contact_slots ss r) (visit_of contact_slots g ss r).ends)) (contacts_share f g (after contact_slots g ss r) rs)
 
 -- ---- what holds of the rows
 
@@ -81,36 +81,36 @@ contacts_below n (Joint r ∷ rs) all = contacts_below n rs (All-tail (IsRowBelo
 
 -- ---- a pass over joints, and then over contacts, is one over both
 
-joints_lifted : (f : JointRow → Ends → RowAfter JointRow) (g : ContactRow → Ends → RowAfter ContactRow) (ss ts : List BodyState) (rs turned : List JointRow) (given : Vec2) → IsPassed joint_slots IsJointRow f ss rs ts turned given
-    → IsPassed constraint_slots IsConstraintRow (both_turns f g) ss (map Joint rs) ts (map Joint turned) given
-joints_lifted f g ss ts rs turned given known = record {
+joints_lifted : (f : JointRow → Ends → RowAfter JointRow) (g : ContactRow → Ends → RowAfter ContactRow) (ss ts : List BodyState) (rs visited : List JointRow) (given : Vec2) → IsPassed joint_slots IsJointRow f ss rs ts visited given
+    → IsPassed constraint_slots IsConstraintRow (both_visits f g) ss (map Joint rs) ts (map Joint visited) given
+joints_lifted f g ss ts rs visited given known = record {
   states = known.states ∙ sym (joints_passed f g ss rs);
-  rows_are = ap (map Joint) known.rows_are ∙ sym (joints_turned f g ss rs);
+  rows_are = ap (map Joint) known.rows_are ∙ sym (joints_visited f g ss rs);
   share_is = known.share_is ∙ sym (joints_share f g ss rs);
   all_states = known.all_states;
-  all_rows = joints_on (length ts) turned known.all_rows;
+  all_rows = joints_on (length ts) visited known.all_rows;
   same = known.same;
   momentum = known.momentum;
 }
 
-contacts_lifted : (f : JointRow → Ends → RowAfter JointRow) (g : ContactRow → Ends → RowAfter ContactRow) (ss ts : List BodyState) (rs turned : List ContactRow) (given : Vec2) → IsPassed contact_slots IsRow g ss rs ts turned given
-    → IsPassed constraint_slots IsConstraintRow (both_turns f g) ss (map Contact rs) ts (map Contact turned) given
-contacts_lifted f g ss ts rs turned given known = record {
+contacts_lifted : (f : JointRow → Ends → RowAfter JointRow) (g : ContactRow → Ends → RowAfter ContactRow) (ss ts : List BodyState) (rs visited : List ContactRow) (given : Vec2) → IsPassed contact_slots IsRow g ss rs ts visited given
+    → IsPassed constraint_slots IsConstraintRow (both_visits f g) ss (map Contact rs) ts (map Contact visited) given
+contacts_lifted f g ss ts rs visited given known = record {
   states = known.states ∙ sym (contacts_passed f g ss rs);
-  rows_are = ap (map Contact) known.rows_are ∙ sym (contacts_turned f g ss rs);
+  rows_are = ap (map Contact) known.rows_are ∙ sym (contacts_visited f g ss rs);
   share_is = known.share_is ∙ sym (contacts_share f g ss rs);
   all_states = known.all_states;
-  all_rows = contacts_on (length ts) turned known.all_rows;
+  all_rows = contacts_on (length ts) visited known.all_rows;
   same = known.same;
   momentum = known.momentum;
 }
 
-pub joints_then_contacts : (f : JointRow → Ends → RowAfter JointRow) (g : ContactRow → Ends → RowAfter ContactRow) (ss ts us : List BodyState) (joints jointed : List JointRow) (contacts turned : List ContactRow) (given more : Vec2)
-    → IsPassed joint_slots IsJointRow f ss joints ts jointed given → IsPassed contact_slots IsRow g ts contacts us turned more
-    → IsPassed constraint_slots IsConstraintRow (both_turns f g) ss (joints_first joints contacts) us (joints_first jointed turned) (plus given more)
-joints_then_contacts f g ss ts us joints jointed contacts turned given more first next =
-    passed_on constraint_slots IsConstraintRow (both_turns f g) ss ts us (map Joint joints) (map Contact contacts) (map Joint jointed) (map Contact turned) given more
-    (joints_lifted f g ss ts joints jointed given first) (contacts_lifted f g ts us contacts turned more next)
+pub joints_then_contacts : (f : JointRow → Ends → RowAfter JointRow) (g : ContactRow → Ends → RowAfter ContactRow) (ss ts us : List BodyState) (joints jointed : List JointRow) (contacts visited : List ContactRow) (given more : Vec2)
+    → IsPassed joint_slots IsJointRow f ss joints ts jointed given → IsPassed contact_slots IsRow g ts contacts us visited more
+    → IsPassed constraint_slots IsConstraintRow (both_visits f g) ss (joints_first joints contacts) us (joints_first jointed visited) (plus given more)
+joints_then_contacts f g ss ts us joints jointed contacts visited given more first next =
+    passed_on constraint_slots IsConstraintRow (both_visits f g) ss ts us (map Joint joints) (map Contact contacts) (map Joint jointed) (map Contact visited) given more
+    (joints_lifted f g ss ts joints jointed given first) (contacts_lifted f g ts us contacts visited more next)
 
 -- ---- the joints among the rows, and the contacts
 

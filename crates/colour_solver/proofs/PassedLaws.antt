@@ -2,7 +2,7 @@
 use Rattle.std.proofs.Common.{◌≡◌, ℕ, ◌+◌, ◌-◌, ◌<◌, ◌≤◌, ◌^◌, List, [], ◌∷◌, ◌++◌, length, get_or, set, take, drop, All, arith, refl, sym, ap, ◌∙◌, subst}
 use Rattle.std.proofs.lemmas.List.{drop-drop, drop-set-add, get_or-drop, length-drop, take_more, take_more_set}
 use Rattle.std.proofs.lemmas.List.Elements.{All-append, All-cons, All-nil}
-use Rattle.body_handles.specs.declared.places.TheConstants.{MAX_SLOTS}
+use Rattle.body_handles.specs.declared.slot_table.TheConstants.{MAX_SLOTS}
 use Rattle.fixed_geom.specs.Vectors.{plus}
 use Rattle.fixed_geom.specs.declared.vectors.Vec2.{Vec2}
 use Rattle.momenta.specs.Gains.{IsGain}
@@ -10,11 +10,11 @@ use Rattle.momenta.specs.declared.gain.Gain.{Gain}
 use Rattle.momenta.specs.declared.state.BodyState.{BodyState}
 use Rattle.momenta.specs.declared.state.Ends.{Ends}
 use Rattle.colour_solver_base.specs.RowsAfter.{RowAfter}
-use Rattle.colour_solver.specs.declared.turns.Slots.{Slots}
+use Rattle.colour_solver.specs.declared.row_visits.Slots.{Slots}
 use Rattle.colour_solver.specs.States.{AreAllStates, AreSameStates, as_vector, total}
-use Rattle.colour_solver.specs.Turns.{AreRowsOn, IsPassed, IsRowOn, after, between, ends_of, got, passed, rows_passed, share, turn_of}
+use Rattle.colour_solver.specs.RowVisits.{AreRowsOn, IsPassed, IsRowOn, after, between, ends_of, got, passed, rows_passed, share, visit_of}
 use Rattle.colour_solver.proofs.SameLaws.{same_on}
-use Rattle.colour_solver.proofs.TurnLaws.{given-small}
+use Rattle.colour_solver.proofs.VisitLaws.{given-small}
 use Rattle.colour_solver.proofs.VectorLaws.{plus_assoc, plus_zero, zero_plus}
 
 -- ---- one row more
@@ -56,27 +56,27 @@ passed_then at f ss (x ∷ xs) ys = passed_then at f (after at f ss x) xs ys
 
 pub rows_then : {R : Type 0} (at : R → Slots) (f : R → Ends → RowAfter R) (ss : List BodyState) (xs ys : List R) → rows_passed at f ss (xs ++ ys) ≡ rows_passed at f ss xs ++ rows_passed at f (passed at f ss xs) ys
 rows_then at f ss [] ys = refl
-rows_then {R} at f ss (x ∷ xs) ys = ap (λ (l : List R). (turn_of at f ss x).row ∷ l) (rows_then at f (after at f ss x) xs ys)
+rows_then {R} at f ss (x ∷ xs) ys = ap (λ (l : List R). (visit_of at f ss x).row ∷ l) (rows_then at f (after at f ss x) xs ys)
 
 pub share_then : {R : Type 0} (at : R → Slots) (f : R → Ends → RowAfter R) (ss : List BodyState) (xs ys : List R) → share at f ss (xs ++ ys) ≡ plus (share at f ss xs) (share at f (passed at f ss xs) ys)
 share_then at f ss [] ys = sym (zero_plus (share at f ss ys))
 share_then at f ss (x ∷ xs) ys =
-    ap (plus (got (ends_of at ss x) (turn_of at f ss x).ends)) (share_then at f (after at f ss x) xs ys)
-    ∙ plus_assoc (got (ends_of at ss x) (turn_of at f ss x).ends) (share at f (after at f ss x) xs) (share at f (passed at f (after at f ss x) xs) ys)
+    ap (plus (got (ends_of at ss x) (visit_of at f ss x).ends)) (share_then at f (after at f ss x) xs ys)
+    ∙ plus_assoc (got (ends_of at ss x) (visit_of at f ss x).ends) (share at f (after at f ss x) xs) (share at f (passed at f (after at f ss x) xs) ys)
 
 adds_both : (a b c v w : Vec2) → b ≡ plus a v → c ≡ plus b w → c ≡ plus a (plus v w)
 adds_both a b c v w h k = k ∙ (ap (λ (u : Vec2). plus u w) h ∙ sym (plus_assoc a v w))
 
-pub passed_on : {R : Type 0} (at : R → Slots) (is : R → Type 0) (f : R → Ends → RowAfter R) (ss ts us : List BodyState) (rows more turned rest : List R) (given extra : Vec2) → IsPassed at is f ss rows ts turned given → IsPassed at is f ts more us rest extra
-    → IsPassed at is f ss (rows ++ more) us (turned ++ rest) (plus given extra)
-passed_on {R} at is f ss ts us rows more turned rest given extra first next = record {
+pub passed_on : {R : Type 0} (at : R → Slots) (is : R → Type 0) (f : R → Ends → RowAfter R) (ss ts us : List BodyState) (rows more visited rest : List R) (given extra : Vec2) → IsPassed at is f ss rows ts visited given → IsPassed at is f ts more us rest extra
+    → IsPassed at is f ss (rows ++ more) us (visited ++ rest) (plus given extra)
+passed_on {R} at is f ss ts us rows more visited rest given extra first next = record {
   states = next.states ∙ ap (λ (l : List BodyState). passed at f l more) first.states ∙ sym (passed_then at f ss rows more);
   rows_are =
       ap (λ (l : List R). l ++ rest) first.rows_are ∙ ap (λ (l : List R). rows_passed at f ss rows ++ l) (next.rows_are ∙ ap (λ (l : List BodyState). rows_passed at f l more) first.states) ∙ sym (rows_then at f ss rows more);
   share_is =
       ap (λ (v : Vec2). plus v extra) first.share_is ∙ ap (plus (share at f ss rows)) (next.share_is ∙ ap (λ (l : List BodyState). share at f l more) first.states) ∙ sym (share_then at f ss rows more);
   all_states = next.all_states;
-  all_rows = All-append (IsRowOn at is (length us)) turned rest (subst (λ (n : ℕ). AreRowsOn at is n turned) (sym next.same.long) first.all_rows) next.all_rows;
+  all_rows = All-append (IsRowOn at is (length us)) visited rest (subst (λ (n : ℕ). AreRowsOn at is n visited) (sym next.same.long) first.all_rows) next.all_rows;
   same = same_on ss ts us first.same next.same;
   momentum = adds_both (total ss) (total ts) (total us) given extra first.momentum next.momentum;
 }
@@ -85,21 +85,21 @@ one_of : {X : Type 0} (P : X → Type 0) (x : X) → P x → All P (x ∷ [])
 one_of P x here = All-cons P x [] here (All-nil P)
 
 -- the turn of one row
-pub passed_one : {R : Type 0} (at : R → Slots) (is : R → Type 0) (f : R → Ends → RowAfter R) (ss ts : List BodyState) (r t : R) (given : Vec2) → ts ≡ after at f ss r → t ≡ (turn_of at f ss r).row
-    → given ≡ got (ends_of at ss r) (turn_of at f ss r).ends → AreAllStates ts → IsRowOn at is (length ts) t → AreSameStates ss ts
+pub passed_one : {R : Type 0} (at : R → Slots) (is : R → Type 0) (f : R → Ends → RowAfter R) (ss ts : List BodyState) (r t : R) (given : Vec2) → ts ≡ after at f ss r → t ≡ (visit_of at f ss r).row
+    → given ≡ got (ends_of at ss r) (visit_of at f ss r).ends → AreAllStates ts → IsRowOn at is (length ts) t → AreSameStates ss ts
     → total ts ≡ plus (total ss) given → IsPassed at is f ss (r ∷ []) ts (t ∷ []) given
 passed_one {R} at is f ss ts r t given are row_is got_is all below same sum = record {
   states = are;
   rows_are = ap (λ (k : R). k ∷ []) row_is;
-  share_is = got_is ∙ sym (plus_zero (got (ends_of at ss r) (turn_of at f ss r).ends));
+  share_is = got_is ∙ sym (plus_zero (got (ends_of at ss r) (visit_of at f ss r).ends));
   all_states = all;
   all_rows = one_of (IsRowOn at is (length ts)) t below;
   same = same;
   momentum = sum;
 }
 
-pub passed_alike : {R : Type 0} (at : R → Slots) (is : R → Type 0) (f : R → Ends → RowAfter R) (ss ts : List BodyState) (rows old turned new : List R) (given : Vec2) → old ≡ rows → new ≡ turned → IsPassed at is f ss rows ts turned given → IsPassed at is f ss old ts new given
-passed_alike {R} at is f ss ts rows old turned new given e h known =
+pub passed_alike : {R : Type 0} (at : R → Slots) (is : R → Type 0) (f : R → Ends → RowAfter R) (ss ts : List BodyState) (rows old visited new : List R) (given : Vec2) → old ≡ rows → new ≡ visited → IsPassed at is f ss rows ts visited given → IsPassed at is f ss old ts new given
+passed_alike {R} at is f ss ts rows old visited new given e h known =
     subst (λ (l : List R). IsPassed at is f ss l ts new given) (sym e) (subst (λ (l : List R). IsPassed at is f ss rows ts l given) (sym h) known)
 
 -- one row more of those from n on
@@ -112,8 +112,8 @@ passed_more {R} at is f ss ts us n i all rows r t given extra low h there here s
     (passed_on at is f ss ts us (between n i all) (r ∷ []) (between n i rows) (t ∷ []) given extra first next)
 
 -- what changes the total of so few bodies is small
-pub passed_small : {R : Type 0} (at : R → Slots) (is : R → Type 0) (f : R → Ends → RowAfter R) (ss ts : List BodyState) (rows turned : List R) (g : Gain) → length ss ≤ MAX_SLOTS → AreAllStates ss → IsPassed at is f ss rows ts turned (as_vector g) → IsGain (2 ^ 78) g
-passed_small at is f ss ts rows turned g few all known =
+pub passed_small : {R : Type 0} (at : R → Slots) (is : R → Type 0) (f : R → Ends → RowAfter R) (ss ts : List BodyState) (rows visited : List R) (g : Gain) → length ss ≤ MAX_SLOTS → AreAllStates ss → IsPassed at is f ss rows ts visited (as_vector g) → IsGain (2 ^ 78) g
+passed_small at is f ss ts rows visited g few all known =
     let still : length ts ≤ MAX_SLOTS = omega (arith, few, known.same.long) in
     let within = given-small ss ts (as_vector g) all known.all_states few still known.momentum in
     record { x = within.x; y = within.y }

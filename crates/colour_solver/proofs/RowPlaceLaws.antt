@@ -8,8 +8,8 @@ use Rattle.colour_solver_base.specs.declared.row.ContactRow.{ContactRow}
 use Rattle.colour_solver.specs.declared.colour_rows.RowPlace.{RowPlace}
 use Rattle.colour_solver.specs.declared.constraint_row.ConstraintRow.{ConstraintRow}
 use Rattle.colour_solver.specs.declared.constraint_row.ConstraintRow.TheVariants.{Joint, Contact}
-use Rattle.colour_solver.specs.Turns.{between}
-use Rattle.colour_solver.specs.ConstraintTurns.{contact_in, contacts_among, is_joint, joint_in, joints_among}
+use Rattle.colour_solver.specs.RowVisits.{between}
+use Rattle.colour_solver.specs.ConstraintVisits.{contact_in, contacts_among, is_joint, joint_in, joints_among}
 use Rattle.colour_solver.specs.ColourRows.{AreEnds, IsPlace, colours_of, cut, each_joints_first, joints_first, last_end, left_of, rows_kept, rows_left}
 use Rattle.colour_solver.proofs.ColourRowLaws.{cut_count, cut_long, drop-long, ends_taken, last_low}
 use Rattle.colour_solver.proofs.KindLaws.{joints_first_contacts, joints_first_joints}

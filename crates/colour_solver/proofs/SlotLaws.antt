@@ -10,23 +10,23 @@ use Rattle.colour_solver_base.specs.declared.row.PointRow.{PointRow}
 use Rattle.colour_solver_base.specs.declared.solve.PointAfter.{PointAfter}
 use Rattle.colour_solver_base.specs.RowsAfter.{RowAfter}
 use Rattle.colour_solver_base.specs.Rows.{after_first, at_points, point_bounced, point_solved, point_warmed, row_bounced, row_solved, row_warmed, then_second}
-use Rattle.colour_solver.specs.declared.turns.Slots.{Slots}
+use Rattle.colour_solver.specs.declared.row_visits.Slots.{Slots}
 use Rattle.colour_solver.specs.declared.constraint_row.ConstraintRow.{ConstraintRow}
 use Rattle.colour_solver.specs.declared.constraint_row.ConstraintRow.TheVariants.{Contact, Joint}
 use Rattle.colour_solver.specs.declared.phase.Phase.{Phase}
 use Rattle.colour_solver.specs.declared.phase.Phase.TheVariants.{Bounce, Solve, Warm}
-use Rattle.colour_solver.specs.ConstraintTurns.{constraint_slots, constraint_solved, constraint_warmed, contact_slots, is_joint, joint_slots, turned_joint}
-use Rattle.colour_solver.specs.Phases.{constraint_turn}
+use Rattle.colour_solver.specs.ConstraintVisits.{constraint_slots, constraint_solved, constraint_warmed, contact_slots, is_joint, joint_slots, visited_joint}
+use Rattle.colour_solver.specs.Phases.{constraint_visit}
 use Rattle.colour_solver.specs.Ticks.{Run, tick, ticks}
-use Rattle.colour_solver.specs.Turns.{after, ends_of, rows_passed}
+use Rattle.colour_solver.specs.RowVisits.{after, ends_of, rows_passed}
 
 -- ---- the slots of one row
 
-joint_warmed_slots : (r : JointRow) (e : Ends) → joint_slots (turned_joint (joint_warmed r e)).row ≡ joint_slots r
+joint_warmed_slots : (r : JointRow) (e : Ends) → joint_slots (visited_joint (joint_warmed r e)).row ≡ joint_slots r
 unfolding joint_warmed
 joint_warmed_slots r e = refl
 
-joint_solved_slots : (r : JointRow) (e : Ends) → joint_slots (turned_joint (joint_solved r e)).row ≡ joint_slots r
+joint_solved_slots : (r : JointRow) (e : Ends) → joint_slots (visited_joint (joint_solved r e)).row ≡ joint_slots r
 unfolding joint_solved
 joint_solved_slots r e = refl
 
@@ -50,13 +50,13 @@ unfolding row_bounced
 contact_bounced_slots r e = points_slots (point_bounced r.bodies.restitution) r e
 
 -- a turn leaves a row's bodies where they stand
-pub turn_slots : (phase : Phase) (r : ConstraintRow) (e : Ends) → constraint_slots (constraint_turn phase r e).row ≡ constraint_slots r
-turn_slots Warm (Joint r) e = joint_warmed_slots r e
-turn_slots Warm (Contact r) e = contact_warmed_slots r e
-turn_slots Solve (Joint r) e = joint_solved_slots r e
-turn_slots Solve (Contact r) e = contact_solved_slots r e
-turn_slots Bounce (Joint r) e = refl
-turn_slots Bounce (Contact r) e = contact_bounced_slots r e
+pub visit_slots : (phase : Phase) (r : ConstraintRow) (e : Ends) → constraint_slots (constraint_visit phase r e).row ≡ constraint_slots r
+visit_slots Warm (Joint r) e = joint_warmed_slots r e
+visit_slots Warm (Contact r) e = contact_warmed_slots r e
+visit_slots Solve (Joint r) e = joint_solved_slots r e
+visit_slots Solve (Contact r) e = contact_solved_slots r e
+visit_slots Bounce (Joint r) e = refl
+visit_slots Bounce (Contact r) e = contact_bounced_slots r e
 
 -- ---- a pass
 
@@ -67,9 +67,9 @@ passed_same {R} {X} at f k same ss (r ∷ rs) = ap₂ (λ (x : X) (l : List X). 
 
 -- ---- the kinds of the rows of a step
 
-pub turn_kind : (phase : Phase) (r : ConstraintRow) (e : Ends) → is_joint (constraint_turn phase r e).row ≡ is_joint r
-turn_kind phase (Joint r) e = refl
-turn_kind phase (Contact r) e = refl
+pub visit_kind : (phase : Phase) (r : ConstraintRow) (e : Ends) → is_joint (constraint_visit phase r e).row ≡ is_joint r
+visit_kind phase (Joint r) e = refl
+visit_kind phase (Contact r) e = refl
 
 warmed_kind : (r : ConstraintRow) (e : Ends) → is_joint (constraint_warmed r e).row ≡ is_joint r
 warmed_kind (Joint r) e = refl

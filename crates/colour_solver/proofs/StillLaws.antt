@@ -4,16 +4,16 @@ use Rattle.std.specs.List.{flat_map, slice_get}
 use Rattle.std.proofs.lemmas.List.{append_assoc, length-map, map-append}
 use Rattle.std.proofs.lemmas.List.Elements.{All-cons, All-head, All-nil, All-tail, All-weaker}
 use Rattle.momenta.specs.declared.state.BodyState.{BodyState}
-use Rattle.colour_solver.specs.declared.turns.Slots.{Slots}
+use Rattle.colour_solver.specs.declared.row_visits.Slots.{Slots}
 use Rattle.colour_solver.specs.declared.constraint_row.ConstraintRow.{ConstraintRow}
 use Rattle.colour_solver.specs.declared.phase.Phase.{Phase}
 use Rattle.colour_solver.specs.Colour.{AreColours, IsColour, is_mover}
 use Rattle.colour_solver.specs.ColourRows.{ColourRows, all_rows}
-use Rattle.colour_solver.specs.ConstraintTurns.{constraint_slots}
-use Rattle.colour_solver.specs.Phases.{constraint_turn}
+use Rattle.colour_solver.specs.ConstraintVisits.{constraint_slots}
+use Rattle.colour_solver.specs.Phases.{constraint_visit}
 use Rattle.colour_solver.specs.States.{AreSameBeside, AreSameStates}
-use Rattle.colour_solver.specs.Turns.{rows_passed}
-use Rattle.colour_solver.proofs.SlotLaws.{passed_same, turn_slots}
+use Rattle.colour_solver.specs.RowVisits.{rows_passed}
+use Rattle.colour_solver.proofs.SlotLaws.{passed_same, visit_slots}
 
 -- ---- the same bodies move
 
@@ -49,23 +49,23 @@ record WasThere {R : Type 0} (at : R → Slots) (rows : List R) (i : ℕ) (now :
   pub there : slice_get rows i ≡ Some row
   pub same : at row ≡ at now
 
-stood : {R : Type 0} (at : R → Slots) (rows turned : List R) (i : ℕ) (now : R) → map at turned ≡ map at rows → slice_get turned i ≡ Some now → WasThere at rows i now
+stood : {R : Type 0} (at : R → Slots) (rows visited : List R) (i : ℕ) (now : R) → map at visited ≡ map at rows → slice_get visited i ≡ Some now → WasThere at rows i now
 stood at [] [] i now same here = absurd (cc here)
-stood at [] (t ∷ turned) i now same here = absurd (cc same)
+stood at [] (t ∷ visited) i now same here = absurd (cc same)
 stood at (r ∷ rows) [] i now same here = absurd (cc same)
-stood at (r ∷ rows) (t ∷ turned) zero now same here =
+stood at (r ∷ rows) (t ∷ visited) zero now same here =
     let first : at t ≡ at r = cc same in
     let is : t ≡ now = cc here in
     record { row = r; there = refl; same = sym first ∙ ap at is }
-stood at (r ∷ rows) (t ∷ turned) (suc i) now same here =
-    let rest : map at turned ≡ map at rows = cc same in
-    let known = stood at rows turned i now rest here in
+stood at (r ∷ rows) (t ∷ visited) (suc i) now same here =
+    let rest : map at visited ≡ map at rows = cc same in
+    let known = stood at rows visited i now rest here in
     record { row = known.row; there = known.there; same = known.same }
 
-colour_alike : {R : Type 0} (at : R → Slots) (ss : List BodyState) (rows turned : List R) → map at turned ≡ map at rows → IsColour at ss rows → IsColour at ss turned
-colour_alike at ss rows turned same is = λ i j r e lt here there.
-    let first = stood at rows turned i r same here in
-    let second = stood at rows turned j e same there in
+colour_alike : {R : Type 0} (at : R → Slots) (ss : List BodyState) (rows visited : List R) → map at visited ≡ map at rows → IsColour at ss rows → IsColour at ss visited
+colour_alike at ss rows visited same is = λ i j r e lt here there.
+    let first = stood at rows visited i r same here in
+    let second = stood at rows visited j e same there in
     let none = is i j first.row second.row lt first.there second.there in
     record {
       a_a = rw (← first.same, ← second.same) none.a_a;
@@ -113,9 +113,9 @@ colours_alike {R} at ss (o ∷ old) (n ∷ new) left rest long same all =
     (colours_alike at ss old new left rest more (back_same (map at n) (map at o) _ _ as_many parts) (All-tail (IsColour at ss) o old all))
 
 -- after a pass
-pub colours_passed : (phase : Phase) (ss ts : List BodyState) (old new : ColourRows ConstraintRow) → AreSameStates ss ts → map length new.colours ≡ map length old.colours → all_rows new ≡ rows_passed constraint_slots (constraint_turn phase) ss (all_rows old)
+pub colours_passed : (phase : Phase) (ss ts : List BodyState) (old new : ColourRows ConstraintRow) → AreSameStates ss ts → map length new.colours ≡ map length old.colours → all_rows new ≡ rows_passed constraint_slots (constraint_visit phase) ss (all_rows old)
     → AreColours ss old → AreColours ts new
 colours_passed phase ss ts old new same long are all =
     let slots : map constraint_slots (all_rows new) ≡ map constraint_slots (all_rows old) =
-    ap (map constraint_slots) are ∙ passed_same constraint_slots (constraint_turn phase) constraint_slots (turn_slots phase) ss (all_rows old) in
+    ap (map constraint_slots) are ∙ passed_same constraint_slots (constraint_visit phase) constraint_slots (visit_slots phase) ss (all_rows old) in
     colours_same ss ts new same (colours_alike constraint_slots ss old.colours new.colours old.left new.left long slots all)

@@ -4,14 +4,14 @@ use Rattle.std.proofs.lemmas.Bool.{cases_Bool}
 use Rattle.std.proofs.lemmas.Int.{ints}
 use Rattle.fixed_geom.specs.Vectors.{minus, plus}
 use Rattle.fixed_geom.specs.declared.vectors.Vec2.{Vec2}
-use Rattle.momenta.specs.Impulses.{IsState}
+use Rattle.momenta.specs.ImpulseBounds.{IsState}
 use Rattle.momenta.specs.Motions.{IsMotion}
 use Rattle.momenta.specs.declared.mass.MassData.{MassData}
 use Rattle.momenta.specs.declared.motion.Motion.{Motion}
 use Rattle.momenta.specs.declared.state.BodyState.{BodyState}
 use Rattle.colour_solver.specs.States.{AreAllStates, momentum_of, total}
 use Rattle.colour_solver.specs.declared.constraint_row.ConstraintRow.{ConstraintRow}
-use Rattle.colour_solver.specs.ConstraintTurns.{AreRowsBelow}
+use Rattle.colour_solver.specs.ConstraintVisits.{AreRowsBelow}
 use Rattle.colour_solver.specs.Passes.{OnMover, OnMovers, changed, gain, pass}
 use Rattle.colour_solver.proofs.VectorLaws.{same_vector, same_x, same_y}
 

@@ -6,7 +6,7 @@ use Rattle.colour_solver_base.specs.declared.row.ContactRow.{ContactRow}
 use Rattle.colour_solver.specs.declared.constraint_row.ConstraintRow.{ConstraintRow}
 use Rattle.colour_solver.specs.declared.constraint_row.ConstraintRow.TheVariants.{Joint, Contact}
 use Rattle.colour_solver.specs.declared.colour_rows.RowPlace.{RowPlace}
-use Rattle.colour_solver.specs.ConstraintTurns.{contacts_among, joints_among}
+use Rattle.colour_solver.specs.ConstraintVisits.{contacts_among, joints_among}
 
 -- what contracts see: the rows of each colour, those of the colour that hasn't ended yet, and for how many more rows and colours there is room
 pub record ColourRows (R : Type 0) : Type 0 where

@@ -1,8 +1,8 @@
 pub mod Masses
 pub mod States
 pub mod Passes
-pub mod Turns
-pub mod ConstraintTurns
+pub mod RowVisits
+pub mod ConstraintVisits
 pub mod ColourRows
 pub mod Ticks
 pub mod Colour

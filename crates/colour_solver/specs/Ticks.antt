@@ -12,9 +12,9 @@ use Rattle.colour_solver_base.specs.RowsAfter.{RowAfter}
 use Rattle.colour_solver.specs.declared.constraint_row.ConstraintRow.{ConstraintRow}
 use Rattle.colour_solver.specs.declared.ticks.StepSums.{StepSums}
 use Rattle.colour_solver.specs.Passes.{carry, pass, gain}
-use Rattle.colour_solver.specs.ConstraintTurns.{constraint_bounced, constraint_slots, constraint_solved, constraint_warmed}
+use Rattle.colour_solver.specs.ConstraintVisits.{constraint_bounced, constraint_slots, constraint_solved, constraint_warmed}
 use Rattle.colour_solver.specs.States.{as_vector}
-use Rattle.colour_solver.specs.Turns.{passed, rows_passed, share}
+use Rattle.colour_solver.specs.RowVisits.{passed, rows_passed, share}
 
 -- the bodies and the constraints, and what gravity, immovable bodies, and the speed limit with the edge of the world have added since
 -- the step began
@@ -40,8 +40,8 @@ clamp_all f r = record r {
 }
 
 -- a pass over the constraints; what immovable bodies give is booked as Immovable
-abbrev pub turn_all : (ConstraintRow → Ends → RowAfter ConstraintRow) → Run → Run
-turn_all f r = record r {
+abbrev pub visit_all : (ConstraintRow → Ends → RowAfter ConstraintRow) → Run → Run
+visit_all f r = record r {
   states = passed constraint_slots f r.states r.rows;
   rows = rows_passed constraint_slots f r.states r.rows;
   immovable = plus r.immovable (share constraint_slots f r.states r.rows);
@@ -53,7 +53,7 @@ carry_all r = record r { states = carry r.states }
 
 -- gravity, the speed limit, the warm start, the solver's pass, the speed limit again, the move, and what is carried along
 unfoldable pub tick : Vec2 → Run → Run
-tick g r = carry_all (clamp_all advanced (clamp_all speed_clamped (turn_all constraint_solved (turn_all constraint_warmed (clamp_all speed_clamped (pull_all g r))))))
+tick g r = carry_all (clamp_all advanced (clamp_all speed_clamped (visit_all constraint_solved (visit_all constraint_warmed (clamp_all speed_clamped (pull_all g r))))))
 
 abbrev pub ticks : ℕ → Vec2 → Run → Run
 ticks zero g r = r
@@ -61,7 +61,7 @@ ticks (suc n) g r = tick g (ticks n g r)
 
 -- all ticks, and then the restitution
 unfoldable pub ran : ℕ → Vec2 → Run → Run
-ran n g r = turn_all constraint_bounced (ticks n g r)
+ran n g r = visit_all constraint_bounced (ticks n g r)
 
 abbrev pub start : List BodyState → List ConstraintRow → Run
 start states rows = record { states = states; rows = rows; gravity = zero_vector; immovable = zero_vector; clamp = zero_vector }

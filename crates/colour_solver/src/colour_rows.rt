@@ -7,12 +7,12 @@ ghost use Rattle.joint_rows.specs.Rows.{IsJointRow};
 ghost use Rattle.colour_solver_base.specs.Rows.{IsRow};
 ghost use Rattle.momenta.specs.Gains.{IsGain};
 ghost use Rattle.colour_solver.specs.States.{AreAllStates, AreSameStates, as_vector, total};
-ghost use Rattle.colour_solver.specs.Turns.{AreRowsOn, IsPassed, between, passed, rows_passed, share};
-ghost use Rattle.colour_solver.specs.ConstraintTurns.{AreRowsBelow, IsConstraintRow, both_turns, constraint_slots, contact_slots, contacts_among, is_joint, joint_slots, joints_among};
+ghost use Rattle.colour_solver.specs.RowVisits.{AreRowsOn, IsPassed, between, passed, rows_passed, share};
+ghost use Rattle.colour_solver.specs.ConstraintVisits.{AreRowsBelow, IsConstraintRow, both_visits, constraint_slots, contact_slots, contacts_among, is_joint, joint_slots, joints_among};
 ghost use Rattle.colour_solver.specs.declared.constraint_row.ConstraintRow.TheVariants.{Joint, Contact};
 ghost use Rattle.colour_solver.specs.ColourRows.{AreEnds, IsPlace, all_rows, cut, joints_first, last_end, left_of, rows_kept};
 
-use crate::{ConstraintRow, Turn, pass_rows};
+use crate::{ConstraintRow, Visit, pass_rows};
 use body_handles::MAX_SLOTS;
 use colour_solver_base::ContactRow;
 use fixed_geom::Refusal;
@@ -144,14 +144,14 @@ fn contacts_behind<'a>(contacts: &'a [ContactRow], ends: &[ColourEnd]) -> &'a [C
 
 /// One pass over the rows of a colour: over its joints, and then over its contacts.
 #[inline(always)]
-fn pass_colour<J: Turn<JointRow>, C: Turn<ContactRow>>(
+fn pass_colour<J: Visit<JointRow>, C: Visit<ContactRow>>(
     states: &mut Vec<BodyState>,
     joints: &mut Vec<JointRow>,
     contacts: &mut Vec<ContactRow>,
     start: ColourEnd,
     end: ColourEnd,
-    joint_turn: &J,
-    contact_turn: &C,
+    joint_visit: &J,
+    contact_visit: &C,
 ) -> Gain
     requires few { length states.old.items ≤ MAX_SLOTS }
     requires states { AreAllStates states.old.items }
@@ -161,7 +161,7 @@ fn pass_colour<J: Turn<JointRow>, C: Turn<ContactRow>>(
     requires contacts_end { end.contacts ≤ length contacts.old.items }
     requires joints { AreRowsOn joint_slots IsJointRow (length states.old.items) joints.old.items }
     requires contacts { AreRowsOn contact_slots IsRow (length states.old.items) contacts.old.items }
-    ensures passed { IsPassed constraint_slots IsConstraintRow (both_turns (J.turn joint_turn.now) (C.turn contact_turn.now)) states.old.items (joints_first (between start.joints end.joints joints.old.items) (between start.contacts end.contacts contacts.old.items)) states.new.items (joints_first (between start.joints end.joints joints.new.items) (between start.contacts end.contacts contacts.new.items)) (as_vector result) }
+    ensures passed { IsPassed constraint_slots IsConstraintRow (both_visits (J.visit joint_visit.now) (C.visit contact_visit.now)) states.old.items (joints_first (between start.joints end.joints joints.old.items) (between start.contacts end.contacts contacts.old.items)) states.new.items (joints_first (between start.joints end.joints joints.new.items) (between start.contacts end.contacts contacts.new.items)) (as_vector result) }
     ensures joints_before { take start.joints joints.new.items ≡ take start.joints joints.old.items }
     ensures joints_behind { drop end.joints joints.new.items ≡ drop end.joints joints.old.items }
     ensures contacts_before { take start.contacts contacts.new.items ≡ take start.contacts contacts.old.items }
@@ -172,19 +172,25 @@ fn pass_colour<J: Turn<JointRow>, C: Turn<ContactRow>>(
     ensures contacts { AreRowsOn contact_slots IsRow (length states.new.items) contacts.new.items }
     ensures small { IsGain (2 ^ 78) result }
 {
-    let by_joints = pass_rows(states, joints, start.joints, end.joints, joint_turn);
-    let by_contacts = pass_rows(states, contacts, start.contacts, end.contacts, contact_turn);
+    let by_joints = pass_rows(states, joints, start.joints, end.joints, joint_visit);
+    let by_contacts = pass_rows(
+        states,
+        contacts,
+        start.contacts,
+        end.contacts,
+        contact_visit,
+    );
     plus(by_joints, by_contacts)
 }
 
 /// One pass over all rows, colour after colour, and then over those of the colour that hasn't ended.
-fn pass_colours<J: Turn<JointRow>, C: Turn<ContactRow>>(
+fn pass_colours<J: Visit<JointRow>, C: Visit<ContactRow>>(
     states: &mut Vec<BodyState>,
     joints: &mut Vec<JointRow>,
     contacts: &mut Vec<ContactRow>,
     ends: &[ColourEnd],
-    joint_turn: &J,
-    contact_turn: &C,
+    joint_visit: &J,
+    contact_visit: &C,
 ) -> Gain
     requires few { length states.old.items ≤ MAX_SLOTS }
     requires states { AreAllStates states.old.items }
@@ -192,7 +198,7 @@ fn pass_colours<J: Turn<JointRow>, C: Turn<ContactRow>>(
     requires contact_ends { AreEnds 0 (map (λ e. e.contacts) ends.now) (length contacts.old.items) }
     requires joints { AreRowsOn joint_slots IsJointRow (length states.old.items) joints.old.items }
     requires contacts { AreRowsOn contact_slots IsRow (length states.old.items) contacts.old.items }
-    ensures passed { IsPassed constraint_slots IsConstraintRow (both_turns (J.turn joint_turn.now) (C.turn contact_turn.now)) states.old.items (rows_kept (map (λ e. e.joints) ends.now) (map (λ e. e.contacts) ends.now) joints.old.items contacts.old.items) states.new.items (rows_kept (map (λ e. e.joints) ends.now) (map (λ e. e.contacts) ends.now) joints.new.items contacts.new.items) (as_vector result) }
+    ensures passed { IsPassed constraint_slots IsConstraintRow (both_visits (J.visit joint_visit.now) (C.visit contact_visit.now)) states.old.items (rows_kept (map (λ e. e.joints) ends.now) (map (λ e. e.contacts) ends.now) joints.old.items contacts.old.items) states.new.items (rows_kept (map (λ e. e.joints) ends.now) (map (λ e. e.contacts) ends.now) joints.new.items contacts.new.items) (as_vector result) }
     ensures as_many_joints { length joints.new.items ≡ length joints.old.items }
     ensures as_many_contacts { length contacts.new.items ≡ length contacts.old.items }
     ensures small { IsGain (2 ^ 78) result }
@@ -209,8 +215,8 @@ fn pass_colours<J: Turn<JointRow>, C: Turn<ContactRow>>(
             contacts,
             start,
             *end,
-            joint_turn,
-            contact_turn,
+            joint_visit,
+            contact_visit,
         );
         given = plus(given, got);
         start = *end;
@@ -225,8 +231,8 @@ fn pass_colours<J: Turn<JointRow>, C: Turn<ContactRow>>(
         contacts,
         start,
         end,
-        joint_turn,
-        contact_turn,
+        joint_visit,
+        contact_visit,
     );
     plus(given, last)
 }
@@ -387,19 +393,19 @@ impl Rows {
 
     /// One pass over all rows in solve order, the one turn made of joints and the other of contacts, each with the bodies as those before
     /// it left them; each row stays in its colour. Answers what immovable bodies have given to the movers (mass·u/tick).
-    pub fn pass<J: Turn<JointRow>, C: Turn<ContactRow>>(
+    pub fn pass<J: Visit<JointRow>, C: Visit<ContactRow>>(
         &mut self,
         states: &mut Vec<BodyState>,
-        joint_turn: &J,
-        contact_turn: &C,
+        joint_visit: &J,
+        contact_visit: &C,
     ) -> Gain
         requires few { length states.old.items ≤ MAX_SLOTS }
         requires states { AreAllStates states.old.items }
         requires rows { AreRowsBelow (length states.old.items) (all_rows self.old) }
-        ensures states { states.new.items ≡ passed constraint_slots (both_turns (J.turn joint_turn.now) (C.turn contact_turn.now)) states.old.items (all_rows self.old) }
-        ensures rows { all_rows self.new ≡ rows_passed constraint_slots (both_turns (J.turn joint_turn.now) (C.turn contact_turn.now)) states.old.items (all_rows self.old) }
+        ensures states { states.new.items ≡ passed constraint_slots (both_visits (J.visit joint_visit.now) (C.visit contact_visit.now)) states.old.items (all_rows self.old) }
+        ensures rows { all_rows self.new ≡ rows_passed constraint_slots (both_visits (J.visit joint_visit.now) (C.visit contact_visit.now)) states.old.items (all_rows self.old) }
         ensures colours { map length self.new.colours ≡ map length self.old.colours }
-        ensures share { as_vector result ≡ share constraint_slots (both_turns (J.turn joint_turn.now) (C.turn contact_turn.now)) states.old.items (all_rows self.old) }
+        ensures share { as_vector result ≡ share constraint_slots (both_visits (J.visit joint_visit.now) (C.visit contact_visit.now)) states.old.items (all_rows self.old) }
         ensures all_states { AreAllStates states.new.items }
         ensures all_rows { AreRowsBelow (length states.new.items) (all_rows self.new) }
         ensures long { length states.new.items ≡ length states.old.items }
@@ -412,8 +418,8 @@ impl Rows {
             &mut self.joints,
             &mut self.contacts,
             &self.ends,
-            joint_turn,
-            contact_turn,
+            joint_visit,
+            contact_visit,
         )
     }
 }

@@ -5,10 +5,10 @@ ghost use Rattle.fixed_geom.specs.Vectors.{plus};
 ghost use Rattle.momenta.specs.Gains.{IsGain};
 ghost use Rattle.colour_solver.specs.Colour.{AreColours};
 ghost use Rattle.colour_solver.specs.ColourRows.{ColourRows, all_rows};
-ghost use Rattle.colour_solver.specs.ConstraintTurns.{AreRowsBelow, constraint_slots};
-ghost use Rattle.colour_solver.specs.Phases.{constraint_turn};
+ghost use Rattle.colour_solver.specs.ConstraintVisits.{AreRowsBelow, constraint_slots};
+ghost use Rattle.colour_solver.specs.Phases.{constraint_visit};
 ghost use Rattle.colour_solver.specs.States.{AreAllStates, AreSameStates, as_vector, total};
-ghost use Rattle.colour_solver.specs.Turns.{passed, rows_passed, share};
+ghost use Rattle.colour_solver.specs.RowVisits.{passed, rows_passed, share};
 ghost use Rattle.colour_solver.specs.declared.constraint_row.ConstraintRow.{ConstraintRow as TheConstraintRow};
 
 use crate::{Bounce, Phase, Rows, Solve, Warm};
@@ -31,10 +31,10 @@ pub trait Passes {
         requires rows { AreRowsBelow (length states.old.items) (all_rows (rows self.old)) }
         requires colours { AreColours states.old.items (rows self.old) }
         requires fits { fits self.old (length states.old.items) }
-        ensures states { states.new.items ≡ passed constraint_slots (constraint_turn phase) states.old.items (all_rows (rows self.old)) }
-        ensures rows { all_rows (rows self.new) ≡ rows_passed constraint_slots (constraint_turn phase) states.old.items (all_rows (rows self.old)) }
+        ensures states { states.new.items ≡ passed constraint_slots (constraint_visit phase) states.old.items (all_rows (rows self.old)) }
+        ensures rows { all_rows (rows self.new) ≡ rows_passed constraint_slots (constraint_visit phase) states.old.items (all_rows (rows self.old)) }
         ensures counts { map length (rows self.new).colours ≡ map length (rows self.old).colours }
-        ensures share { as_vector result ≡ share constraint_slots (constraint_turn phase) states.old.items (all_rows (rows self.old)) }
+        ensures share { as_vector result ≡ share constraint_slots (constraint_visit phase) states.old.items (all_rows (rows self.old)) }
         ensures all_states { AreAllStates states.new.items }
         ensures all_rows { AreRowsBelow (length states.new.items) (all_rows (rows self.new)) }
         ensures colours { AreColours states.new.items (rows self.new) }

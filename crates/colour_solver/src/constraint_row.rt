@@ -3,7 +3,7 @@
 ghost use Rattle.std.specs.Prelude.{◌≡◌};
 ghost use Rattle.joint_rows.specs.Rows.{IsJointRow};
 ghost use Rattle.colour_solver_base.specs.Rows.{IsRow};
-ghost use Rattle.colour_solver.specs.ConstraintTurns.{IsConstraintRow, constraint_slots, contact_slots, joint_slots};
+ghost use Rattle.colour_solver.specs.ConstraintVisits.{IsConstraintRow, constraint_slots, contact_slots, joint_slots};
 
 use crate::{Row, Slots};
 use colour_solver_base::ContactRow;

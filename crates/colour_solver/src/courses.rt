@@ -1,7 +1,7 @@
 //! Bodies that are carried along: no impulse moves them, and each tick moves them on by a velocity and a spin of their own.
 
 ghost use Rattle.std.specs.Prelude.{◌≡◌, true};
-ghost use Rattle.momenta.specs.Impulses.{IsState};
+ghost use Rattle.momenta.specs.ImpulseBounds.{IsState};
 ghost use Rattle.colour_solver.specs.States.{AreAllStates, HasCourse, HaveCourses, carried_of, is_carried};
 ghost use Rattle.colour_solver.specs.Passes.{carried_along, carry};
 

@@ -10,20 +10,20 @@
 pub mod colour_rows;
 pub mod constraint_passes;
 pub mod constraint_row;
-pub mod constraint_turns;
+pub mod constraint_visits;
 mod courses;
 pub mod passes;
 pub mod phase;
+pub mod row_visits;
 pub mod step_solver;
 pub mod ticks;
-pub mod turns;
 
 pub use colour_rows::{RowPlace, Rows};
 pub use constraint_passes::Passes;
 pub use constraint_row::ConstraintRow;
-pub use constraint_turns::{Bounce, Solve, Warm};
+pub use constraint_visits::{Bounce, Solve, Warm};
 pub use passes::{Change, Gains, pass_two};
 pub use phase::Phase;
+pub use row_visits::{Row, Slots, Visit, colours_at_once, pass_rows, solve_one};
 pub use step_solver::{OneThread, StepSolver};
 pub use ticks::{StepSums, run_step, run_ticks};
-pub use turns::{Row, Slots, Turn, colours_at_once, pass_rows, solve_one};

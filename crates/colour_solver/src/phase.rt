@@ -3,15 +3,15 @@
 
 ghost use Rattle.std.specs.Prelude.{◌≡◌, true, None, IfSome};
 ghost use Rattle.momenta.specs.declared.state.Ends.{Ends};
-ghost use Rattle.momenta.specs.Impulses.{AreSameBodies, AreStates, IsMomentumKept, IsState};
+ghost use Rattle.momenta.specs.ImpulseBounds.{AreSameBodies, AreStates, IsMomentumKept, IsState};
 ghost use Rattle.joint_rows.specs.Rows.{IsJointRow};
 ghost use Rattle.momenta.specs.Line64.{both_ends};
 ghost use Rattle.colour_solver_base.specs.Rows.{IsRow};
-ghost use Rattle.colour_solver.specs.ConstraintTurns.{contact_slots, joint_slots};
-ghost use Rattle.colour_solver.specs.Turns.{IsTurn64};
-ghost use Rattle.colour_solver.specs.Phases.{constraint_turn, contact_turn, joint_turn};
+ghost use Rattle.colour_solver.specs.ConstraintVisits.{contact_slots, joint_slots};
+ghost use Rattle.colour_solver.specs.RowVisits.{IsVisit64};
+ghost use Rattle.colour_solver.specs.Phases.{constraint_visit, contact_visit, joint_visit};
 
-use crate::{Bounce, ConstraintRow, Solve, Turn, Warm};
+use crate::{Bounce, ConstraintRow, Solve, Visit, Warm};
 use colour_solver_base::ContactRow;
 use joint_rows::JointRow;
 use momenta::{BodyState, Ends, MomentaPair64};
@@ -28,7 +28,7 @@ pub enum Phase {
 }
 
 fn idle_joint(phase: Phase, row: &JointRow) -> bool
-    ensures { result ≡ true → (e : Ends) → AreStates e → joint_turn phase row.now e ≡ record { row = row.now; ends = e } }
+    ensures { result ≡ true → (e : Ends) → AreStates e → joint_visit phase row.now e ≡ record { row = row.now; ends = e } }
 {
     match phase {
         Phase::Warm => Warm.is_idle(row),
@@ -38,7 +38,7 @@ fn idle_joint(phase: Phase, row: &JointRow) -> bool
 }
 
 fn idle_contact(phase: Phase, row: &ContactRow) -> bool
-    ensures { result ≡ true → (e : Ends) → AreStates e → contact_turn phase row.now e ≡ record { row = row.now; ends = e } }
+    ensures { result ≡ true → (e : Ends) → AreStates e → contact_visit phase row.now e ≡ record { row = row.now; ends = e } }
 {
     match phase {
         Phase::Warm => Warm.is_idle(row),
@@ -52,14 +52,14 @@ fn joint_64(phase: Phase, row: &mut JointRow, a: &BodyState, b: &BodyState) -> O
     requires row { IsJointRow row.old }
     requires first { IsState a.now }
     requires second { IsState b.now }
-    ensures value { IfSome result (IsTurn64 IsJointRow (joint_turn phase row.old (both_ends a.now b.now)) a.now b.now row.new) }
+    ensures value { IfSome result (IsVisit64 IsJointRow (joint_visit phase row.old (both_ends a.now b.now)) a.now b.now row.new) }
     ensures slots { joint_slots row.new ≡ joint_slots row.old }
     ensures none { result ≡ None → row.new ≡ row.old }
 {
     match phase {
-        Phase::Warm => Warm.turn_64(row, a, b),
-        Phase::Solve => Solve.turn_64(row, a, b),
-        Phase::Bounce => Bounce.turn_64(row, a, b),
+        Phase::Warm => Warm.visit_64(row, a, b),
+        Phase::Solve => Solve.visit_64(row, a, b),
+        Phase::Bounce => Bounce.visit_64(row, a, b),
     }
 }
 
@@ -73,21 +73,21 @@ fn contact_64(
     requires row { IsRow row.old }
     requires first { IsState a.now }
     requires second { IsState b.now }
-    ensures value { IfSome result (IsTurn64 IsRow (contact_turn phase row.old (both_ends a.now b.now)) a.now b.now row.new) }
+    ensures value { IfSome result (IsVisit64 IsRow (contact_visit phase row.old (both_ends a.now b.now)) a.now b.now row.new) }
     ensures slots { contact_slots row.new ≡ contact_slots row.old }
     ensures none { result ≡ None → row.new ≡ row.old }
 {
     match phase {
-        Phase::Warm => Warm.turn_64(row, a, b),
-        Phase::Solve => Solve.turn_64(row, a, b),
-        Phase::Bounce => Bounce.turn_64(row, a, b),
+        Phase::Warm => Warm.visit_64(row, a, b),
+        Phase::Solve => Solve.visit_64(row, a, b),
+        Phase::Bounce => Bounce.visit_64(row, a, b),
     }
 }
 
-fn turn_joint(phase: Phase, row: &mut JointRow, ends: &mut Ends)
+fn visit_joint(phase: Phase, row: &mut JointRow, ends: &mut Ends)
     requires row { IsJointRow row.old }
     requires states { AreStates ends.old }
-    ensures value { record { row = row.new; ends = ends.new } ≡ joint_turn phase row.old ends.old }
+    ensures value { record { row = row.new; ends = ends.new } ≡ joint_visit phase row.old ends.old }
     ensures row { IsJointRow row.new }
     ensures states { AreStates ends.new }
     ensures slots { joint_slots row.new ≡ joint_slots row.old }
@@ -95,16 +95,16 @@ fn turn_joint(phase: Phase, row: &mut JointRow, ends: &mut Ends)
     ensures kept { IsMomentumKept ends.old ends.new }
 {
     match phase {
-        Phase::Warm => Warm.turn(row, ends),
-        Phase::Solve => Solve.turn(row, ends),
-        Phase::Bounce => Bounce.turn(row, ends),
+        Phase::Warm => Warm.visit(row, ends),
+        Phase::Solve => Solve.visit(row, ends),
+        Phase::Bounce => Bounce.visit(row, ends),
     }
 }
 
-fn turn_contact(phase: Phase, row: &mut ContactRow, ends: &mut Ends)
+fn visit_contact(phase: Phase, row: &mut ContactRow, ends: &mut Ends)
     requires row { IsRow row.old }
     requires states { AreStates ends.old }
-    ensures value { record { row = row.new; ends = ends.new } ≡ contact_turn phase row.old ends.old }
+    ensures value { record { row = row.new; ends = ends.new } ≡ contact_visit phase row.old ends.old }
     ensures row { IsRow row.new }
     ensures states { AreStates ends.new }
     ensures slots { contact_slots row.new ≡ contact_slots row.old }
@@ -112,14 +112,14 @@ fn turn_contact(phase: Phase, row: &mut ContactRow, ends: &mut Ends)
     ensures kept { IsMomentumKept ends.old ends.new }
 {
     match phase {
-        Phase::Warm => Warm.turn(row, ends),
-        Phase::Solve => Solve.turn(row, ends),
-        Phase::Bounce => Bounce.turn(row, ends),
+        Phase::Warm => Warm.visit(row, ends),
+        Phase::Solve => Solve.visit(row, ends),
+        Phase::Bounce => Bounce.visit(row, ends),
     }
 }
 
-impl Turn<ConstraintRow> for Phase {
-    ghost turn = { λ t r e. constraint_turn t r e };
+impl Visit<ConstraintRow> for Phase {
+    ghost visit = { λ t r e. constraint_visit t r e };
 
     fn is_idle(&self, row: &ConstraintRow) -> bool {
         match row {
@@ -129,7 +129,7 @@ impl Turn<ConstraintRow> for Phase {
     }
 
     #[inline(always)]
-    fn turn_64(
+    fn visit_64(
         &self,
         row: &mut ConstraintRow,
         a: &BodyState,
@@ -141,10 +141,10 @@ impl Turn<ConstraintRow> for Phase {
         }
     }
 
-    fn turn(&self, row: &mut ConstraintRow, ends: &mut Ends) {
+    fn visit(&self, row: &mut ConstraintRow, ends: &mut Ends) {
         match row {
-            ConstraintRow::Joint(joint) => turn_joint(*self, joint, ends),
-            ConstraintRow::Contact(contact) => turn_contact(*self, contact, ends),
+            ConstraintRow::Joint(joint) => visit_joint(*self, joint, ends),
+            ConstraintRow::Contact(contact) => visit_contact(*self, contact, ends),
         }
     }
 }

@@ -5,7 +5,7 @@ ghost use Rattle.fixed_geom.specs.Vectors.{IsWithin, plus};
 ghost use Rattle.colour_solver.specs.States.{AreAllStates, AreSameBeside, HaveCourses, carried_of, movers_of, total};
 ghost use Rattle.colour_solver.specs.Colour.{AreColours};
 ghost use Rattle.colour_solver.specs.ColourRows.{all_rows};
-ghost use Rattle.colour_solver.specs.ConstraintTurns.{AreRowsBelow};
+ghost use Rattle.colour_solver.specs.ConstraintVisits.{AreRowsBelow};
 ghost use Rattle.colour_solver.specs.Ticks.{AreSums, added, ran, run_of, start};
 
 use crate::{Rows, StepSums, run_step};

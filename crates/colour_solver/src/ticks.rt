@@ -6,7 +6,7 @@ ghost use Rattle.momenta.specs.Motions.{pulled, speed_clamped, advanced, IsMotio
 ghost use Rattle.colour_solver.specs.States.{AreAllStates, AreSameBeside, HaveCourses, carried_of, movers_of, total};
 ghost use Rattle.colour_solver.specs.Colour.{AreColours};
 ghost use Rattle.colour_solver.specs.ColourRows.{all_rows};
-ghost use Rattle.colour_solver.specs.ConstraintTurns.{AreRowsBelow, is_joint};
+ghost use Rattle.colour_solver.specs.ConstraintVisits.{AreRowsBelow, is_joint};
 ghost use Rattle.colour_solver.specs.Ticks.{AreSums, CanLimit, CanMove, CanPull, added, ran, run_of, start, tick, ticks};
 
 use crate::courses::carry_along;

@@ -3,7 +3,8 @@ use Rattle.std.proofs.Common.{◌≡◌, ◌∙◌, ℤ, pos, neg_ℤ, ◌+ℤ�
 use Rattle.std.proofs.lemmas.Int.{ints}
 use Rattle.momenta.specs.declared.state.Ends.{Ends}
 use Rattle.momenta.specs.declared.line.Line.{Line}
-use Rattle.momenta.specs.Impulses.{AreStates, between, solved_impulse, speed_along, wanted}
+use Rattle.momenta.specs.Impulses.{between, solved_impulse, speed_along, wanted}
+use Rattle.momenta.specs.ImpulseBounds.{AreStates}
 use Rattle.momenta.proofs.NoImpulse.{exerted_none}
 use Rattle.colour_solver_base.specs.declared.row.PointRow.{PointRow}
 use Rattle.colour_solver_base.specs.Rows.{tangent_line, tangent_solved, with_tangent}

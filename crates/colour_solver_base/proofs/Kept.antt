@@ -2,7 +2,7 @@
 use Rattle.std.proofs.Common.{◌∙◌}
 use Rattle.momenta.specs.declared.state.BodyState.{BodyState}
 use Rattle.momenta.specs.declared.state.Ends.{Ends}
-use Rattle.momenta.specs.Impulses.{AreSameBodies, IsMomentumKept, IsSameBody}
+use Rattle.momenta.specs.ImpulseBounds.{AreSameBodies, IsMomentumKept, IsSameBody}
 
 same_body_then : (a b c : BodyState) → IsSameBody a b → IsSameBody b c → IsSameBody a c
 same_body_then a b c h k = record {

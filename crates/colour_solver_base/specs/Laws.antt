@@ -26,10 +26,10 @@ pub record IsRowOf (b : Bodies) (start : Ends) (s : SolvedContact) (t : RowAfter
   pub ends : t.ends ≡ s.ends
   pub moved : AreMovedFrom start s.ends
 
-abbrev pub TurnsAlike : (Bodies → Ends → Contact → Ends → SolvedContact) → (ContactRow → Ends → RowAfter ContactRow) → Type 0
-TurnsAlike f g = (b : Bodies) (start e : Ends) (c : Contact) (r : ContactRow) → row_from b start c.first c.second ≡ Some r → AreMovedFrom start e → IsRowOf b start (f b start c e) (g r e)
+abbrev pub VisitsAlike : (Bodies → Ends → Contact → Ends → SolvedContact) → (ContactRow → Ends → RowAfter ContactRow) → Type 0
+VisitsAlike f g = (b : Bodies) (start e : Ends) (c : Contact) (r : ContactRow) → row_from b start c.first c.second ≡ Some r → AreMovedFrom start e → IsRowOf b start (f b start c e) (g r e)
 
 pub record RowsAreContacts : Type 0 where
-  pub warm : TurnsAlike (λ b start c e. contact_warmed c e) row_warmed
-  pub solve : TurnsAlike (λ b start c e. contact_solved b.friction c e) row_solved
-  pub bounce : TurnsAlike (λ b start c e. contact_bounced b.restitution start c e) row_bounced
+  pub warm : VisitsAlike (λ b start c e. contact_warmed c e) row_warmed
+  pub solve : VisitsAlike (λ b start c e. contact_solved b.friction c e) row_solved
+  pub bounce : VisitsAlike (λ b start c e. contact_bounced b.restitution start c e) row_bounced

@@ -10,7 +10,8 @@ use Rattle.colour_solver_base.specs.declared.limits.TheConstants.{BOUNCE_SPEED}
 use Rattle.momenta.specs.declared.state.Ends.{Ends}
 use Rattle.momenta.specs.declared.line.Line.{Line}
 use Rattle.momenta.specs.declared.line.Exerted.{Exerted}
-use Rattle.momenta.specs.Impulses.{IsLine, inverse_mass, speed_along, solved_impulse, warmed, travelled}
+use Rattle.momenta.specs.Impulses.{inverse_mass, speed_along, solved_impulse, warmed, travelled}
+use Rattle.momenta.specs.ImpulseBounds.{IsLine}
 use Rattle.contacts_base.specs.declared.key.ContactKey.{ContactKey}
 use Rattle.contacts_base.specs.declared.contact.ContactPoint.{ContactPoint}
 use Rattle.contacts_base.specs.declared.contact.Contact.{Contact}

@@ -2,7 +2,8 @@
 
 ghost use Rattle.std.specs.Prelude.{◌≡◌, ℕ, ◌+◌, ◌≤◌, true, pos, ◌≤ℤ◌, unsigned_abs, IfSome, is_some};
 ghost use Rattle.std.specs.Option.{ForSome};
-ghost use Rattle.momenta.specs.Impulses.{AreStates, IsState, parting};
+ghost use Rattle.momenta.specs.Impulses.{parting};
+ghost use Rattle.momenta.specs.ImpulseBounds.{AreStates, IsState};
 ghost use Rattle.momenta.specs.Line64.{LeaveRoom64, IsImpulse, ends_with, both_ends};
 ghost use Rattle.colour_solver_base.specs.Rows.{IsPointRow, IsRow, point_solved, point_warmed, normal_solved, row_solved, row_warmed, separation_now, tangent_solved};
 ghost use Rattle.colour_solver_base.specs.ContactSolving.{overlap_bias};

@@ -4,7 +4,8 @@ ghost use Rattle.std.specs.Prelude.{◌≡◌, ◌^◌, ◌<◌, ◌≤◌, ◌+
 ghost use Rattle.fixed_geom.specs.Numbers.{IsFloor, fdiv, rdiv};
 ghost use Rattle.fixed_geom.specs.Vectors.{IsWithin, dot, unit_length};
 ghost use Rattle.momenta.specs.declared.state.Ends.{Ends};
-ghost use Rattle.momenta.specs.Impulses.{AreStates, AreSameBodies, IsMomentumKept, IsState, parting};
+ghost use Rattle.momenta.specs.Impulses.{parting};
+ghost use Rattle.momenta.specs.ImpulseBounds.{AreStates, AreSameBodies, IsMomentumKept, IsState};
 ghost use Rattle.colour_solver_base.specs.Rows.{IsPointRow, IsRow, bounces, normal_solved, tangent_solved, point_bounced, point_solved, point_warmed, row_bounced, row_solved, row_warmed, separation_now};
 ghost use Rattle.colour_solver_base.specs.ContactSolving.{overlap_bias, most_friction};
 

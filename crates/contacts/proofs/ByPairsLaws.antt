@@ -4,11 +4,11 @@ use Rattle.std.specs.Prelude.{filter}
 use Rattle.std.proofs.lemmas.List.{map-append}
 use Rattle.contacts_base.specs.declared.near.Proxy.{Proxy}
 use Rattle.contacts_base.specs.declared.contact.ContactEntry.{ContactEntry}
-use Rattle.contacts_base.specs.Near.{is_near, near_codes, near_from, near_with, pair_code}
+use Rattle.contacts_base.specs.Near.{is_near}
+use Rattle.contacts_base.specs.NearCodes.{near_codes, near_from, near_with, pair_code}
 use Rattle.contacts.specs.declared.forbidden.BodyPair.{BodyPair}
-use Rattle.contacts.specs.ByPairs.{ContactsByCodes, contact_of_pair, contacts_between, may_collide, near_pairs, pairs_with}
-use Rattle.contacts.specs.Changes.{contacts_of, entry_at}
-use Rattle.contacts.specs.Forbidden.{allowed_codes, is_allowed}
+use Rattle.contacts.specs.ByPairs.{contact_of_pair, contacts_between, may_collide, near_pairs, pairs_with}
+use Rattle.contacts.specs.ByCodes.{contacts_of, entry_at, allowed_codes, is_allowed, ContactsByCodes}
 use Rattle.contacts.specs.Pairs.{first_place, proxy_at, second_place}
 use Rattle.contacts.proofs.KnownLemmas.{code_places}
 use Rattle.contacts.proofs.ProxyLemmas.{few}

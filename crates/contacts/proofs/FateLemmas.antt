@@ -8,9 +8,9 @@ use Rattle.contacts_base.specs.declared.near.Proxy.{Proxy}
 use Rattle.contacts_base.specs.declared.key.ContactKey.{ContactKey}
 use Rattle.contacts_base.specs.declared.contact.Contact.{Contact}
 use Rattle.contacts_base.specs.declared.contact.ContactEntry.{ContactEntry}
-use Rattle.contacts_base.specs.Contacts.{contact_set}
+use Rattle.contacts_base.specs.ContactLists.{contact_set}
 use Rattle.contacts_base.specs.Keys.{id_number}
-use Rattle.contacts_base.specs.Near.{IsProxy, IsProxyList}
+use Rattle.contacts_base.specs.Proxies.{IsProxy, IsProxyList}
 use Rattle.contacts.specs.declared.forbidden.BodyPair.{BodyPair}
 use Rattle.contacts.specs.declared.fates.Fate.{Fate}
 use Rattle.contacts.specs.declared.fates.Fate.TheVariants.{Stays, Goes, Renewed}

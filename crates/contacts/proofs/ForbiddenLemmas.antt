@@ -3,9 +3,10 @@ use Rattle.std.proofs.Common.{ℕ, ◌<◌, Bool, true, false, cond, List, [], �
 use Rattle.std.specs.Prelude.{filter}
 use Rattle.std.proofs.lemmas.List.Elements.{All-filter}
 use Rattle.contacts_base.specs.declared.near.Proxy.{Proxy}
-use Rattle.contacts_base.specs.Near.{IsProxyList, near_codes}
+use Rattle.contacts_base.specs.NearCodes.{near_codes}
+use Rattle.contacts_base.specs.Proxies.{IsProxyList}
 use Rattle.contacts.specs.declared.forbidden.BodyPair.{BodyPair}
-use Rattle.contacts.specs.Forbidden.{allowed_codes, is_allowed}
+use Rattle.contacts.specs.ByCodes.{allowed_codes, is_allowed}
 use Rattle.contacts.specs.Pairs.{IsPair, ArePairs}
 use Rattle.contacts.proofs.Members.{Each}
 use Rattle.contacts.proofs.PairLemmas.{near_are_pairs}

@@ -9,21 +9,23 @@ use Rattle.contacts_base.specs.declared.key.ContactKey.{ContactKey}
 use Rattle.contacts_base.specs.declared.contact.ContactEntry.{ContactEntry}
 use Rattle.contacts_base.specs.declared.split.Renewal.{Renewal}
 use Rattle.contacts_base.specs.Keys.{key_number}
-use Rattle.contacts_base.specs.Near.{IsProxyList}
+use Rattle.contacts_base.specs.Proxies.{IsProxyList}
 use Rattle.contacts_base.specs.Surfaces.{IsSurface}
-use Rattle.contacts_base.specs.Contacts.{AreContacts, AreKeysRising, number_of}
+use Rattle.contacts_base.specs.Contacts.{AreKeysRising, number_of}
+use Rattle.contacts_base.specs.ContactLists.{AreContacts}
 use Rattle.contacts_base.specs.Merge.{AreAscending, merged, put_in}
 use Rattle.contacts_base.specs.Split.{Split, carried, contacts_in, counting, or_kept, over_at, renewed}
 use Rattle.contacts_base.proofs.LookupLemmas.{keys_later}
 use Rattle.contacts_base.proofs.MergeLaws.{is_lower, not_lower, tail_ascends}
 use Rattle.contacts_base.proofs.MergedLaws.{ascends_without, filter_merged, map_merged, merged_none}
 use Rattle.contacts.specs.declared.forbidden.BodyPair.{BodyPair}
-use Rattle.contacts.specs.declared.due.Due.{Due}
+use Rattle.contacts.specs.declared.pending_update.PendingUpdate.{PendingUpdate}
 use Rattle.contacts.specs.declared.rebuild.Rebuilt.{Rebuilt}
 use Rattle.contacts.specs.ByPairs.{contacts_between}
-use Rattle.contacts.specs.Changes.{AreRising, contacts_of, key_if_new, keys_touching_only_in}
-use Rattle.contacts.specs.Due.{IsDue}
-use Rattle.contacts.specs.Forbidden.{allowed_codes}
+use Rattle.contacts.specs.Changes.{key_if_new, keys_touching_only_in}
+use Rattle.contacts.specs.ByCodes.{contacts_of, allowed_codes}
+use Rattle.contacts.specs.ChangedKeys.{AreRising}
+use Rattle.contacts.specs.PendingUpdates.{IsPendingUpdate}
 use Rattle.contacts.specs.Known.{IsKnown, IsPairKey, again, fresh, stays, staying}
 use Rattle.contacts.specs.Looked.{IsLookedOver, IsRebuilt, IsRebuiltIf}
 use Rattle.contacts.specs.Stirring.{AreQuiet, one_flagged}
@@ -345,8 +347,8 @@ rebuilt_none moved pairs ps short same new o is none h = subst (λ (l : List Con
 pub rebuilt_some : (moved : ℕ → Bool) (pairs : List BodyPair) (ps : List Proxy) (short same new : List ContactEntry) (o : Option Rebuilt) (r : Rebuilt) → same ≡ short → o ≡ Some r → IsRebuiltIf moved pairs ps same new o → IsRebuilt moved pairs ps short new r.all.items r.touches.begin.items r.touches.end.items
 rebuilt_some moved pairs ps short same new o r is some h = subst (λ (l : List ContactEntry). IsRebuilt moved pairs ps l new r.all.items r.touches.begin.items r.touches.end.items) is (subst (IsRebuiltIf moved pairs ps same new) some h)
 
-pub due_from : (pairs : List BodyPair) (ps : List Proxy) (d : Due) (s : Split) (begin end : List ContactKey) → d.any ≡ true → IsDone pairs ps s d.notes.items d.ends.items (option_map (λ es. es.items) d.short) begin end → IsDue d s
-due_from pairs ps d s begin end any done = record {
+pub pending_from : (pairs : List BodyPair) (ps : List Proxy) (d : PendingUpdate) (s : Split) (begin end : List ContactKey) → d.any ≡ true → IsDone pairs ps s d.notes.items d.ends.items (option_map (λ es. es.items) d.short) begin end → IsPendingUpdate d s
+pending_from pairs ps d s begin end any done = record {
   short = for_some_map (λ es. es.items) (λ es. AreContacts es) d.short done.short_is;
   contacts = done.contacts;
   idle = λ h. let wrong : true ≡ false = sym any ∙ h in cc;

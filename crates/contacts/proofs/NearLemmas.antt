@@ -1,7 +1,8 @@
 -- What is in the scan of all pairs, and that it rises.
 use Rattle.std.proofs.Common.{◌≡◌, ℕ, zero, suc, ◌+◌, ◌*◌, ◌^◌, ◌<◌, ◌≤◌, List, [], ◌∷◌, length, Bool, true, false, cond, inl, inr, refl, arith}
 use Rattle.contacts_base.specs.declared.near.Proxy.{Proxy}
-use Rattle.contacts_base.specs.Near.{is_near, pair_code, near_with, near_from}
+use Rattle.contacts_base.specs.Near.{is_near}
+use Rattle.contacts_base.specs.NearCodes.{pair_code, near_with, near_from}
 use Rattle.contacts.specs.Pairs.{proxy_at}
 use Rattle.contacts.proofs.Members.{IsIn, each_from, in_append, in_left, in_right, in_passed, in_new}
 use Rattle.contacts.proofs.Rising.{IsRising, rising_append, rising_passed}

@@ -15,12 +15,13 @@ use Rattle.contacts_base.specs.declared.near.Proxy.{Proxy}
 use Rattle.contacts_base.specs.declared.contact.ContactEntry.{ContactEntry}
 use Rattle.shapes.specs.declared.limits.TheConstants.{MAX_SHAPES}
 use Rattle.contacts_base.specs.Keys.{key_number}
-use Rattle.contacts_base.specs.Near.{IsProxy, IsProxyList, is_near, number_of}
+use Rattle.contacts_base.specs.Near.{is_near}
+use Rattle.contacts_base.specs.Proxies.{IsProxy, IsProxyList, number_of}
 use Rattle.contacts_base.specs.Contacts.{lookup, number_of as entry_number}
 use Rattle.contacts.specs.declared.forbidden.BodyPair.{BodyPair}
-use Rattle.contacts.specs.Pairs.{proxy_at, key_of, pair_key, first_place, second_place}
-use Rattle.contacts.specs.Changes.{entry_of, entry_with, entry_at, contacts_of}
-use Rattle.contacts.specs.Forbidden.{allowed_codes}
+use Rattle.contacts.specs.Pairs.{proxy_at, pair_key, first_place, second_place}
+use Rattle.contacts.specs.Changes.{entry_of, entry_with, key_of}
+use Rattle.contacts.specs.ByCodes.{entry_at, contacts_of, allowed_codes}
 use Rattle.contacts.specs.Known.{either_moved, found, fresh, has_key, IsPairKey, is_fresh, may_touch, near_key}
 use Rattle.contacts.specs.NearMarked.{HasNumbers, HasNumbersIn, IsExtended, fresh_by, fresh_of_both, near_number, number_if, number_of_both, number_with, numbers_up, numbers_with}
 use Rattle.contacts.specs.Fates.{AreWithin, moved_by}

@@ -8,7 +8,7 @@ use Rattle.contacts_base.specs.declared.key.ContactKey.{ContactKey}
 use Rattle.contacts_base.specs.declared.key.ShapeId.{ShapeId}
 use Rattle.contacts_base.specs.declared.contact.Contact.{Contact}
 use Rattle.contacts_base.specs.declared.contact.ContactEntry.{ContactEntry}
-use Rattle.contacts_base.specs.Contacts.{contact_set}
+use Rattle.contacts_base.specs.ContactLists.{contact_set}
 use Rattle.contacts_base.specs.Evaluate.{touches}
 use Rattle.contacts_base.specs.Keys.{id_number}
 use Rattle.contacts_base.specs.declared.split.Renewal.{Renewal}

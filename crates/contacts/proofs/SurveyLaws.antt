@@ -9,7 +9,7 @@ use Rattle.contacts_base.specs.declared.key.ContactKey.{ContactKey}
 use Rattle.contacts_base.specs.declared.contact.Contact.{Contact}
 use Rattle.contacts_base.specs.declared.contact.ContactEntry.{ContactEntry}
 use Rattle.contacts_base.specs.declared.split.Renewal.{Renewal}
-use Rattle.contacts_base.specs.Contacts.{contact_set}
+use Rattle.contacts_base.specs.ContactLists.{contact_set}
 use Rattle.contacts_base.specs.Split.{Split, counting, counting_at, is_over, over_at, places_from, renewed, unless_over}
 use Rattle.contacts_base.proofs.MergeLaws.{drop_next}
 use Rattle.contacts.specs.declared.forbidden.BodyPair.{BodyPair}

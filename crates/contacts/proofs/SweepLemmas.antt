@@ -14,7 +14,8 @@ use Rattle.std.proofs.lemmas.Map.Keys.{IsStrictlyIncreasing-dedup}
 use Rattle.std.proofs.lemmas.Cmp.{nat_cmp_total}
 use Rattle.fixed_geom.specs.Boxes.{Overlaps, spans_meet}
 use Rattle.contacts_base.specs.declared.near.Proxy.{Proxy}
-use Rattle.contacts_base.specs.Near.{is_near, pair_code, near_codes}
+use Rattle.contacts_base.specs.Near.{is_near}
+use Rattle.contacts_base.specs.NearCodes.{pair_code, near_codes}
 use Rattle.fixed_geom.specs.declared.boxes.Box2.{Box2}
 use Rattle.contacts.specs.declared.sweep.TheConstants.{PLACES}
 use Rattle.contacts.specs.Pairs.{proxy_at}

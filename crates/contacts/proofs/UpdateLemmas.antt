@@ -9,12 +9,14 @@ use Rattle.contacts_base.specs.declared.near.Proxy.{Proxy}
 use Rattle.contacts_base.specs.declared.key.ContactKey.{ContactKey}
 use Rattle.contacts_base.specs.declared.contact.ContactEntry.{ContactEntry}
 use Rattle.contacts_base.specs.Keys.{id_number, key_number}
-use Rattle.contacts_base.specs.Near.{IsProxyList}
-use Rattle.contacts_base.specs.Contacts.{lookup, AreContacts, AreKeysRising, number_of as entry_number}
+use Rattle.contacts_base.specs.Proxies.{IsProxyList}
+use Rattle.contacts_base.specs.Contacts.{lookup, AreKeysRising, number_of as entry_number}
+use Rattle.contacts_base.specs.ContactLists.{AreContacts}
 use Rattle.contacts.specs.declared.forbidden.BodyPair.{BodyPair}
-use Rattle.contacts.specs.Changes.{contacts_of, entry_at, key_if_new, key_if_touching, keys_touching_only_in, AreRising}
+use Rattle.contacts.specs.Changes.{key_if_new, key_if_touching, keys_touching_only_in}
+use Rattle.contacts.specs.ByCodes.{contacts_of, entry_at, allowed_codes}
+use Rattle.contacts.specs.ChangedKeys.{AreRising}
 use Rattle.contacts.specs.Pairs.{pair_key}
-use Rattle.contacts.specs.Forbidden.{allowed_codes}
 use Rattle.contacts.specs.Known.{found, near_key, has_key, IsPairKey, either_moved, IsKnown, all_still, stays, staying, is_fresh, fresh, again_of, again}
 use Rattle.contacts_base.specs.Merge.{AreAscending, below_of, merged, put_in}
 use Rattle.contacts.specs.declared.fates.Fate.{Fate}

@@ -1,11 +1,11 @@
 -- The contacts that a collide makes, by pairs of shapes.
-use Rattle.std.specs.Prelude.{◌≡◌, Bool, not, List, [], ◌∷◌, ◌++◌, map, filter}
+use Rattle.std.specs.Prelude.{Bool, not, List, [], ◌∷◌, ◌++◌, map, filter}
 use Rattle.contacts_base.specs.declared.near.Proxy.{Proxy}
 use Rattle.contacts_base.specs.declared.contact.ContactEntry.{ContactEntry}
-use Rattle.contacts_base.specs.Near.{IsProxyList, is_near}
+use Rattle.contacts_base.specs.Near.{is_near}
 use Rattle.contacts.specs.declared.forbidden.BodyPair.{BodyPair}
-use Rattle.contacts.specs.Changes.{contacts_of, entry_of}
-use Rattle.contacts.specs.Forbidden.{allowed_codes, is_forbidden}
+use Rattle.contacts.specs.Changes.{entry_of}
+use Rattle.contacts.specs.Forbidden.{is_forbidden}
 
 -- a shape with each of these that is near it
 abbrev pub pairs_with : Proxy → List Proxy → List (Proxy × Proxy)
@@ -27,7 +27,3 @@ contact_of_pair old pair = entry_of old pair.0 pair.1
 -- a contact for each two shapes that are near one another and whose bodies nothing keeps from colliding
 unfoldable pub contacts_between : List BodyPair → List Proxy → List ContactEntry → List ContactEntry
 contacts_between forbidden ps old = map (contact_of_pair old) (filter (may_collide forbidden) (near_pairs ps))
-
--- the running form, by the codes of the pairs, makes the same contacts
-abbrev pub ContactsByCodes : Type 0
-ContactsByCodes = (forbidden : List BodyPair) (ps : List Proxy) (old : List ContactEntry) → IsProxyList ps → contacts_between forbidden ps old ≡ contacts_of old ps (allowed_codes forbidden ps)

@@ -1,19 +1,16 @@
 -- What becomes of the contacts.
-use Rattle.std.specs.Prelude.{ℕ, cond, List, map, Option, Some, None, is_some}
+use Rattle.std.specs.Prelude.{cond, List, Option, Some, None}
 use Rattle.std.specs.List.{filter_map}
-use Rattle.std.specs.List.Sorted.{IsStrictlyIncreasing}
 use Rattle.shapes.specs.Manifolds.{manifold_of}
 use Rattle.contacts_base.specs.declared.near.Proxy.{Proxy}
 use Rattle.contacts_base.specs.declared.key.ContactKey.{ContactKey}
 use Rattle.contacts_base.specs.declared.contact.Contact.{Contact}
 use Rattle.contacts_base.specs.declared.contact.ContactEntry.{ContactEntry}
 use Rattle.contacts_base.specs.declared.surface.Surface.{Surface}
-use Rattle.contacts_base.specs.Keys.{key_number}
 use Rattle.contacts_base.specs.Surfaces.{mixed}
 use Rattle.contacts_base.specs.Contacts.{lookup, is_touching}
 use Rattle.contacts_base.specs.Evaluate.{apart, evaluated, touches}
 use Rattle.contacts_base.specs.Near.{one_stirs}
-use Rattle.contacts.specs.Pairs.{proxy_at, first_place, second_place, key_of}
 
 -- a contact keeps its surface; a new one has what the two shapes' mix to
 abbrev pub surface_with : Option ContactEntry → Proxy → Proxy → Surface
@@ -29,6 +26,9 @@ kept_contact (Some e) = e.contact
 abbrev pub contact_with : Option ContactEntry → Proxy → Proxy → Contact
 contact_with old p q = cond (one_stirs p q) (evaluated old (manifold_of p.shape p.pose q.shape q.pose)) (kept_contact old)
 
+abbrev pub key_of : Proxy → Proxy → ContactKey
+key_of p q = record { first = p.id; second = q.id }
+
 -- the contact of two shapes, which was `old` before if it was there
 unfoldable pub entry_with : Option ContactEntry → Proxy → Proxy → ContactEntry
 entry_with old p q = record { key = key_of p q; surface = surface_with old p q; contact = contact_with old p q }
@@ -37,36 +37,13 @@ entry_with old p q = record { key = key_of p q; surface = surface_with old p q; 
 unfoldable pub entry_of : List ContactEntry → Proxy → Proxy → ContactEntry
 entry_of old p q = entry_with (lookup old (key_of p q)) p q
 
-abbrev pub entry_at : List ContactEntry → List Proxy → ℕ → ContactEntry
-entry_at old ps code = entry_of old (proxy_at ps (first_place code)) (proxy_at ps (second_place code))
-
--- the contacts of all pairs
-abbrev pub contacts_of : List ContactEntry → List Proxy → List ℕ → List ContactEntry
-contacts_of old ps codes = map (entry_at old ps) codes
-
--- the entry's key, unless there is another contact with it
-unfoldable pub key_unless : Option ContactEntry → ContactEntry → Option ContactKey
-key_unless other e = cond (is_some other) None (Some e.key)
-
 -- the entry's key, if it touches and the other contact with its key, if there is one, doesn't
 unfoldable pub key_if_new : Option ContactEntry → ContactEntry → Option ContactKey
 key_if_new other e = cond (touches e.contact) (cond (is_touching other) None (Some e.key)) None
 
--- the same two of an entry and the others' contact with its key
-unfoldable pub key_unless_in : List ContactEntry → ContactEntry → Option ContactKey
-key_unless_in others e = key_unless (lookup others e.key) e
-
 unfoldable pub key_if_touching : List ContactEntry → ContactEntry → Option ContactKey
 key_if_touching others e = key_if_new (lookup others e.key) e
-
--- the keys of entries that the others lack
-abbrev pub keys_not_in : List ContactEntry → List ContactEntry → List ContactKey
-keys_not_in others entries = filter_map (key_unless_in others) entries
 
 -- the keys of entries that touch, and among the others don't touch or aren't
 abbrev pub keys_touching_only_in : List ContactEntry → List ContactEntry → List ContactKey
 keys_touching_only_in others entries = filter_map (key_if_touching others) entries
-
--- the keys ascend, and none stands twice
-abbrev pub AreRising : List ContactKey → Type 0
-AreRising keys = IsStrictlyIncreasing (map key_number keys)

@@ -2,11 +2,11 @@
 use Rattle.std.specs.Prelude.{ℕ, Bool, List}
 use Rattle.contacts_base.specs.declared.contact.ContactEntry.{ContactEntry}
 use Rattle.contacts_base.specs.declared.near.Proxy.{Proxy}
-use Rattle.contacts_base.specs.Near.{IsProxyList}
+use Rattle.contacts_base.specs.Proxies.{IsProxyList}
 use Rattle.contacts.specs.declared.forbidden.BodyPair.{BodyPair}
-use Rattle.contacts.specs.declared.due.Touches.{Touches}
-use Rattle.contacts.specs.Changes.{AreRising}
-use Rattle.contacts.specs.Due.{IsDue}
+use Rattle.contacts.specs.declared.pending_update.Touches.{Touches}
+use Rattle.contacts.specs.ChangedKeys.{AreRising}
+use Rattle.contacts.specs.PendingUpdates.{IsPendingUpdate}
 use Rattle.contacts.specs.Known.{IsKnown}
 use Rattle.contacts.specs.Stirring.{AreHeld}
 use Rattle.contacts.specs.Fates.{AreWithin, IsMade, moved_by}
@@ -16,12 +16,12 @@ use Rattle.contacts.specs.declared.contact_table.ContactTable.TheInside.{Inside}
 -- the contacts, and what they become when the last collide is carried out
 pub record Kept : Type 0 where
   pub contacts : List ContactEntry
-  pub due : List ContactEntry
+  pub pending : List ContactEntry
 
 -- what the fields of a `ContactTable` hold: the places in the long list of those contacts of which a body may stir, and what can be carried out
 pub record IsKeptContacts (a : Inside) : Type 0 where
   pub held : AreHeld a.beside.stirring a.contacts.long
-  pub due : IsDue a.due a.contacts
+  pub pending : IsPendingUpdate a.pending a.contacts
 
 -- what a collide stands on: shapes in their order, marks for all of their bodies, and contacts that tell which of those that aren't marked are near
 pub record CanCollide (ps : List Proxy) (marks : List Bool) (marked : List ℕ) (forbidden : List BodyPair) (contacts : List ContactEntry) : Type 0 where

@@ -5,11 +5,13 @@ use Rattle.contacts_base.specs.declared.near.Proxy.{Proxy}
 use Rattle.contacts_base.specs.declared.key.ContactKey.{ContactKey}
 use Rattle.contacts_base.specs.declared.contact.ContactEntry.{ContactEntry}
 use Rattle.contacts_base.specs.Keys.{id_number, key_number}
-use Rattle.contacts_base.specs.Near.{IsProxyList, is_near, number_of}
+use Rattle.contacts_base.specs.Near.{is_near}
+use Rattle.contacts_base.specs.Proxies.{IsProxyList, number_of}
 use Rattle.contacts_base.specs.Contacts.{lookup, AreKeysRising, number_of as entry_number}
 use Rattle.contacts.specs.declared.forbidden.BodyPair.{BodyPair}
-use Rattle.contacts.specs.Changes.{contact_with, contacts_of}
-use Rattle.contacts.specs.Forbidden.{is_forbidden, allowed_codes}
+use Rattle.contacts.specs.Changes.{contact_with}
+use Rattle.contacts.specs.ByCodes.{contacts_of, allowed_codes}
+use Rattle.contacts.specs.Forbidden.{is_forbidden}
 use Rattle.contacts_base.specs.Merge.{merged}
 use Rattle.contacts.specs.Pairs.{pair_key}
 

@@ -1,5 +1,6 @@
 pub mod Pairs
 pub mod Sweep
+pub mod ChangedKeys
 pub mod Changes
 pub mod Known
 pub mod Fates
@@ -7,8 +8,9 @@ pub mod Stirring
 pub mod NearMarked
 pub mod Constraints
 pub mod Forbidden
+pub mod ByCodes
 pub mod ByPairs
 pub mod Inside
-pub mod Due
+pub mod PendingUpdates
 pub mod Looked
 pub mod Kept

@@ -6,11 +6,11 @@ use Rattle.shapes.specs.declared.limits.TheConstants.{MAX_SHAPES}
 use Rattle.contacts_base.specs.declared.near.Proxy.{Proxy}
 use Rattle.contacts_base.specs.declared.contact.ContactEntry.{ContactEntry}
 use Rattle.contacts_base.specs.Keys.{key_number}
-use Rattle.contacts_base.specs.Near.{is_near, number_of}
+use Rattle.contacts_base.specs.Near.{is_near}
+use Rattle.contacts_base.specs.Proxies.{number_of}
 use Rattle.contacts.specs.declared.forbidden.BodyPair.{BodyPair}
-use Rattle.contacts.specs.Changes.{entry_with}
+use Rattle.contacts.specs.Changes.{entry_with, key_of}
 use Rattle.contacts.specs.Known.{either_moved, found, has_key, may_touch}
-use Rattle.contacts.specs.Pairs.{key_of}
 
 -- ---- the numbers of near pairs' keys
 

@@ -1,4 +1,4 @@
--- Pairs of shapes, by their places in a list.
+-- Inner: pairs of shapes, by their places in a list.
 use Rattle.std.specs.Prelude.{ℕ, ◌<◌, ◌/◌, ◌%◌, ◌^◌, false, pos, List, length, slice_index_or, All}
 use Rattle.std.specs.List.Sorted.{IsStrictlyIncreasing}
 use Rattle.fixed_geom.specs.declared.boxes.Box2.{Box2}
@@ -6,6 +6,7 @@ use Rattle.fixed_geom.specs.Vectors.{zero_vector}
 use Rattle.shapes.specs.declared.shape.Shape.TheVariants.{Circle}
 use Rattle.contacts_base.specs.declared.near.Proxy.{Proxy}
 use Rattle.contacts_base.specs.declared.key.ContactKey.{ContactKey}
+use Rattle.contacts.specs.Changes.{key_of}
 
 -- what stands for a box beyond a list
 abbrev pub no_box : Box2
@@ -43,9 +44,6 @@ pub record IsPair (ps : List Proxy) (code : ℕ) : Type 0 where
 pub record ArePairs (ps : List Proxy) (codes : List ℕ) : Type 0 where
   pub each : All (IsPair ps) codes
   pub rising : IsStrictlyIncreasing codes
-
-abbrev pub key_of : Proxy → Proxy → ContactKey
-key_of p q = record { first = p.id; second = q.id }
 
 -- the key of the pair
 abbrev pub pair_key : List Proxy → ℕ → ContactKey

@@ -2,11 +2,14 @@
 
 ghost use Rattle.std.specs.Prelude.{◌≡◌, ◌++◌, All, OnOk, IfOk};
 ghost use Rattle.std.specs.Result.{IsOkUnless};
-ghost use Rattle.contacts_base.specs.Near.{IsProxy, IsProxyList};
+ghost use Rattle.contacts_base.specs.Proxies.{IsProxy, IsProxyList};
 ghost use Rattle.std.specs.Option.{option_copied, option_to_list};
-ghost use Rattle.contacts_base.specs.Contacts.{AreContacts, AreKeysRising, is_touching};
+ghost use Rattle.contacts_base.specs.Contacts.{AreKeysRising, is_touching};
+ghost use Rattle.contacts_base.specs.ContactLists.{AreContacts};
 ghost use Rattle.contacts.specs.Pairs.{IsPair, ArePairs, proxy_at, first_place, second_place, pair_key};
-ghost use Rattle.contacts.specs.Changes.{surface_with, contact_with, entry_with, kept_contact, contacts_of, key_unless, key_if_new, keys_not_in, keys_touching_only_in, AreRising};
+ghost use Rattle.contacts.specs.Changes.{surface_with, contact_with, entry_with, kept_contact, key_if_new, keys_touching_only_in};
+ghost use Rattle.contacts.specs.ByCodes.{contacts_of};
+ghost use Rattle.contacts.specs.ChangedKeys.{key_unless, keys_not_in, AreRising};
 
 use contacts_base::{
     ContactEntry, ContactKey, Contacts, PackedContact, PackedSurface, Proxy, contact_at,
@@ -102,7 +105,7 @@ pub(crate) fn pair_entry(old: Option<&ContactEntry>, proxies: &[Proxy], code: u6
 }
 
 /// The entry's key, unless there is another contact with it.
-#[tactic(auto, unfolding(crate::specs::Changes::key_unless))]
+#[tactic(auto, unfolding(crate::specs::ChangedKeys::key_unless))]
 fn key_unless(other: Option<&ContactEntry>, entry: &ContactEntry) -> Option<ContactKey>
     ensures { result ≡ key_unless (option_copied other.entry) entry.now }
 {
@@ -164,9 +167,9 @@ struct Past {
 
 /// The contacts of these pairs, and what is new in them. Refused 1 where memory is wanting.
 ///
-/// Pairs and old contacts ascend, so each search goes on where the one before it ended.
+/// Pairs and old contacts ascend, so each search goes on where the one before it ended. The contacts are listed in the memory of `room`.
 fn contacts_of_pairs(
-    alloc: Global,
+    room: Vec<ContactEntry>,
     old: &[ContactEntry],
     proxies: &[Proxy],
     near: &[u64],
@@ -180,7 +183,10 @@ fn contacts_of_pairs(
     ensures begin { IfOk result (λ present. present.begin.items ≡ keys_touching_only_in old.now present.now.items) }
     ensures memory_only { IsOkUnless result Refusal.NoMemory }
 {
-    let mut now = Vec::with_capacity(alloc, near.len())?;
+    let alloc = *room.allocator();
+    let mut now = room;
+    now.clear();
+    now.reserve(near.len())?;
     let mut made = Vec::new(alloc);
     let mut begin = Vec::new(alloc);
     let mut place = 0;
@@ -217,9 +223,9 @@ fn lost_keys(alloc: Global, now: &[ContactEntry], old: &[ContactEntry]) -> Resul
 }
 
 /// The contacts of these pairs, those of bodies that stir evaluated anew, and what changed. `old` are the contacts until
-/// now. Refused 1 where memory is wanting.
+/// now. Refused 1 where memory is wanting. The contacts are listed in the memory of `room`.
 pub(crate) fn update(
-    alloc: Global,
+    room: Vec<ContactEntry>,
     old: &[ContactEntry],
     proxies: &[Proxy],
     near: &[u64],
@@ -238,7 +244,8 @@ pub(crate) fn update(
     ensures end_rising { IfOk result (λ changes. AreRising changes.end.items) }
     ensures memory_only { IsOkUnless result Refusal.NoMemory }
 {
-    let present = contacts_of_pairs(alloc, old, proxies, near)?;
+    let alloc = *room.allocator();
+    let present = contacts_of_pairs(room, old, proxies, near)?;
     let past = lost_keys(alloc, &present.now, old)?;
     Ok(Changes {
         now: Contacts::from_entries(present.now),

@@ -4,24 +4,27 @@
 ghost use Rattle.std.specs.Prelude.{◌≡◌, [], IfOk, IfSome, List, OnErr, OnOk, true};
 ghost use Rattle.std.specs.Result.{IsOkUnless};
 ghost use Rattle.contacts_base.specs.declared.contact.ContactEntry.{ContactEntry};
-ghost use Rattle.contacts_base.specs.Contacts.{AreContacts, contacts_without, impulses_given};
-ghost use Rattle.contacts_base.specs.Near.{IsProxyList};
+ghost use Rattle.contacts_base.specs.Contacts.{contacts_without};
+ghost use Rattle.contacts_base.specs.ContactLists.{AreContacts, impulses_given};
+ghost use Rattle.contacts_base.specs.Proxies.{IsProxyList};
 ghost use Rattle.contacts_base.specs.Split.{contacts_in};
 ghost use Rattle.contacts.specs.ByPairs.{contacts_between};
-ghost use Rattle.contacts.specs.Changes.{AreRising, keys_touching_only_in};
-ghost use Rattle.contacts.specs.Due.{IsDue, IsNothing, due_of};
+ghost use Rattle.contacts.specs.Changes.{keys_touching_only_in};
+ghost use Rattle.contacts.specs.ChangedKeys.{AreRising};
+ghost use Rattle.contacts.specs.PendingUpdates.{IsPendingUpdate, IsNothing, pending_contacts};
 ghost use Rattle.contacts.specs.Known.{IsKnown};
 ghost use Rattle.contacts.specs.Stirring.{AreFlagsListed, AreHeld};
 ghost use Rattle.contacts.specs.Fates.{AreWithin, moved_by};
 ghost use Rattle.contacts.specs.Kept.{CanCollide, IsMadeOf};
 ghost use Rattle.packed_sets.specs.Marks.{AreListed};
 
+use crate::collide::Collide;
 use crate::crowded::are_crowded;
-use crate::due::{Due, Touches, carry_out};
-use crate::fates::ShapesByName;
+use crate::fates::ShapesById;
 use crate::forbidden::ForbiddenPairs;
 use crate::moved_pairs::fresh_of_marked;
 use crate::pair_sweep::PairSweep;
+use crate::pending_update::{PendingUpdate, Touches, carry_out};
 use crate::stirring::{Stirring, refresh};
 use crate::update::update_known;
 use contacts_base::{ContactEntry, ContactKey, Contacts, Impulses, SplitContacts};
@@ -45,7 +48,7 @@ struct Beside {
 }
 
 /// A contact for each pair of near shapes. Contracts see the list of them (`contacts`), and what it becomes when the last collide is carried
-/// out (`due`).
+/// out (`pending`).
 ///
 /// They are kept as a long list and a short one: where a contact comes or goes the long list stands, and the places in it hold. The two
 /// are made one when the collides since the last time have looked at as many contacts beside the long list as it has, so that this costs no more than was
@@ -54,18 +57,18 @@ struct Beside {
 pub struct ContactTable {
     contacts: SplitContacts,
     // What the last collide made of the contacts, until it is carried out.
-    due: Due,
+    pending: PendingUpdate,
     beside: Beside,
 }
 
 impl Model for ContactTable {
     ghost use Rattle.contacts_base.specs.Split.{contacts_in};
-    ghost use Rattle.contacts.specs.Due.{due_of};
+    ghost use Rattle.contacts.specs.PendingUpdates.{pending_contacts};
     ghost use Rattle.contacts.specs.Kept.{Kept, IsKeptContacts};
 
     ghost Value = { Kept };
 
-    ghost view = { λ a. record { contacts = contacts_in a.contacts; due = due_of a.due a.contacts } };
+    ghost view = { λ a. record { contacts = contacts_in a.contacts; pending = pending_contacts a.pending a.contacts } };
 
     ghost invariant = { λ a. IsKeptContacts a };
 }
@@ -91,17 +94,15 @@ fn are_many(marked: &[u32], marks: &[bool]) -> bool {
 
 /// Whether all near pairs are looked for: where many slots are marked, or where the marked bodies that aren't dynamic overlap more slots than there
 /// are, so that a step never costs by the square of what overlaps and can't collide. Refused 1 where memory is wanting.
-fn is_sweep_due<S: ShapesByName>(
-    shapes: &S,
-    marks: &[bool],
-    marked: &[u32],
+fn is_sweep_wanted<S: ShapesById, F: ForbiddenPairs>(
+    collide: &Collide<'_, S, F>,
 ) -> Result<bool, Refusal>
     ensures memory_only { IsOkUnless result Refusal.NoMemory }
 {
-    if are_many(marked, marks) {
+    if are_many(collide.marked, collide.marks) {
         Ok(true)
     } else {
-        are_crowded(shapes, marked, marks.len())
+        are_crowded(collide.shapes, collide.marked, collide.marks.len())
     }
 }
 
@@ -131,7 +132,7 @@ fn flush(alloc: Global, contacts: &mut SplitContacts, beside: &mut Beside) -> Re
 }
 
 /// The same where the collides have looked at as many contacts beside the long list as it has; and what the next one looks at is counted.
-fn flush_if_due(
+fn flush_if_spent(
     alloc: Global,
     contacts: &mut SplitContacts,
     beside: &mut Beside,
@@ -148,153 +149,80 @@ fn flush_if_due(
     Ok(())
 }
 
-/// What becomes of the contacts by all near pairs. Refused 1 where memory is wanting.
-fn make_anew<S: ShapesByName, F: ForbiddenPairs>(
+/// What a collide makes of the contacts: by all near pairs, or by what is known of them. Refused 1 where memory is wanting.
+fn make_pending<S: ShapesById, F: ForbiddenPairs>(
     beside: &mut Beside,
     alloc: Global,
-    due: &mut Due,
-    shapes: &S,
-    forbidden: &F,
+    pending: &mut PendingUpdate,
+    collide: &Collide<'_, S, F>,
     contacts: &mut SplitContacts,
 ) -> Result<Touches, Refusal>
+    requires can { CanCollide (S.proxies collide.now.shapes.now) collide.now.marks.now collide.now.marked.now (F.pairs collide.now.forbidden.now) (contacts_in contacts.old) }
     requires held { AreHeld beside.old.stirring contacts.old.long }
-    requires nothing { IsNothing due.old }
-    requires any { due.old.any ≡ true }
+    requires nothing { IsNothing pending.old }
+    requires any { pending.old.any ≡ true }
     ensures contacts { contacts_in contacts.new ≡ contacts_in contacts.old }
     ensures held { AreHeld beside.new.stirring contacts.new.long }
-    ensures due { OnOk result (IsDue due.new contacts.new) }
-    ensures made { IfOk result (IsMadeOf (S.proxies shapes.now) (F.pairs forbidden.now) (contacts_in contacts.old) (due_of due.new contacts.new)) }
-    ensures any { due.new.any ≡ true }
+    ensures pending { OnOk result (IsPendingUpdate pending.new contacts.new) }
+    ensures made { IfOk result (IsMadeOf (S.proxies collide.now.shapes.now) (F.pairs collide.now.forbidden.now) (contacts_in contacts.old) (pending_contacts pending.new contacts.new)) }
+    ensures any { pending.new.any ≡ true }
     ensures memory_only { IsOkUnless result Refusal.NoMemory }
 {
-    flush(alloc, contacts, beside)?;
-    shapes.gather(&mut beside.broad)?;
-    let changes = beside
-        .broad
-        .update_contacts(alloc, forbidden, contacts.long())?;
-    due.whole = Some(SplitContacts::from_entries(alloc, changes.now.into_entries())?);
-    Ok(Touches {
-        begin: changes.begin,
-        end: changes.end,
-    })
-}
-
-/// What becomes of the contacts by what is known of the near pairs. Refused 1 where memory is wanting.
-fn make_known<S: ShapesByName, F: ForbiddenPairs>(
-    beside: &mut Beside,
-    alloc: Global,
-    due: &mut Due,
-    shapes: &S,
-    marks: &[bool],
-    marked: &[u32],
-    forbidden: &F,
-    contacts: &mut SplitContacts,
-) -> Result<Touches, Refusal>
-    requires can { CanCollide (S.proxies shapes.now) marks.now marked.now (F.pairs forbidden.now) (contacts_in contacts.old) }
-    requires held { AreHeld beside.old.stirring contacts.old.long }
-    requires any { due.old.any ≡ true }
-    ensures contacts { contacts_in contacts.new ≡ contacts_in contacts.old }
-    ensures held { AreHeld beside.new.stirring contacts.new.long }
-    ensures due { OnOk result (IsDue due.new contacts.new) }
-    ensures made { IfOk result (IsMadeOf (S.proxies shapes.now) (F.pairs forbidden.now) (contacts_in contacts.old) (due_of due.new contacts.new)) }
-    ensures any { due.new.any ≡ true }
-    ensures memory_only { IsOkUnless result Refusal.NoMemory }
-{
-    flush_if_due(alloc, contacts, beside)?;
-    refresh(&mut beside.stirring, shapes, marks, marked, contacts)?;
-    let fresh = fresh_of_marked(
-        alloc,
-        &mut beside.numbers,
-        shapes,
-        marks,
-        marked,
-        forbidden,
-        contacts,
-    )?;
-    update_known(
-        alloc,
-        due,
-        shapes,
-        marks,
-        forbidden,
-        contacts,
-        &beside.stirring,
-        &fresh,
-    )
-}
-
-/// What a collide makes of the contacts. Refused 1 where memory is wanting.
-fn make_due<S: ShapesByName, F: ForbiddenPairs>(
-    beside: &mut Beside,
-    alloc: Global,
-    due: &mut Due,
-    shapes: &S,
-    marks: &[bool],
-    marked: &[u32],
-    forbidden: &F,
-    contacts: &mut SplitContacts,
-) -> Result<Touches, Refusal>
-    requires can { CanCollide (S.proxies shapes.now) marks.now marked.now (F.pairs forbidden.now) (contacts_in contacts.old) }
-    requires held { AreHeld beside.old.stirring contacts.old.long }
-    requires nothing { IsNothing due.old }
-    requires any { due.old.any ≡ true }
-    ensures contacts { contacts_in contacts.new ≡ contacts_in contacts.old }
-    ensures held { AreHeld beside.new.stirring contacts.new.long }
-    ensures due { OnOk result (IsDue due.new contacts.new) }
-    ensures made { IfOk result (IsMadeOf (S.proxies shapes.now) (F.pairs forbidden.now) (contacts_in contacts.old) (due_of due.new contacts.new)) }
-    ensures any { due.new.any ≡ true }
-    ensures memory_only { IsOkUnless result Refusal.NoMemory }
-{
-    if is_sweep_due(shapes, marks, marked)? {
-        make_anew(beside, alloc, due, shapes, forbidden, contacts)
-    } else {
-        make_known(
-            beside, alloc, due, shapes, marks, marked, forbidden, contacts,
-        )
+    if is_sweep_wanted(collide)? {
+        flush(alloc, contacts, beside)?;
+        collide.shapes.gather(&mut beside.broad)?;
+        let room = contacts.take_spare(alloc);
+        let changes = beside
+            .broad
+            .update_contacts(room, collide.forbidden, contacts.long())?;
+        pending.whole = Some(SplitContacts::from_entries(alloc, changes.now.into_entries())?);
+        return Ok(Touches {
+            begin: changes.begin,
+            end: changes.end,
+        });
     }
+    flush_if_spent(alloc, contacts, beside)?;
+    refresh(&mut beside.stirring, collide, contacts)?;
+    let fresh = fresh_of_marked(alloc, &mut beside.numbers, collide, contacts)?;
+    update_known(alloc, pending, collide, contacts, &beside.stirring, &fresh)
 }
 
-/// The same; where memory is wanting nothing is due.
-fn make_or_clear<S: ShapesByName, F: ForbiddenPairs>(
+/// The same; where memory is wanting nothing is pending.
+fn make_or_clear<S: ShapesById, F: ForbiddenPairs>(
     beside: &mut Beside,
     alloc: Global,
-    due: &mut Due,
-    shapes: &S,
-    marks: &[bool],
-    marked: &[u32],
-    forbidden: &F,
+    pending: &mut PendingUpdate,
+    collide: &Collide<'_, S, F>,
     contacts: &mut SplitContacts,
 ) -> Result<Touches, Refusal>
-    requires can { CanCollide (S.proxies shapes.now) marks.now marked.now (F.pairs forbidden.now) (contacts_in contacts.old) }
+    requires can { CanCollide (S.proxies collide.now.shapes.now) collide.now.marks.now collide.now.marked.now (F.pairs collide.now.forbidden.now) (contacts_in contacts.old) }
     requires held { AreHeld beside.old.stirring contacts.old.long }
-    requires nothing { IsNothing due.old }
+    requires nothing { IsNothing pending.old }
     ensures contacts { contacts_in contacts.new ≡ contacts_in contacts.old }
     ensures held { AreHeld beside.new.stirring contacts.new.long }
-    ensures due { IsDue due.new contacts.new }
-    ensures made { IfOk result (IsMadeOf (S.proxies shapes.now) (F.pairs forbidden.now) (contacts_in contacts.old) (due_of due.new contacts.new)) }
-    ensures refused { OnErr result (due_of due.new contacts.new ≡ contacts_in contacts.old) }
+    ensures pending { IsPendingUpdate pending.new contacts.new }
+    ensures made { IfOk result (IsMadeOf (S.proxies collide.now.shapes.now) (F.pairs collide.now.forbidden.now) (contacts_in contacts.old) (pending_contacts pending.new contacts.new)) }
+    ensures refused { OnErr result (pending_contacts pending.new contacts.new ≡ contacts_in contacts.old) }
     ensures memory_only { IsOkUnless result Refusal.NoMemory }
 {
-    due.any = true;
-    let made = make_due(
-        beside, alloc, due, shapes, marks, marked, forbidden, contacts,
-    );
+    pending.any = true;
+    let made = make_pending(beside, alloc, pending, collide, contacts);
     if made.is_err() {
-        due.clear();
+        pending.clear();
         contacts.know_ascending();
     }
     made
 }
 
-/// Carries out what is due, if something is. Takes no memory.
-fn carry_out_now(contacts: &mut SplitContacts, due: &mut Due, beside: &mut Beside)
+/// Carries out what is pending, if something is. Takes no memory.
+fn carry_out_now(contacts: &mut SplitContacts, pending: &mut PendingUpdate, beside: &mut Beside)
     requires held { AreHeld beside.old.stirring contacts.old.long }
-    requires due { IsDue due.old contacts.old }
-    ensures contacts { contacts_in contacts.new ≡ due_of due.old contacts.old }
+    requires pending { IsPendingUpdate pending.old contacts.old }
+    ensures contacts { contacts_in contacts.new ≡ pending_contacts pending.old contacts.old }
     ensures held { AreHeld beside.new.stirring contacts.new.long }
-    ensures nothing { IsNothing due.new }
+    ensures nothing { IsNothing pending.new }
 {
-    if !carry_out(contacts, due) {
+    if !carry_out(contacts, pending) {
         lapse(beside);
     }
 }
@@ -308,12 +236,12 @@ impl ContactTable {
         contacts.know_ascending();
         ContactTable {
             contacts,
-            due: Due::new(alloc),
+            pending: PendingUpdate::new(alloc),
             beside: nothing_beside(alloc),
         }
     }
 
-    /// These contacts; nothing is due. Refused 1 where memory is wanting.
+    /// These contacts; nothing is pending. Refused 1 where memory is wanting.
     pub fn from_contacts(alloc: Global, contacts: Contacts) -> Result<ContactTable, Refusal>
         ensures contacts { IfOk result (λ kept. kept.contacts ≡ contacts) }
         ensures memory_only { IsOkUnless result Refusal.NoMemory }
@@ -322,12 +250,12 @@ impl ContactTable {
         contacts.know_ascending();
         Ok(ContactTable {
             contacts,
-            due: Due::new(alloc),
+            pending: PendingUpdate::new(alloc),
             beside: nothing_beside(alloc),
         })
     }
 
-    /// A copy, of which nothing is due. Refused 1 where memory is wanting.
+    /// A copy, of which nothing is pending. Refused 1 where memory is wanting.
     pub fn try_copy(&self, alloc: Global) -> Result<ContactTable, Refusal>
         ensures copy { IfOk result (λ copied. copied.contacts ≡ self.now.contacts) }
         ensures memory_only { IsOkUnless result Refusal.NoMemory }
@@ -368,7 +296,7 @@ impl ContactTable {
     /// costs less than the index that all later ones ask. Refused 1 where memory is wanting.
     pub fn reserve_drop(&mut self) -> Result<(), Refusal>
         ensures contacts { self.new.contacts ≡ self.old.contacts }
-        ensures due { self.new.due ≡ self.old.due }
+        ensures pending { self.new.pending ≡ self.old.pending }
         ensures memory_only { IsOkUnless result Refusal.NoMemory }
     {
         if self.contacts.is_one() {
@@ -377,17 +305,17 @@ impl ContactTable {
         self.contacts.index_bodies()
     }
 
-    /// Drops the contacts of the body in a slot; nothing is due then. Takes no memory.
+    /// Drops the contacts of the body in a slot; nothing is pending then. Takes no memory.
     pub fn drop_of_body(&mut self, slot: u32)
         ensures { self.new.contacts ≡ contacts_without slot self.old.contacts }
     {
-        self.due.clear();
+        self.pending.clear();
         self.contacts.drop_of_body(slot);
         self.contacts.know_ascending();
     }
 
     /// Gives the points of the contact with this key these impulses, in mass·u/tick. Without any for the second point that stays as it is, and so do
-    /// all contacts where there is none with the key. It is looked for at `place` of the long list first. Nothing is due then.
+    /// all contacts where there is none with the key. It is looked for at `place` of the long list first. Nothing is pending then.
     #[inline(always)]
     pub fn set_impulses(
         &mut self,
@@ -398,13 +326,13 @@ impl ContactTable {
     )
         ensures { self.new.contacts ≡ impulses_given key first second self.old.contacts }
     {
-        self.due.clear();
+        self.pending.clear();
         self.contacts.set_impulses(place, key, first, second);
         self.contacts.know_ascending();
     }
 
     /// A collide of the shapes as they are now, in which the bodies of the forbidden pairs pass through
-    /// one another: what the contacts become by it is due, and they stay as they are until it is carried out. Refused 1 where memory is
+    /// one another: what the contacts become by it is pending, and they stay as they are until it is carried out. Refused 1 where memory is
     /// wanting.
     ///
     /// `marks` tell by slot which bodies' shapes have moved, and `marked` are the slots that are marked: two shapes that haven't moved are near and
@@ -413,7 +341,7 @@ impl ContactTable {
     /// A contact is evaluated anew if one of its two bodies stirs, and else stays as it is. A pair that had a contact keeps its surface, and the
     /// impulses of its points by their candidates; a new pair gets a contact with what its shapes' surfaces mix to. A contact ends that touched
     /// and doesn't any more, also where its shapes are no longer near or its bodies may no longer collide.
-    pub fn collide<S: ShapesByName, F: ForbiddenPairs>(
+    pub fn collide<S: ShapesById, F: ForbiddenPairs>(
         &mut self,
         alloc: Global,
         shapes: &S,
@@ -426,32 +354,35 @@ impl ContactTable {
         requires listed { AreListed marks.now marked.now }
         requires known { IsKnown (moved_by marks.now) (F.pairs forbidden.now) (S.proxies shapes.now) self.old.contacts }
         ensures contacts { self.new.contacts ≡ self.old.contacts }
-        ensures due { OnOk result (self.new.due ≡ contacts_between (F.pairs forbidden.now) (S.proxies shapes.now) self.old.contacts) }
-        ensures refused { OnErr result (self.new.due ≡ self.old.contacts) }
+        ensures pending { OnOk result (self.new.pending ≡ contacts_between (F.pairs forbidden.now) (S.proxies shapes.now) self.old.contacts) }
+        ensures refused { OnErr result (self.new.pending ≡ self.old.contacts) }
         ensures begin { IfOk result (λ touches. touches.begin.items ≡ keys_touching_only_in self.old.contacts (contacts_between (F.pairs forbidden.now) (S.proxies shapes.now) self.old.contacts)) }
         ensures end { IfOk result (λ touches. touches.end.items ≡ keys_touching_only_in (contacts_between (F.pairs forbidden.now) (S.proxies shapes.now) self.old.contacts) self.old.contacts) }
         ensures begin_rising { IfOk result (λ touches. AreRising touches.begin.items) }
         ensures end_rising { IfOk result (λ touches. AreRising touches.end.items) }
         ensures memory_only { IsOkUnless result Refusal.NoMemory }
     {
-        self.due.clear();
-        make_or_clear(
-            &mut self.beside,
-            alloc,
-            &mut self.due,
+        self.pending.clear();
+        let collide = Collide {
             shapes,
             marks,
             marked,
             forbidden,
+        };
+        make_or_clear(
+            &mut self.beside,
+            alloc,
+            &mut self.pending,
+            &collide,
             &mut self.contacts,
         )
     }
 
-    /// The contacts become what is due, or stay as they are where nothing is. Takes no memory.
+    /// The contacts become what is pending, or stay as they are where nothing is. Takes no memory.
     pub fn carry_out(&mut self)
-        ensures { self.new.contacts ≡ self.old.due }
+        ensures { self.new.contacts ≡ self.old.pending }
     {
-        carry_out_now(&mut self.contacts, &mut self.due, &mut self.beside);
+        carry_out_now(&mut self.contacts, &mut self.pending, &mut self.beside);
         self.contacts.know_ascending();
     }
 }

@@ -3,13 +3,13 @@
 
 ghost use Rattle.std.specs.Result.{IsOkUnless};
 
-use crate::fates::ShapesByName;
+use crate::fates::ShapesById;
 use contacts_base::ShapeId;
 use fixed_geom::Refusal;
 use shapes::MAX_SHAPES;
 
 /// How many slots overlap the shape with this name, if it is there. Refused 1 where memory is wanting.
-fn count_of_shape<S: ShapesByName>(shapes: &S, id: ShapeId) -> Result<usize, Refusal>
+fn count_of_shape<S: ShapesById>(shapes: &S, id: ShapeId) -> Result<usize, Refusal>
     ensures memory_only { IsOkUnless result Refusal.NoMemory }
 {
     match shapes.shape(id) {
@@ -19,7 +19,7 @@ fn count_of_shape<S: ShapesByName>(shapes: &S, id: ShapeId) -> Result<usize, Ref
 }
 
 /// How many slots overlap the shapes of a slot, with those of each counted. Refused 1 where memory is wanting.
-fn count_of_slot<S: ShapesByName>(shapes: &S, slot: u32) -> Result<usize, Refusal>
+fn count_of_slot<S: ShapesById>(shapes: &S, slot: u32) -> Result<usize, Refusal>
     ensures memory_only { IsOkUnless result Refusal.NoMemory }
 {
     let mut count: usize = 0;
@@ -34,7 +34,7 @@ fn count_of_slot<S: ShapesByName>(shapes: &S, slot: u32) -> Result<usize, Refusa
 }
 
 /// Whether the body in a slot is enabled and isn't dynamic.
-fn is_immovable<S: ShapesByName>(shapes: &S, slot: u32) -> bool {
+fn is_immovable<S: ShapesById>(shapes: &S, slot: u32) -> bool {
     match shapes.shape(ShapeId { slot, index: 0 }) {
         None => false,
         Some(p) => !p.dynamic,
@@ -43,7 +43,7 @@ fn is_immovable<S: ShapesByName>(shapes: &S, slot: u32) -> bool {
 
 /// Whether the shapes of those of these slots whose bodies aren't dynamic overlap more than `most` slots, with those of each shape counted.
 /// It decides the time alone. Refused 1 where memory is wanting.
-pub(crate) fn are_crowded<S: ShapesByName>(
+pub(crate) fn are_crowded<S: ShapesById>(
     shapes: &S,
     marked: &[u32],
     most: usize,

@@ -6,7 +6,7 @@ ghost use Rattle.std.specs.Result.{IsOkUnless};
 ghost use Rattle.fixed_geom.specs.Boxes.{overlaps};
 ghost use Rattle.contacts_base.specs.declared.near.Proxy.{Proxy};
 ghost use Rattle.contacts_base.specs.Keys.{id_number};
-ghost use Rattle.contacts_base.specs.Near.{IsProxyList};
+ghost use Rattle.contacts_base.specs.Proxies.{IsProxyList};
 ghost use Rattle.contacts_base.specs.Contacts.{is_touching};
 ghost use Rattle.contacts.specs.Changes.{key_if_new};
 ghost use Rattle.contacts.specs.Known.{again, either_moved, found, may_touch, near_key, stays};
@@ -14,6 +14,7 @@ ghost use Rattle.contacts.specs.Looked.{ending};
 ghost use Rattle.contacts.specs.Fates.{key_if_begun, moved_by, noted, one_stirs_of, outcome, stirs_in, after_fate};
 
 use crate::changes::contact_with;
+use crate::collide::Collide;
 use crate::forbidden::{ForbiddenPairs, is_forbidden};
 use crate::marks::either_moved;
 use crate::pair_sweep::PairSweep;
@@ -21,7 +22,7 @@ use contacts_base::{ContactEntry, ContactKey, PackedContact, Proxy, Renewal, Sha
 use fixed_geom::{Box2, Refusal};
 
 /// Where the shapes of the enabled bodies are read, one by one.
-pub trait ShapesByName {
+pub trait ShapesById {
     ghost proxies: { Self → List Proxy };
 
     ghost awake: { Self → List ℕ };
@@ -77,40 +78,37 @@ pub(crate) fn may_touch<F: ForbiddenPairs>(forbidden: &F, p: &Proxy, q: &Proxy) 
 
 /// Whether the shapes of a key are there, are near, and may touch.
 #[inline(always)]
-fn is_near_key<S: ShapesByName, F: ForbiddenPairs>(
-    shapes: &S,
-    forbidden: &F,
+fn is_near_key<S: ShapesById, F: ForbiddenPairs>(
+    collide: &Collide<'_, S, F>,
     key: ContactKey,
 ) -> bool
-    ensures { result ≡ near_key (F.pairs forbidden.now) (S.proxies shapes.now) key }
+    ensures { result ≡ near_key (F.pairs collide.now.forbidden.now) (S.proxies collide.now.shapes.now) key }
 {
-    let Some(p) = shapes.shape(key.first) else {
+    let Some(p) = collide.shapes.shape(key.first) else {
         return false;
     };
-    let Some(q) = shapes.shape(key.second) else {
+    let Some(q) = collide.shapes.shape(key.second) else {
         return false;
     };
-    may_touch(forbidden, &p, &q)
+    may_touch(collide.forbidden, &p, &q)
 }
 
 /// Whether a contact stays: its shapes haven't moved, or they are still near.
-pub(crate) fn stays<S: ShapesByName, F: ForbiddenPairs>(
-    shapes: &S,
-    marks: &[bool],
-    forbidden: &F,
+pub(crate) fn stays<S: ShapesById, F: ForbiddenPairs>(
+    collide: &Collide<'_, S, F>,
     key: ContactKey,
 ) -> bool
-    ensures { result ≡ cond (either_moved (moved_by marks.now) key) (near_key (F.pairs forbidden.now) (S.proxies shapes.now) key) true }
+    ensures { result ≡ cond (either_moved (moved_by collide.now.marks.now) key) (near_key (F.pairs collide.now.forbidden.now) (S.proxies collide.now.shapes.now) key) true }
 {
-    if either_moved(marks, key) {
-        is_near_key(shapes, forbidden, key)
+    if either_moved(collide.marks, key) {
+        is_near_key(collide, key)
     } else {
         true
     }
 }
 
 /// Whether the body of one of a key's shapes stirs.
-fn one_stirs_of<S: ShapesByName>(shapes: &S, key: ContactKey) -> bool
+fn one_stirs_of<S: ShapesById>(shapes: &S, key: ContactKey) -> bool
     ensures { result ≡ one_stirs_of (S.proxies shapes.now) key }
 {
     shapes.stirs(key.first) || shapes.stirs(key.second)
@@ -118,7 +116,7 @@ fn one_stirs_of<S: ShapesByName>(shapes: &S, key: ContactKey) -> bool
 
 /// The points of a contact evaluated anew, if one of its bodies stirs.
 #[inline(always)]
-fn points_again<S: ShapesByName>(shapes: &S, entry: &ContactEntry) -> PackedContact
+fn points_again<S: ShapesById>(shapes: &S, entry: &ContactEntry) -> PackedContact
     requires { IsProxyList (S.proxies shapes.now) }
     ensures { record entry.now { contact = result } ≡ again (S.proxies shapes.now) entry.now }
 {
@@ -133,22 +131,20 @@ fn points_again<S: ShapesByName>(shapes: &S, entry: &ContactEntry) -> PackedCont
 
 /// What becomes of a contact: it goes where one of its shapes has moved and they are no longer near, and else is evaluated
 /// anew if one of its bodies stirs.
-pub(crate) fn fate_of<S: ShapesByName, F: ForbiddenPairs>(
-    shapes: &S,
-    marks: &[bool],
-    forbidden: &F,
+pub(crate) fn fate_of<S: ShapesById, F: ForbiddenPairs>(
+    collide: &Collide<'_, S, F>,
     entry: &ContactEntry,
 ) -> Fate
-    requires shapes { IsProxyList (S.proxies shapes.now) }
-    ensures { after_fate entry.now result ≡ outcome (moved_by marks.now) (F.pairs forbidden.now) (S.proxies shapes.now) entry.now }
+    requires shapes { IsProxyList (S.proxies collide.now.shapes.now) }
+    ensures { after_fate entry.now result ≡ outcome (moved_by collide.now.marks.now) (F.pairs collide.now.forbidden.now) (S.proxies collide.now.shapes.now) entry.now }
 {
-    if !stays(shapes, marks, forbidden, entry.key) {
+    if !stays(collide, entry.key) {
         return Fate::Goes;
     }
-    if !one_stirs_of(shapes, entry.key) {
+    if !one_stirs_of(collide.shapes, entry.key) {
         return Fate::Stays;
     }
-    Fate::Renewed(points_again(shapes, entry))
+    Fate::Renewed(points_again(collide.shapes, entry))
 }
 
 /// Whether a contact touches after its fate.

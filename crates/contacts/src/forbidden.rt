@@ -4,7 +4,8 @@ ghost use Rattle.std.specs.Prelude.{◌≡◌, ◌++◌, ◌∷◌, [], List, co
 ghost use Rattle.std.specs.List.{list_any};
 ghost use Rattle.std.specs.Result.{IsOkUnless};
 ghost use Rattle.contacts.specs.declared.forbidden.BodyPair.{BodyPair as TheBodyPair};
-ghost use Rattle.contacts.specs.Forbidden.{is_allowed, is_forbidden, is_in_order, is_pair_of};
+ghost use Rattle.contacts.specs.Forbidden.{is_forbidden, is_in_order, is_pair_of};
+ghost use Rattle.contacts.specs.ByCodes.{is_allowed};
 ghost use Rattle.contacts.specs.Pairs.{IsPair, ArePairs};
 
 use contacts_base::Proxy;

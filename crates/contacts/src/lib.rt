@@ -9,16 +9,17 @@
 #![tactic(auto)]
 
 mod changes;
+mod collide;
 mod constraint;
 mod contact_table;
 mod crowded;
-mod due;
 mod fates;
 mod forbidden;
 mod known;
 mod marks;
 mod moved_pairs;
 mod pair_sweep;
+mod pending_update;
 mod rebuild;
 mod stirring;
 mod survey;
@@ -28,10 +29,10 @@ mod update;
 pub use changes::Changes;
 pub use constraint::Constraint;
 pub use contact_table::ContactTable;
-pub use due::Touches;
-pub use fates::{Fate, ShapesByName};
+pub use fates::{Fate, ShapesById};
 pub use forbidden::{BodyPair, ForbiddenPairs};
 pub use known::{
     all_known_after, contacts_by_codes, contacts_in_parts, known_stays, near_are_known,
 };
 pub use pair_sweep::PairSweep;
+pub use pending_update::Touches;

@@ -6,16 +6,17 @@ ghost use Rattle.std.specs.List.Sorted.{IsStrictlyIncreasing};
 ghost use Rattle.std.specs.Option.{option_to_list};
 ghost use Rattle.std.specs.Result.{IsOkUnless};
 ghost use Rattle.contacts_base.specs.Keys.{id_number};
-ghost use Rattle.contacts_base.specs.Near.{IsProxy, IsProxyList};
+ghost use Rattle.contacts_base.specs.Proxies.{IsProxy, IsProxyList};
 ghost use Rattle.contacts_base.specs.Split.{contacts_in};
-ghost use Rattle.contacts.specs.Changes.{contacts_of};
+ghost use Rattle.contacts.specs.ByCodes.{contacts_of};
 ghost use Rattle.contacts.specs.Known.{found, fresh as fresh_codes, has_key};
 ghost use Rattle.contacts.specs.NearMarked.{HasNumbers, HasNumbersIn, IsExtended, fresh_by, fresh_of, near_number, number_if, number_with, numbers_up, numbers_with};
 ghost use Rattle.contacts.specs.Fates.{AreWithin, moved_by};
 ghost use Rattle.packed_sets.specs.Marks.{AreListed};
 
 use crate::changes::entry_with;
-use crate::fates::{ShapesByName, may_touch};
+use crate::collide::Collide;
+use crate::fates::{ShapesById, may_touch};
 use crate::forbidden::ForbiddenPairs;
 use crate::marks::either_moved;
 use contacts_base::{ContactEntry, ContactKey, Hint, Proxy, ShapeId, SplitContacts, is_near};
@@ -50,7 +51,7 @@ fn near_number(p: &Proxy, q: &Proxy) -> Option<u128>
 }
 
 /// The same with the shape of a name, if there is one.
-fn number_with<S: ShapesByName>(shapes: &S, p: &Proxy, id: ShapeId) -> Option<u128>
+fn number_with<S: ShapesById>(shapes: &S, p: &Proxy, id: ShapeId) -> Option<u128>
     ensures { result ≡ number_with p.now (found (S.proxies shapes.now) (id_number id)) }
 {
     match shapes.shape(id) {
@@ -71,7 +72,7 @@ fn push_number(numbers: &mut Vec<u128>, number: Option<u128>) -> Result<(), Refu
 }
 
 /// Adds the numbers of a shape with those of a slot. Refused 1 where memory is wanting.
-fn push_numbers_in<S: ShapesByName>(
+fn push_numbers_in<S: ShapesById>(
     numbers: &mut Vec<u128>,
     shapes: &S,
     p: &Proxy,
@@ -91,7 +92,7 @@ fn push_numbers_in<S: ShapesByName>(
 }
 
 /// Adds the numbers of a shape with those of these slots. Refused 1 where memory is wanting.
-fn push_numbers_with<S: ShapesByName>(
+fn push_numbers_with<S: ShapesById>(
     numbers: &mut Vec<u128>,
     shapes: &S,
     p: &Proxy,
@@ -107,7 +108,7 @@ fn push_numbers_with<S: ShapesByName>(
 }
 
 /// Adds the numbers of the pairs that the shape with a name makes. Refused 1 where memory is wanting.
-fn push_numbers_of<S: ShapesByName>(
+fn push_numbers_of<S: ShapesById>(
     numbers: &mut Vec<u128>,
     shapes: &S,
     id: ShapeId,
@@ -126,7 +127,7 @@ fn push_numbers_of<S: ShapesByName>(
 }
 
 /// Adds the numbers of the pairs that the shapes of a slot make. Refused 1 where memory is wanting.
-fn push_numbers_of_slot<S: ShapesByName>(
+fn push_numbers_of_slot<S: ShapesById>(
     numbers: &mut Vec<u128>,
     shapes: &S,
     slot: u32,
@@ -147,7 +148,7 @@ fn push_numbers_of_slot<S: ShapesByName>(
 }
 
 /// Adds the numbers of the pairs that the shapes of these slots make. Refused 1 where memory is wanting.
-fn push_numbers_of_all<S: ShapesByName>(
+fn push_numbers_of_all<S: ShapesById>(
     numbers: &mut Vec<u128>,
     shapes: &S,
     marked: &[u32],
@@ -164,7 +165,7 @@ fn push_numbers_of_all<S: ShapesByName>(
 
 /// Fills `numbers` with those of the keys of the near pairs that the shapes of these slots make, ascending, each once. Refused 1 where memory
 /// is wanting.
-fn list_numbers<S: ShapesByName>(
+fn list_numbers<S: ShapesById>(
     numbers: &mut Vec<u128>,
     shapes: &S,
     marked: &[u32],
@@ -212,28 +213,27 @@ fn has_key(old: &SplitContacts, key: ContactKey) -> bool
 }
 
 /// The contact of two shapes, if the first is the lesser, they may touch, one has moved, and they have none yet.
-fn fresh_of<F: ForbiddenPairs>(
-    marks: &[bool],
-    forbidden: &F,
+fn fresh_of<S: ShapesById, F: ForbiddenPairs>(
+    collide: &Collide<'_, S, F>,
     old: &SplitContacts,
     p: &Proxy,
     q: &Proxy,
 ) -> Option<ContactEntry>
     requires first { IsProxy p.now }
     requires second { IsProxy q.now }
-    ensures { result ≡ fresh_of (moved_by marks.now) (F.pairs forbidden.now) (contacts_in old.now) p.now q.now }
+    ensures { result ≡ fresh_of (moved_by collide.now.marks.now) (F.pairs collide.now.forbidden.now) (contacts_in old.now) p.now q.now }
 {
     if p.id.number() >= q.id.number() {
         return None;
     }
-    if !may_touch(forbidden, p, q) {
+    if !may_touch(collide.forbidden, p, q) {
         return None;
     }
     let key = ContactKey {
         first: p.id,
         second: q.id,
     };
-    if !either_moved(marks, key) {
+    if !either_moved(collide.marks, key) {
         return None;
     }
     if has_key(old, key) {
@@ -244,27 +244,25 @@ fn fresh_of<F: ForbiddenPairs>(
 }
 
 /// The contact of the shapes of a key's number, if they are fresh.
-fn fresh_by<S: ShapesByName, F: ForbiddenPairs>(
-    shapes: &S,
-    marks: &[bool],
-    forbidden: &F,
+fn fresh_by<S: ShapesById, F: ForbiddenPairs>(
+    collide: &Collide<'_, S, F>,
     old: &SplitContacts,
     number: u128,
 ) -> Option<ContactEntry>
-    requires shapes { IsProxyList (S.proxies shapes.now) }
-    ensures { result ≡ fresh_by (moved_by marks.now) (F.pairs forbidden.now) (S.proxies shapes.now) (contacts_in old.now) number }
+    requires shapes { IsProxyList (S.proxies collide.now.shapes.now) }
+    ensures { result ≡ fresh_by (moved_by collide.now.marks.now) (F.pairs collide.now.forbidden.now) (S.proxies collide.now.shapes.now) (contacts_in old.now) number }
 {
     if number >= 1 << 80 {
         return None;
     }
     let key = key_with(number);
-    let Some(p) = shapes.shape(key.first) else {
+    let Some(p) = collide.shapes.shape(key.first) else {
         return None;
     };
-    let Some(q) = shapes.shape(key.second) else {
+    let Some(q) = collide.shapes.shape(key.second) else {
         return None;
     };
-    fresh_of(marks, forbidden, old, &p, &q)
+    fresh_of(collide, old, &p, &q)
 }
 
 /// Adds a contact, if there is one. Refused 1 where memory is wanting.
@@ -280,29 +278,23 @@ fn push_entry(entries: &mut Vec<ContactEntry>, entry: Option<ContactEntry>) -> R
 
 /// The contacts of those near pairs of which a shape has moved, whose bodies aren't among the forbidden pairs, and that have none among `old`: all
 /// are of shapes of the marked slots. `numbers` is room to work in. Refused 1 where memory is wanting.
-pub(crate) fn fresh_of_marked<S: ShapesByName, F: ForbiddenPairs>(
+pub(crate) fn fresh_of_marked<S: ShapesById, F: ForbiddenPairs>(
     alloc: Global,
     numbers: &mut Vec<u128>,
-    shapes: &S,
-    marks: &[bool],
-    marked: &[u32],
-    forbidden: &F,
+    collide: &Collide<'_, S, F>,
     old: &SplitContacts,
 ) -> Result<Vec<ContactEntry>, Refusal>
-    requires shapes { IsProxyList (S.proxies shapes.now) }
-    requires within { AreWithin marks.now (S.proxies shapes.now) }
-    requires listed { AreListed marks.now marked.now }
-    ensures value { IfOk result (λ fresh. fresh.items ≡ contacts_of (contacts_in old.now) (S.proxies shapes.now) (fresh_codes (moved_by marks.now) (F.pairs forbidden.now) (S.proxies shapes.now) (contacts_in old.now))) }
+    requires shapes { IsProxyList (S.proxies collide.now.shapes.now) }
+    requires within { AreWithin collide.now.marks.now (S.proxies collide.now.shapes.now) }
+    requires listed { AreListed collide.now.marks.now collide.now.marked.now }
+    ensures value { IfOk result (λ fresh. fresh.items ≡ contacts_of (contacts_in old.now) (S.proxies collide.now.shapes.now) (fresh_codes (moved_by collide.now.marks.now) (F.pairs collide.now.forbidden.now) (S.proxies collide.now.shapes.now) (contacts_in old.now))) }
     ensures memory_only { IsOkUnless result Refusal.NoMemory }
 {
-    list_numbers(numbers, shapes, marked)?;
+    list_numbers(numbers, collide.shapes, collide.marked)?;
     let listed = numbers.as_slice();
     let mut fresh = Vec::new(alloc);
     for place in 0..listed.len() {
-        push_entry(
-            &mut fresh,
-            fresh_by(shapes, marks, forbidden, old, listed[place]),
-        )?;
+        push_entry(&mut fresh, fresh_by(collide, old, listed[place]))?;
     }
     Ok(fresh)
 }

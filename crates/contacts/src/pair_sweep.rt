@@ -2,11 +2,13 @@
 
 ghost use Rattle.std.specs.Prelude.{◌≡◌, ◌<◌, ◌≤◌, ◌-◌, ◌∷◌, ◌++◌, [], All, OnOk, OnErr, IfOk, vec_len, vec_capacity};
 ghost use Rattle.std.specs.Result.{IsOkUnless};
-ghost use Rattle.contacts_base.specs.Contacts.{AreContacts};
-ghost use Rattle.contacts_base.specs.Near.{IsProxy, IsProxyList, number_of, near_codes};
+ghost use Rattle.contacts_base.specs.ContactLists.{AreContacts};
+ghost use Rattle.contacts_base.specs.NearCodes.{near_codes};
+ghost use Rattle.contacts_base.specs.Proxies.{IsProxy, IsProxyList, number_of};
 ghost use Rattle.contacts.specs.ByPairs.{contacts_between};
 ghost use Rattle.contacts.specs.Pairs.{ArePairs};
-ghost use Rattle.contacts.specs.Changes.{AreRising, keys_not_in, keys_touching_only_in};
+ghost use Rattle.contacts.specs.Changes.{keys_touching_only_in};
+ghost use Rattle.contacts.specs.ChangedKeys.{AreRising, keys_not_in};
 
 use crate::changes::{Changes, update};
 use crate::forbidden::{ForbiddenPairs, list_allowed};
@@ -150,13 +152,14 @@ impl PairSweep {
     }
 
     /// The contacts of the near pairs whose bodies aren't among the forbidden pairs, and what changed; `old` are the contacts until now. Refused 1 where memory is wanting.
+    /// They are listed in the memory of `room`, whatever is in it.
     ///
     /// A contact is evaluated anew if one of its two bodies stirs, and else stays as it is. A pair that had a contact keeps its surface, and the impulses of its points by their candidates; a
     /// new pair gets a contact with what its shapes' surfaces mix to. A contact ends that touched and doesn't any more, also where its shapes are no longer
     /// near or its bodies may no longer collide.
     pub fn update_contacts<F: ForbiddenPairs>(
         &mut self,
-        alloc: Global,
+        room: Vec<ContactEntry>,
         forbidden: &F,
         old: &[ContactEntry],
     ) -> Result<Changes, Refusal>
@@ -182,6 +185,6 @@ impl PairSweep {
             &self.boxes,
         )?;
         list_allowed(&mut self.allowed, forbidden, &self.proxies, &self.near)?;
-        update(alloc, old, &self.proxies, &self.allowed)
+        update(room, old, &self.proxies, &self.allowed)
     }
 }

@@ -3,8 +3,9 @@
 ghost use Rattle.std.specs.Prelude.{◌≡◌, ◌≤◌, All, IfOk, Some, None, length, map};
 ghost use Rattle.std.specs.List.{filter_map};
 ghost use Rattle.std.specs.Result.{IsOkUnless};
-ghost use Rattle.contacts_base.specs.Contacts.{AreContacts, AreKeysRising, number_of};
-ghost use Rattle.contacts_base.specs.Near.{IsProxyList};
+ghost use Rattle.contacts_base.specs.Contacts.{AreKeysRising, number_of};
+ghost use Rattle.contacts_base.specs.ContactLists.{AreContacts};
+ghost use Rattle.contacts_base.specs.Proxies.{IsProxyList};
 ghost use Rattle.contacts.specs.Changes.{key_if_new};
 ghost use Rattle.contacts.specs.Known.{IsPairKey, again, staying};
 ghost use Rattle.contacts.specs.Looked.{IsRebuilt};
@@ -13,9 +14,10 @@ ghost use Rattle.contacts.specs.Stirring.{AreQuiet};
 ghost use Rattle.contacts.specs.Fates.{IsAdded, begun_keys, ended_keys, moved_by, after_fate};
 
 use crate::changes::push_key;
-use crate::due::Touches;
-use crate::fates::{Fate, ShapesByName, begun_key, ended_key};
+use crate::collide::Collide;
+use crate::fates::{Fate, ShapesById, begun_key, ended_key};
 use crate::forbidden::ForbiddenPairs;
+use crate::pending_update::Touches;
 use crate::stirring::fate_in;
 use contacts_base::merge::{merge, push_below};
 use contacts_base::{ContactEntry, ContactKey};
@@ -84,23 +86,21 @@ fn push_after_fate(
 }
 
 /// Goes over the old contacts once, and adds the fresh ones in their places. Refused 1 where memory is wanting.
-fn fate_each<S: ShapesByName, F: ForbiddenPairs>(
+fn fate_each<S: ShapesById, F: ForbiddenPairs>(
     alloc: Global,
-    shapes: &S,
-    marks: &[bool],
-    forbidden: &F,
+    collide: &Collide<'_, S, F>,
     old: &[ContactEntry],
     flags: &[bool],
     fresh: &[ContactEntry],
 ) -> Result<Survivors, Refusal>
-    requires shapes { IsProxyList (S.proxies shapes.now) }
+    requires shapes { IsProxyList (S.proxies collide.now.shapes.now) }
     requires old { AreContacts old.now }
     requires keys { All (λ e. IsPairKey e.key) old.now }
-    requires quiet { AreQuiet flags.now marks.now (S.proxies shapes.now) }
+    requires quiet { AreQuiet flags.now collide.now.marks.now (S.proxies collide.now.shapes.now) }
     requires fresh { AreAscending number_of fresh.now }
-    ensures all { IfOk result (λ found. found.all.items ≡ merged number_of (map (again (S.proxies shapes.now)) (staying (moved_by marks.now) (F.pairs forbidden.now) (S.proxies shapes.now) old.now)) fresh.now) }
-    ensures begin { IfOk result (λ found. found.begin.items ≡ begun_keys (moved_by marks.now) (F.pairs forbidden.now) (S.proxies shapes.now) old.now) }
-    ensures end { IfOk result (λ found. found.end.items ≡ ended_keys (moved_by marks.now) (F.pairs forbidden.now) (S.proxies shapes.now) old.now) }
+    ensures all { IfOk result (λ found. found.all.items ≡ merged number_of (map (again (S.proxies collide.now.shapes.now)) (staying (moved_by collide.now.marks.now) (F.pairs collide.now.forbidden.now) (S.proxies collide.now.shapes.now) old.now)) fresh.now) }
+    ensures begin { IfOk result (λ found. found.begin.items ≡ begun_keys (moved_by collide.now.marks.now) (F.pairs collide.now.forbidden.now) (S.proxies collide.now.shapes.now) old.now) }
+    ensures end { IfOk result (λ found. found.end.items ≡ ended_keys (moved_by collide.now.marks.now) (F.pairs collide.now.forbidden.now) (S.proxies collide.now.shapes.now) old.now) }
     ensures memory_only { IsOkUnless result Refusal.NoMemory }
 {
     let mut all = Vec::with_capacity(alloc, old.len().saturating_add(fresh.len()))?;
@@ -109,7 +109,7 @@ fn fate_each<S: ShapesByName, F: ForbiddenPairs>(
     let mut next = 0;
     for place in 0..old.len() {
         let entry = &old[place];
-        let fate = fate_in(shapes, marks, forbidden, flags, entry);
+        let fate = fate_in(collide, flags, entry);
         next = push_after_fate(&mut all, fresh, next, entry, &fate)?;
         push_key(&mut begin, begun_key(entry, &fate))?;
         push_key(&mut end, ended_key(entry, &fate))?;
@@ -143,24 +143,22 @@ fn keys_of_touching(alloc: Global, fresh: &[ContactEntry]) -> Result<Vec<Contact
 }
 
 /// The list anew, of those that there were and the fresh ones. Refused 1 where memory is wanting.
-pub(crate) fn rebuild<S: ShapesByName, F: ForbiddenPairs>(
+pub(crate) fn rebuild<S: ShapesById, F: ForbiddenPairs>(
     alloc: Global,
-    shapes: &S,
-    marks: &[bool],
-    forbidden: &F,
+    collide: &Collide<'_, S, F>,
     old: &[ContactEntry],
     flags: &[bool],
     fresh: &[ContactEntry],
 ) -> Result<Rebuilt, Refusal>
-    requires shapes { IsProxyList (S.proxies shapes.now) }
+    requires shapes { IsProxyList (S.proxies collide.now.shapes.now) }
     requires old { AreContacts old.now }
     requires keys { All (λ e. IsPairKey e.key) old.now }
-    requires quiet { AreQuiet flags.now marks.now (S.proxies shapes.now) }
+    requires quiet { AreQuiet flags.now collide.now.marks.now (S.proxies collide.now.shapes.now) }
     requires fresh { AreKeysRising fresh.now }
-    ensures rebuilt { IfOk result (λ rebuilt. IsRebuilt (moved_by marks.now) (F.pairs forbidden.now) (S.proxies shapes.now) old.now fresh.now rebuilt.all.items rebuilt.touches.begin.items rebuilt.touches.end.items) }
+    ensures rebuilt { IfOk result (λ rebuilt. IsRebuilt (moved_by collide.now.marks.now) (F.pairs collide.now.forbidden.now) (S.proxies collide.now.shapes.now) old.now fresh.now rebuilt.all.items rebuilt.touches.begin.items rebuilt.touches.end.items) }
     ensures memory_only { IsOkUnless result Refusal.NoMemory }
 {
-    let survivors = fate_each(alloc, shapes, marks, forbidden, old, flags, fresh)?;
+    let survivors = fate_each(alloc, collide, old, flags, fresh)?;
     let new_keys = keys_of_touching(alloc, fresh)?;
     let begin = merge(alloc, &new_keys, &survivors.begin)?;
     Ok(Rebuilt {

@@ -2,14 +2,15 @@
 
 ghost use Rattle.std.specs.Prelude.{◌≡◌, ◌++◌, ◌∷◌, [], All, Bool, IsTrue, List, OnOk, cond, false, length, replicate, true};
 ghost use Rattle.std.specs.Result.{IsOkUnless};
-ghost use Rattle.contacts_base.specs.Near.{IsProxyList};
+ghost use Rattle.contacts_base.specs.Proxies.{IsProxyList};
 ghost use Rattle.contacts_base.specs.Split.{AreSlotsBelow};
 ghost use Rattle.contacts.specs.Known.{IsPairKey};
 ghost use Rattle.contacts.specs.Stirring.{AreFlagsListed, AreHeld, AreQuiet, is_flagged, one_flagged, places_of_all, stirring_places};
 ghost use Rattle.contacts.specs.Fates.{moved_by, outcome, after_fate};
 ghost use Rattle.packed_sets.specs.Marks.{AreListed};
 
-use crate::fates::{Fate, ShapesByName, fate_of};
+use crate::collide::Collide;
+use crate::fates::{Fate, ShapesById, fate_of};
 use crate::forbidden::ForbiddenPairs;
 use contacts_base::{ContactEntry, SplitContacts};
 use fixed_geom::Refusal;
@@ -75,20 +76,23 @@ fn are_flagged(flags: &[bool], slots: &[u32]) -> bool
 }
 
 /// Whether the flags have all bodies that stir, and all slots that are marked.
-fn are_told<S: ShapesByName>(flags: &[bool], shapes: &S, marks: &[bool], marked: &[u32]) -> bool
-    requires { AreListed marks.now marked.now }
-    ensures { IsTrue result → AreQuiet flags.now marks.now (S.proxies shapes.now) }
+fn are_complete<S: ShapesById, F: ForbiddenPairs>(
+    flags: &[bool],
+    collide: &Collide<'_, S, F>,
+) -> bool
+    requires { AreListed collide.now.marks.now collide.now.marked.now }
+    ensures { IsTrue result → AreQuiet flags.now collide.now.marks.now (S.proxies collide.now.shapes.now) }
 {
-    if flags.len() > marks.len() {
+    if flags.len() > collide.marks.len() {
         return false;
     }
-    if !are_flagged(flags, marked) {
+    if !are_flagged(flags, collide.marked) {
         return false;
     }
-    if !are_flagged(flags, shapes.awake()) {
+    if !are_flagged(flags, collide.shapes.awake()) {
         return false;
     }
-    are_flagged(flags, shapes.carried())
+    are_flagged(flags, collide.shapes.carried())
 }
 
 /// Flags a slot that has a flag, if that isn't set. Refused 1 where memory is wanting.
@@ -117,19 +121,18 @@ fn flag(flags: &mut Vec<bool>, flagged: &mut Vec<u32>, slots: &[u32]) -> Result<
 }
 
 /// Flags the slots of all bodies that stir, and those that are marked. Refused 1 where memory is wanting.
-fn flag_stirring<S: ShapesByName>(
+fn flag_stirring<S: ShapesById, F: ForbiddenPairs>(
     flags: &mut Vec<bool>,
     flagged: &mut Vec<u32>,
-    shapes: &S,
-    marked: &[u32],
+    collide: &Collide<'_, S, F>,
 ) -> Result<(), Refusal>
     requires { AreFlagsListed flags.old.items flagged.old.items }
     ensures flagged { AreFlagsListed flags.new.items flagged.new.items }
     ensures memory_only { IsOkUnless result Refusal.NoMemory }
 {
-    flag(flags, flagged, shapes.awake())?;
-    flag(flags, flagged, shapes.carried())?;
-    flag(flags, flagged, marked)
+    flag(flags, flagged, collide.shapes.awake())?;
+    flag(flags, flagged, collide.shapes.carried())?;
+    flag(flags, flagged, collide.marked)
 }
 
 /// Takes the flags of these slots away, which are all that are flagged.
@@ -156,22 +159,24 @@ fn clear_flags(flags: &mut Vec<bool>, flagged: &mut Vec<u32>, slots: usize) -> R
 }
 
 /// Flags all bodies that stir, and all slots that are marked. Refused 1 where memory is wanting.
-fn flag_anew<S: ShapesByName>(
+fn flag_anew<S: ShapesById, F: ForbiddenPairs>(
     stirring: &mut Stirring,
-    shapes: &S,
-    marks: &[bool],
-    marked: &[u32],
+    collide: &Collide<'_, S, F>,
 ) -> Result<(), Refusal>
-    requires listed { AreListed marks.now marked.now }
+    requires listed { AreListed collide.now.marks.now collide.now.marked.now }
     requires flagged { AreFlagsListed stirring.old.flags.items stirring.old.flagged.items }
     ensures flagged { AreFlagsListed stirring.new.flags.items stirring.new.flagged.items }
-    ensures quiet { OnOk result (AreQuiet stirring.new.flags.items marks.now (S.proxies shapes.now)) }
+    ensures quiet { OnOk result (AreQuiet stirring.new.flags.items collide.now.marks.now (S.proxies collide.now.shapes.now)) }
     ensures holds { stirring.new.holds ≡ stirring.old.holds }
     ensures memory_only { IsOkUnless result Refusal.NoMemory }
 {
-    clear_flags(&mut stirring.flags, &mut stirring.flagged, marks.len())?;
-    flag_stirring(&mut stirring.flags, &mut stirring.flagged, shapes, marked)?;
-    if !are_told(&stirring.flags, shapes, marks, marked) {
+    clear_flags(
+        &mut stirring.flags,
+        &mut stirring.flagged,
+        collide.marks.len(),
+    )?;
+    flag_stirring(&mut stirring.flags, &mut stirring.flagged, collide)?;
+    if !are_complete(&stirring.flags, collide) {
         stirring.flags.clear();
         stirring.flagged.clear();
     }
@@ -259,51 +264,47 @@ fn list_places(
 }
 
 /// How many slots are those of bodies that stir, or are marked; some may count twice.
-fn count_stirring<S: ShapesByName>(shapes: &S, marked: &[u32]) -> usize {
-    shapes
-        .awake()
-        .len()
-        .saturating_add(shapes.carried().len())
-        .saturating_add(marked.len())
+fn count_stirring<S: ShapesById, F: ForbiddenPairs>(collide: &Collide<'_, S, F>) -> usize {
+    let awake = collide.shapes.awake().len();
+    let carried = collide.shapes.carried().len();
+    awake
+        .saturating_add(carried)
+        .saturating_add(collide.marked.len())
 }
 
 /// Whether the flags serve: each slot has one, they have all bodies that stir and all marked slots, and not many more.
-fn do_serve<S: ShapesByName>(
+fn do_serve<S: ShapesById, F: ForbiddenPairs>(
     stirring: &Stirring,
-    shapes: &S,
-    marks: &[bool],
-    marked: &[u32],
+    collide: &Collide<'_, S, F>,
 ) -> bool
-    requires { AreListed marks.now marked.now }
-    ensures { IsTrue result → AreQuiet stirring.now.flags.items marks.now (S.proxies shapes.now) }
+    requires { AreListed collide.now.marks.now collide.now.marked.now }
+    ensures { IsTrue result → AreQuiet stirring.now.flags.items collide.now.marks.now (S.proxies collide.now.shapes.now) }
 {
-    if stirring.flags.len() != marks.len() {
+    if stirring.flags.len() != collide.marks.len() {
         return false;
     }
-    if stirring.flagged.len() / 2 > count_stirring(shapes, marked) {
+    if stirring.flagged.len() / 2 > count_stirring(collide) {
         return false;
     }
-    are_told(&stirring.flags, shapes, marks, marked)
+    are_complete(&stirring.flags, collide)
 }
 
 /// Puts the flags right. Refused 1 where memory is wanting.
-fn refresh_flags<S: ShapesByName>(
+fn refresh_flags<S: ShapesById, F: ForbiddenPairs>(
     stirring: &mut Stirring,
-    shapes: &S,
-    marks: &[bool],
-    marked: &[u32],
+    collide: &Collide<'_, S, F>,
 ) -> Result<(), Refusal>
-    requires listed { AreListed marks.now marked.now }
+    requires listed { AreListed collide.now.marks.now collide.now.marked.now }
     requires flagged { AreFlagsListed stirring.old.flags.items stirring.old.flagged.items }
     ensures held { (entries : List ContactEntry) → AreHeld stirring.old entries → AreHeld stirring.new entries }
-    ensures quiet { OnOk result (AreQuiet stirring.new.flags.items marks.now (S.proxies shapes.now)) }
+    ensures quiet { OnOk result (AreQuiet stirring.new.flags.items collide.now.marks.now (S.proxies collide.now.shapes.now)) }
     ensures memory_only { IsOkUnless result Refusal.NoMemory }
 {
-    if do_serve(stirring, shapes, marks, marked) {
+    if do_serve(stirring, collide) {
         return Ok(());
     }
     stirring.holds = false;
-    flag_anew(stirring, shapes, marks, marked)
+    flag_anew(stirring, collide)
 }
 
 /// Puts the places right. Refused 1 where memory is wanting.
@@ -331,40 +332,36 @@ fn refresh_places(stirring: &mut Stirring, contacts: &mut SplitContacts) -> Resu
 /// Puts flags and places right for a collide: they have all contacts of the long list of which a body stirs or has a marked slot. What they were
 /// made of before serves as long as it has all that, so that a step in which no body wakes costs by what stirs. Changes no contact. Refused 1 where
 /// memory is wanting.
-pub(crate) fn refresh<S: ShapesByName>(
+pub(crate) fn refresh<S: ShapesById, F: ForbiddenPairs>(
     stirring: &mut Stirring,
-    shapes: &S,
-    marks: &[bool],
-    marked: &[u32],
+    collide: &Collide<'_, S, F>,
     contacts: &mut SplitContacts,
 ) -> Result<(), Refusal>
-    requires listed { AreListed marks.now marked.now }
+    requires listed { AreListed collide.now.marks.now collide.now.marked.now }
     requires held { AreHeld stirring.old contacts.old.long }
     ensures held { AreHeld stirring.new contacts.new.long }
     ensures contacts { contacts.new ≡ contacts.old }
     ensures places { OnOk result (stirring.new.places.items ≡ stirring_places stirring.new.flags.items contacts.new.long) }
-    ensures quiet { OnOk result (AreQuiet stirring.new.flags.items marks.now (S.proxies shapes.now)) }
+    ensures quiet { OnOk result (AreQuiet stirring.new.flags.items collide.now.marks.now (S.proxies collide.now.shapes.now)) }
     ensures memory_only { IsOkUnless result Refusal.NoMemory }
 {
-    refresh_flags(stirring, shapes, marks, marked)?;
+    refresh_flags(stirring, collide)?;
     refresh_places(stirring, contacts)
 }
 
 /// What becomes of a contact: one of which no body may stir stays as it is.
-pub(crate) fn fate_in<S: ShapesByName, F: ForbiddenPairs>(
-    shapes: &S,
-    marks: &[bool],
-    forbidden: &F,
+pub(crate) fn fate_in<S: ShapesById, F: ForbiddenPairs>(
+    collide: &Collide<'_, S, F>,
     flags: &[bool],
     entry: &ContactEntry,
 ) -> Fate
-    requires shapes { IsProxyList (S.proxies shapes.now) }
-    requires quiet { AreQuiet flags.now marks.now (S.proxies shapes.now) }
+    requires shapes { IsProxyList (S.proxies collide.now.shapes.now) }
+    requires quiet { AreQuiet flags.now collide.now.marks.now (S.proxies collide.now.shapes.now) }
     requires key { IsPairKey entry.now.key }
-    ensures { after_fate entry.now result ≡ outcome (moved_by marks.now) (F.pairs forbidden.now) (S.proxies shapes.now) entry.now }
+    ensures { after_fate entry.now result ≡ outcome (moved_by collide.now.marks.now) (F.pairs collide.now.forbidden.now) (S.proxies collide.now.shapes.now) entry.now }
 {
     if !is_one_flagged(flags, entry) {
         return Fate::Stays;
     }
-    fate_of(shapes, marks, forbidden, entry)
+    fate_of(collide, entry)
 }

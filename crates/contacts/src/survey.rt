@@ -3,7 +3,7 @@
 ghost use Rattle.std.specs.Prelude.{◌≡◌, ◌++◌, All, IfOk, length};
 ghost use Rattle.std.specs.Option.{option_to_list};
 ghost use Rattle.std.specs.Result.{IsOkUnless};
-ghost use Rattle.contacts_base.specs.Near.{IsProxyList};
+ghost use Rattle.contacts_base.specs.Proxies.{IsProxyList};
 ghost use Rattle.contacts_base.specs.Split.{counting, counting_at};
 ghost use Rattle.contacts.specs.Known.{IsPairKey};
 ghost use Rattle.contacts.specs.Looked.{IsLookedOver, IsFate, begun_of, ended_of, ending};
@@ -11,9 +11,10 @@ ghost use Rattle.contacts.specs.Stirring.{AreQuiet, stirring_places};
 ghost use Rattle.contacts.specs.Fates.{moved_by, noted};
 
 use crate::changes::push_key;
-use crate::due::Touches;
-use crate::fates::{Fate, ShapesByName, begun_key, ended_key, fate_of, note, note_end};
+use crate::collide::Collide;
+use crate::fates::{Fate, ShapesById, begun_key, ended_key, fate_of, note, note_end};
 use crate::forbidden::ForbiddenPairs;
+use crate::pending_update::Touches;
 use crate::stirring::Stirring;
 use contacts_base::{Renewal, SplitContacts};
 use fixed_geom::Refusal;
@@ -21,18 +22,16 @@ use std::alloc::Global;
 
 /// Looks at the contact at a place of the long list, and notes what becomes of it: it stays as it is where none counts there. Refused 1 where memory is wanting.
 #[inline(always)]
-fn look_at<S: ShapesByName, F: ForbiddenPairs>(
+fn look_at<S: ShapesById, F: ForbiddenPairs>(
     notes: &mut Vec<Renewal>,
     ends: &mut Vec<usize>,
     touches: &mut Touches,
-    shapes: &S,
-    marks: &[bool],
-    forbidden: &F,
+    collide: &Collide<'_, S, F>,
     old: &SplitContacts,
     place: usize,
 ) -> Result<Fate, Refusal>
-    requires { IsProxyList (S.proxies shapes.now) }
-    ensures fate { IfOk result (λ fate. IsFate (moved_by marks.now) (F.pairs forbidden.now) (S.proxies shapes.now) (counting_at old.now place) fate) }
+    requires { IsProxyList (S.proxies collide.now.shapes.now) }
+    ensures fate { IfOk result (λ fate. IsFate (moved_by collide.now.marks.now) (F.pairs collide.now.forbidden.now) (S.proxies collide.now.shapes.now) (counting_at old.now place) fate) }
     ensures notes { IfOk result (λ fate. notes.new.items ≡ notes.old.items ++ noted place fate) }
     ensures ends { IfOk result (λ fate. ends.new.items ≡ ends.old.items ++ ending place fate) }
     ensures begin { IfOk result (λ fate. touches.new.begin.items ≡ touches.old.begin.items ++ option_to_list (begun_of (counting_at old.now place) fate)) }
@@ -42,7 +41,7 @@ fn look_at<S: ShapesByName, F: ForbiddenPairs>(
     let Some(entry) = old.counting(place) else {
         return Ok(Fate::Stays);
     };
-    let fate = fate_of(shapes, marks, forbidden, entry);
+    let fate = fate_of(collide, entry);
     note(notes, place, &fate)?;
     note_end(ends, place, &fate)?;
     push_key(&mut touches.begin, begun_key(entry, &fate))?;
@@ -52,22 +51,20 @@ fn look_at<S: ShapesByName, F: ForbiddenPairs>(
 
 /// Goes once over the contacts of the long list of which a body may stir, notes the points of those that are evaluated anew, and the places of those that go.
 /// Answers which of them begin to touch, and which end. Refused 1 where memory is wanting.
-pub(crate) fn look_over<S: ShapesByName, F: ForbiddenPairs>(
+pub(crate) fn look_over<S: ShapesById, F: ForbiddenPairs>(
     alloc: Global,
     notes: &mut Vec<Renewal>,
     ends: &mut Vec<usize>,
-    shapes: &S,
-    marks: &[bool],
-    forbidden: &F,
+    collide: &Collide<'_, S, F>,
     old: &SplitContacts,
     stirring: &Stirring,
 ) -> Result<Touches, Refusal>
-    requires shapes { IsProxyList (S.proxies shapes.now) }
+    requires shapes { IsProxyList (S.proxies collide.now.shapes.now) }
     requires flags { length old.now.over ≡ length old.now.long }
     requires keys { All (λ e. IsPairKey e.key) (counting old.now.over old.now.long) }
     requires places { stirring.now.places.items ≡ stirring_places stirring.now.flags.items old.now.long }
-    requires quiet { AreQuiet stirring.now.flags.items marks.now (S.proxies shapes.now) }
-    ensures looked { IfOk result (λ touches. IsLookedOver (moved_by marks.now) (F.pairs forbidden.now) (S.proxies shapes.now) old.now notes.new.items ends.new.items touches.begin.items touches.end.items) }
+    requires quiet { AreQuiet stirring.now.flags.items collide.now.marks.now (S.proxies collide.now.shapes.now) }
+    ensures looked { IfOk result (λ touches. IsLookedOver (moved_by collide.now.marks.now) (F.pairs collide.now.forbidden.now) (S.proxies collide.now.shapes.now) old.now notes.new.items ends.new.items touches.begin.items touches.end.items) }
     ensures memory_only { IsOkUnless result Refusal.NoMemory }
 {
     notes.clear();
@@ -79,16 +76,7 @@ pub(crate) fn look_over<S: ShapesByName, F: ForbiddenPairs>(
     let places = stirring.places.as_slice();
     for index in 0..places.len() {
         let place = places[index];
-        look_at(
-            notes,
-            ends,
-            &mut touches,
-            shapes,
-            marks,
-            forbidden,
-            old,
-            place,
-        )?;
+        look_at(notes, ends, &mut touches, collide, old, place)?;
     }
     Ok(touches)
 }

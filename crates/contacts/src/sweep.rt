@@ -17,7 +17,8 @@ ghost use Rattle.std.specs.List.Sorted.{IsPermutation, IsSorted};
 ghost use Rattle.std.specs.Ordering.{nat_cmp};
 ghost use Rattle.std.specs.Option.{option_to_list};
 ghost use Rattle.contacts.specs.Sweep.{pair_at, near_pair, column, strip_of, spot, start_in, strip_at, place_at, reach, starts_up, firsts_from, furthers_from, starts_of, IsPlaceIn, boxes_of, end_of, may_meet, pair_of, met, is_dynamic_at, dynamics_of, swept};
-ghost use Rattle.contacts_base.specs.Near.{IsProxyList, near_codes};
+ghost use Rattle.contacts_base.specs.NearCodes.{near_codes};
+ghost use Rattle.contacts_base.specs.Proxies.{IsProxyList};
 
 use body_handles::MAX_SLOTS;
 use contacts_base::{Proxy, code_of, is_near};

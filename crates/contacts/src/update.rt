@@ -3,21 +3,24 @@
 
 ghost use Rattle.std.specs.Prelude.{◌≡◌, All, IfOk, OnOk, false, true};
 ghost use Rattle.std.specs.Result.{IsOkUnless};
-ghost use Rattle.contacts_base.specs.Contacts.{AreContacts, AreKeysRising};
+ghost use Rattle.contacts_base.specs.Contacts.{AreKeysRising};
+ghost use Rattle.contacts_base.specs.ContactLists.{AreContacts};
 ghost use Rattle.contacts_base.specs.Keys.{key_number};
 ghost use Rattle.contacts_base.specs.Merge.{AreAscending, merged};
-ghost use Rattle.contacts_base.specs.Near.{IsProxyList};
+ghost use Rattle.contacts_base.specs.Proxies.{IsProxyList};
 ghost use Rattle.contacts_base.specs.Split.{contacts_in};
-ghost use Rattle.contacts.specs.Changes.{AreRising, contacts_of};
-ghost use Rattle.contacts.specs.Due.{IsDue, due_of};
+ghost use Rattle.contacts.specs.ByCodes.{contacts_of};
+ghost use Rattle.contacts.specs.ChangedKeys.{AreRising};
+ghost use Rattle.contacts.specs.PendingUpdates.{IsPendingUpdate, pending_contacts};
 ghost use Rattle.contacts.specs.Known.{IsKnown, IsPairKey, fresh as fresh_codes};
 ghost use Rattle.contacts.specs.Looked.{IsRebuiltIf};
 ghost use Rattle.contacts.specs.Stirring.{AreQuiet, one_flagged, stirring_places};
 ghost use Rattle.contacts.specs.Fates.{IsMade, moved_by};
 
-use crate::due::{Due, Touches};
-use crate::fates::ShapesByName;
+use crate::collide::Collide;
+use crate::fates::ShapesById;
 use crate::forbidden::ForbiddenPairs;
+use crate::pending_update::{PendingUpdate, Touches};
 use crate::rebuild::{Rebuilt, rebuild};
 use crate::stirring::{Stirring, is_one_flagged};
 use crate::survey::look_over;
@@ -39,27 +42,25 @@ fn may_one_stir(flags: &[bool], entries: &[ContactEntry]) -> bool
 }
 
 /// The short list anew, if contacts come or a body of one in it may stir: else it stays as it is. Refused 1 where memory is wanting.
-fn rebuild_if<S: ShapesByName, F: ForbiddenPairs>(
+fn rebuild_if<S: ShapesById, F: ForbiddenPairs>(
     alloc: Global,
-    shapes: &S,
-    marks: &[bool],
-    forbidden: &F,
+    collide: &Collide<'_, S, F>,
     short: &[ContactEntry],
     flags: &[bool],
     fresh: &[ContactEntry],
 ) -> Result<Option<Rebuilt>, Refusal>
-    requires shapes { IsProxyList (S.proxies shapes.now) }
+    requires shapes { IsProxyList (S.proxies collide.now.shapes.now) }
     requires short { AreContacts short.now }
     requires keys { All (λ e. IsPairKey e.key) short.now }
-    requires quiet { AreQuiet flags.now marks.now (S.proxies shapes.now) }
+    requires quiet { AreQuiet flags.now collide.now.marks.now (S.proxies collide.now.shapes.now) }
     requires fresh { AreKeysRising fresh.now }
-    ensures rebuilt { IfOk result (λ rebuilt. IsRebuiltIf (moved_by marks.now) (F.pairs forbidden.now) (S.proxies shapes.now) short.now fresh.now rebuilt) }
+    ensures rebuilt { IfOk result (λ rebuilt. IsRebuiltIf (moved_by collide.now.marks.now) (F.pairs collide.now.forbidden.now) (S.proxies collide.now.shapes.now) short.now fresh.now rebuilt) }
     ensures memory_only { IsOkUnless result Refusal.NoMemory }
 {
     if fresh.is_empty() && !may_one_stir(flags, short) {
         return Ok(None);
     }
-    let rebuilt = rebuild(alloc, shapes, marks, forbidden, short, flags, fresh)?;
+    let rebuilt = rebuild(alloc, collide, short, flags, fresh)?;
     Ok(Some(rebuilt))
 }
 
@@ -99,59 +100,47 @@ fn join_touches(alloc: Global, long: Touches, short: Touches) -> Result<Touches,
 }
 
 /// What a collide makes of the contacts `old`, of which it is known that a near pair of shapes that haven't moved has one: `fresh` are the
-/// contacts of the near pairs that have none yet. `forbidden` are the pairs of bodies that may not collide.
-/// Answers which begin to touch and which end. Refused 1 where memory is wanting: what is due then has to be cleared.
+/// contacts of the near pairs that have none yet.
+/// Answers which begin to touch and which end. Refused 1 where memory is wanting: what is pending then has to be cleared.
 ///
 /// A contact goes if one of its shapes has moved and they are no longer near. Of those that stay the ones are evaluated anew of which a body stirs.
-pub(crate) fn update_known<S: ShapesByName, F: ForbiddenPairs>(
+pub(crate) fn update_known<S: ShapesById, F: ForbiddenPairs>(
     alloc: Global,
-    due: &mut Due,
-    shapes: &S,
-    marks: &[bool],
-    forbidden: &F,
+    pending: &mut PendingUpdate,
+    collide: &Collide<'_, S, F>,
     old: &SplitContacts,
     stirring: &Stirring,
     fresh: &[ContactEntry],
 ) -> Result<Touches, Refusal>
-    requires shapes { IsProxyList (S.proxies shapes.now) }
-    requires known { IsKnown (moved_by marks.now) (F.pairs forbidden.now) (S.proxies shapes.now) (contacts_in old.now) }
+    requires shapes { IsProxyList (S.proxies collide.now.shapes.now) }
+    requires known { IsKnown (moved_by collide.now.marks.now) (F.pairs collide.now.forbidden.now) (S.proxies collide.now.shapes.now) (contacts_in old.now) }
     requires places { stirring.now.places.items ≡ stirring_places stirring.now.flags.items old.now.long }
-    requires quiet { AreQuiet stirring.now.flags.items marks.now (S.proxies shapes.now) }
-    requires fresh { fresh.now ≡ contacts_of (contacts_in old.now) (S.proxies shapes.now) (fresh_codes (moved_by marks.now) (F.pairs forbidden.now) (S.proxies shapes.now) (contacts_in old.now)) }
-    ensures due { OnOk result (IsDue due.new old.now) }
-    ensures made { IfOk result (λ touches. IsMade (F.pairs forbidden.now) (S.proxies shapes.now) (contacts_in old.now) (due_of due.new old.now) touches.begin.items touches.end.items) }
+    requires quiet { AreQuiet stirring.now.flags.items collide.now.marks.now (S.proxies collide.now.shapes.now) }
+    requires fresh { fresh.now ≡ contacts_of (contacts_in old.now) (S.proxies collide.now.shapes.now) (fresh_codes (moved_by collide.now.marks.now) (F.pairs collide.now.forbidden.now) (S.proxies collide.now.shapes.now) (contacts_in old.now)) }
+    ensures pending { OnOk result (IsPendingUpdate pending.new old.now) }
+    ensures made { IfOk result (λ touches. IsMade (F.pairs collide.now.forbidden.now) (S.proxies collide.now.shapes.now) (contacts_in old.now) (pending_contacts pending.new old.now) touches.begin.items touches.end.items) }
     ensures begin_rising { IfOk result (λ touches. AreRising touches.begin.items) }
     ensures end_rising { IfOk result (λ touches. AreRising touches.end.items) }
     ensures memory_only { IsOkUnless result Refusal.NoMemory }
-    ensures any { due.new.any ≡ true }
+    ensures any { pending.new.any ≡ true }
 {
-    due.short = None;
-    due.whole = None;
-    due.any = true;
+    pending.short = None;
+    pending.whole = None;
+    pending.any = true;
     old.know_ascending();
     let touches = look_over(
         alloc,
-        &mut due.notes,
-        &mut due.ends,
-        shapes,
-        marks,
-        forbidden,
+        &mut pending.notes,
+        &mut pending.ends,
+        collide,
         old,
         stirring,
     )?;
-    let rebuilt = rebuild_if(
-        alloc,
-        shapes,
-        marks,
-        forbidden,
-        old.short(),
-        &stirring.flags,
-        fresh,
-    )?;
+    let rebuilt = rebuild_if(alloc, collide, old.short(), &stirring.flags, fresh)?;
     match rebuilt {
         None => Ok(touches),
         Some(rebuilt) => {
-            due.short = Some(rebuilt.all);
+            pending.short = Some(rebuilt.all);
             join_touches(alloc, touches, rebuilt.touches)
         }
     }

@@ -9,7 +9,8 @@ use Rattle.std.proofs.lemmas.Option.{slice_get_within, slice_get-get_or, get_or_
 use Rattle.contacts_base.specs.declared.contact.Contact.{Contact}
 use Rattle.contacts_base.specs.declared.contact.ContactEntry.{ContactEntry}
 use Rattle.contacts_base.specs.Surfaces.{IsSurface}
-use Rattle.contacts_base.specs.Contacts.{number_of, has_slot, contacts_without, contact_set, AreKeysRising, AreContacts}
+use Rattle.contacts_base.specs.Contacts.{number_of, has_slot, contacts_without, AreKeysRising}
+use Rattle.contacts_base.specs.ContactLists.{contact_set, AreContacts}
 use Rattle.contacts_base.proofs.LookupLemmas.{keys_later}
 
 abbrev Rises : ContactEntry → ContactEntry → Type 0

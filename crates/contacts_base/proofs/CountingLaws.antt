@@ -14,7 +14,8 @@ use Rattle.contacts_base.specs.declared.evaluation.Impulses.{Impulses}
 use Rattle.contacts_base.specs.declared.split.Renewal.{Renewal}
 use Rattle.contacts_base.specs.Keys.{key_number}
 use Rattle.contacts_base.specs.Surfaces.{IsSurface}
-use Rattle.contacts_base.specs.Contacts.{AreContacts, AreKeysRising, IsFirstFrom, contact_set, contacts_without, impulses_given, lookup, number_of, with_points}
+use Rattle.contacts_base.specs.Contacts.{AreKeysRising, contacts_without, lookup, number_of}
+use Rattle.contacts_base.specs.ContactLists.{AreContacts, IsFirstFrom, contact_set, impulses_given, with_points}
 use Rattle.contacts_base.specs.Merge.{AreAscending, below_of, beyond_of, merged}
 use Rattle.contacts_base.specs.Split.{counting, is_first, is_over, is_second, over_at, places_from, places_of, renewed}
 use Rattle.contacts_base.specs.ByBody.{keys_of}

@@ -1,7 +1,7 @@
 -- A point of a manifold of shapes that touch is small enough to be packed, whatever impulses it keeps.
 use Rattle.std.specs.Prelude.{Option, unsigned_abs}
 use Rattle.fixed_geom.specs.declared.limits.TheConstants.{MAX_OFFSET}
-use Rattle.shapes.specs.Manifolds.{IsPointWithin}
+use Rattle.shapes.specs.PointsWithin.{IsPointWithin}
 use Rattle.shapes.specs.declared.points.Point.{Point}
 use Rattle.contacts_base.specs.Evaluate.{kept_point}
 use Rattle.contacts_base.specs.Limits.{IsPackable}

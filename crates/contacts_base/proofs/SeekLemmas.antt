@@ -2,7 +2,8 @@
 use Rattle.std.proofs.Common.{ℕ, ◌+◌, ◌<◌, ◌≤◌, ◌≡◌, List, length, get_or, arith}
 use Rattle.std.proofs.lemmas.List.{get_or_default}
 use Rattle.contacts_base.specs.declared.contact.ContactEntry.{ContactEntry}
-use Rattle.contacts_base.specs.Contacts.{number_of, AreKeysRising, IsAllBelow, IsNoneBelow, IsFirstFrom}
+use Rattle.contacts_base.specs.Contacts.{number_of, AreKeysRising}
+use Rattle.contacts_base.specs.ContactLists.{IsAllBelow, IsNoneBelow, IsFirstFrom}
 use Rattle.contacts_base.proofs.LookupLemmas.{keys_later, keys_not_before}
 
 -- all up to a contact that is below are below

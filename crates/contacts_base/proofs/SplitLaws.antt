@@ -10,7 +10,8 @@ use Rattle.contacts_base.specs.declared.key.ContactKey.{ContactKey}
 use Rattle.contacts_base.specs.declared.contact.ContactEntry.{ContactEntry}
 use Rattle.contacts_base.specs.declared.evaluation.Impulses.{Impulses}
 use Rattle.contacts_base.specs.declared.split.Renewal.{Renewal}
-use Rattle.contacts_base.specs.Contacts.{AreContacts, contacts_without, has_slot, impulses_given, lookup, number_of}
+use Rattle.contacts_base.specs.Contacts.{contacts_without, has_slot, lookup, number_of}
+use Rattle.contacts_base.specs.ContactLists.{AreContacts, impulses_given}
 use Rattle.contacts_base.specs.Merge.{merged}
 use Rattle.contacts_base.specs.Split.{Split, carried, contacts_in, counting, or_kept, over_at, places_of, renewed}
 use Rattle.contacts_base.specs.ByBody.{IsIndexed}

@@ -1,6 +1,6 @@
 -- What is kept of a long list of contacts and a short one.
 use Rattle.std.specs.Prelude.{◌≡◌, ℕ, Bool, List, length}
-use Rattle.contacts_base.specs.Contacts.{AreContacts}
+use Rattle.contacts_base.specs.ContactLists.{AreContacts}
 use Rattle.contacts_base.specs.Split.{Split, contacts_in}
 use Rattle.contacts_base.specs.ByBody.{IsIndexed, keys_of}
 

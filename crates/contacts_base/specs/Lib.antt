@@ -1,8 +1,11 @@
 pub mod Keys
 pub mod Surfaces
 pub mod Contacts
+pub mod ContactLists
 pub mod Evaluate
+pub mod Proxies
 pub mod Near
+pub mod NearCodes
 pub mod Limits
 pub mod PackedPoints
 pub mod Merge

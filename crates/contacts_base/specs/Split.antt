@@ -2,7 +2,8 @@
 use Rattle.std.specs.Prelude.{ℕ, suc, ◌<◌, ◌==◌, ◌++◌, Bool, true, false, cond, List, [], ◌∷◌, Option, Some, None, slice_get, slice_index_or, slice_set, All}
 use Rattle.contacts_base.specs.declared.contact.ContactEntry.{ContactEntry}
 use Rattle.contacts_base.specs.declared.split.Renewal.{Renewal}
-use Rattle.contacts_base.specs.Contacts.{contact_set, number_of}
+use Rattle.contacts_base.specs.Contacts.{number_of}
+use Rattle.contacts_base.specs.ContactLists.{contact_set}
 use Rattle.contacts_base.specs.Merge.{merged}
 
 -- what contracts see of the two lists: the long one, by place in it which contacts are over, and the short one

@@ -3,7 +3,8 @@
 ghost use Rattle.std.specs.Prelude.{◌≡◌, ◌≤◌, ◌+◌, IsTrue, true};
 ghost use Rattle.std.specs.Option.{option_copied};
 ghost use Rattle.contacts_base.specs.Keys.{key_number};
-ghost use Rattle.contacts_base.specs.Contacts.{lookup, AreKeysRising, IsAllBelow, IsNoneBelow, IsFirstFrom};
+ghost use Rattle.contacts_base.specs.Contacts.{lookup, AreKeysRising};
+ghost use Rattle.contacts_base.specs.ContactLists.{IsAllBelow, IsNoneBelow, IsFirstFrom};
 
 use crate::{ContactKey, PackedContact, PackedSurface};
 use fixed_geom::Vec2;

@@ -1,7 +1,8 @@
 //! The contacts of near shapes.
 
 ghost use Rattle.std.specs.Prelude.{◌≡◌, [], slice_get, length};
-ghost use Rattle.contacts_base.specs.Contacts.{has_slot, with_points, contact_set, AreContacts};
+ghost use Rattle.contacts_base.specs.Contacts.{has_slot};
+ghost use Rattle.contacts_base.specs.ContactLists.{with_points, contact_set, AreContacts};
 
 use crate::{ContactEntry, Impulses, PackedContact};
 use std::alloc::Global;
@@ -17,7 +18,7 @@ pub struct Contacts {
 impl Model for Contacts {
     ghost use Rattle.std.specs.Prelude.{List};
     ghost use Rattle.contacts_base.specs.declared.contact.ContactEntry.{ContactEntry};
-    ghost use Rattle.contacts_base.specs.Contacts.{AreContacts};
+    ghost use Rattle.contacts_base.specs.ContactLists.{AreContacts};
 
     ghost Value = { List ContactEntry };
 

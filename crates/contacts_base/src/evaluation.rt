@@ -2,13 +2,14 @@
 
 ghost use Rattle.std.specs.Prelude.{◌≡◌, None, pos, ◌≤ℤ◌, unsigned_abs, IfSome};
 ghost use Rattle.std.specs.Option.{option_copied};
-ghost use Rattle.shapes.specs.Manifolds.{IsPointWithin, manifold_of};
+ghost use Rattle.shapes.specs.Manifolds.{manifold_of};
+ghost use Rattle.shapes.specs.PointsWithin.{IsPointWithin};
 ghost use Rattle.shapes.specs.Discs.{IsDisc, disc_point};
 ghost use Rattle.shapes.specs.Poses.{IsPose};
 ghost use Rattle.shapes.specs.Shapes.{IsShape};
 ghost use Rattle.fixed_geom.specs.Vectors.{IsWithin};
 ghost use Rattle.fixed_geom.specs.declared.limits.TheConstants.{MAX_OFFSET, MAX_POSITION};
-ghost use Rattle.contacts_base.specs.Near.{IsProxy};
+ghost use Rattle.contacts_base.specs.Proxies.{IsProxy};
 ghost use Rattle.contacts_base.specs.Evaluate.{impulses_at, kept, kept_point, evaluated};
 
 use crate::circles::are_discs_apart;

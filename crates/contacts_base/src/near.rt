@@ -1,7 +1,8 @@
 //! Which shapes are near one another.
 
 ghost use Rattle.std.specs.Prelude.{◌≡◌, ◌^◌, ◌<◌};
-ghost use Rattle.contacts_base.specs.Near.{is_near, one_stirs, pair_code};
+ghost use Rattle.contacts_base.specs.Near.{is_near, one_stirs};
+ghost use Rattle.contacts_base.specs.NearCodes.{pair_code};
 
 use crate::{ShapeId, Surface};
 use fixed_geom::{Box2, overlaps};

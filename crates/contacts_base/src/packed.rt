@@ -2,7 +2,7 @@
 //! walked over all the same.
 
 ghost use Rattle.std.specs.Prelude.{◌≡◌, ◌≤◌, Some, None, is_some, option_map, unsigned_abs};
-ghost use Rattle.contacts_base.specs.Contacts.{with_impulses, with_second};
+ghost use Rattle.contacts_base.specs.ContactLists.{with_impulses, with_second};
 ghost use Rattle.contacts_base.specs.Evaluate.{apart, touches};
 ghost use Rattle.contacts_base.specs.Limits.{IsPackable};
 ghost use Rattle.contacts_base.specs.declared.limits.TheConstants.{MAX_NORMAL};

@@ -3,7 +3,8 @@
 ghost use Rattle.std.specs.Prelude.{◌≡◌, ◌++◌, [], IfOk, IsTrue, OnErr, OnOk, false, length, map, option_copied, option_map};
 ghost use Rattle.std.specs.Option.{ForSome, is_some};
 ghost use Rattle.std.specs.Result.{IsOkUnless};
-ghost use Rattle.contacts_base.specs.Contacts.{AreContacts, AreKeysRising, contacts_without, impulses_given, lookup, number_of};
+ghost use Rattle.contacts_base.specs.Contacts.{AreKeysRising, contacts_without, lookup, number_of};
+ghost use Rattle.contacts_base.specs.ContactLists.{AreContacts, impulses_given};
 ghost use Rattle.contacts_base.specs.Merge.{merged};
 ghost use Rattle.contacts_base.specs.Split.{AreSlotsBelow, carried, contacts_in, counting, counting_at, or_kept, places_of, renewed};
 
@@ -16,6 +17,7 @@ use crate::{ContactEntry, ContactKey, Impulses, PackedContact, contact_at};
 use fixed_geom::Refusal;
 use std::alloc::Global;
 use std::marker::Model;
+use std::mem;
 
 /// What the contact at a place of a list becomes.
 #[derive(Clone, Copy, Debug, PartialEq, Eq)]
@@ -43,6 +45,8 @@ pub struct SplitContacts {
     short: Vec<ContactEntry>,
     // Of the long list.
     index: BodyIndex,
+    // Memory for the next long list: what an earlier one was, whatever is in it.
+    spare: Vec<ContactEntry>,
 }
 
 impl Model for SplitContacts {
@@ -89,31 +93,32 @@ fn find_counting<'a>(
     Some(entry)
 }
 
-/// The contacts of a long list that aren't over and those of a short one, as one list. Refused 1 where memory is wanting.
+/// Lists the contacts of a long list that aren't over and those of a short one, in the place of what the list has. Refused 1 where memory is wanting.
 fn join(
-    alloc: Global,
+    all: &mut Vec<ContactEntry>,
     long: &[ContactEntry],
     over: &CountedFlags,
     short: &[ContactEntry],
-) -> Result<Vec<ContactEntry>, Refusal>
+) -> Result<(), Refusal>
     requires long { AreKeysRising long.now }
     requires short { AreKeysRising short.now }
     requires flags { length over.now ≡ length long.now }
-    ensures value { IfOk result (λ all. all.items ≡ merged number_of (counting over.now long.now) short.now) }
+    ensures value { OnOk result (all.new.items ≡ merged number_of (counting over.now long.now) short.now) }
     ensures memory_only { IsOkUnless result Refusal.NoMemory }
 {
-    let mut all = Vec::with_capacity(alloc, long.len().saturating_add(short.len()))?;
+    all.clear();
+    all.reserve(long.len().saturating_add(short.len()))?;
     let mut next = 0;
     for place in 0..long.len() {
         if over.is_set(place) {
             continue;
         }
         let entry = &long[place];
-        next = push_below(&mut all, short, next, entry)?;
+        next = push_below(all, short, next, entry)?;
         all.push(*entry)?;
     }
     all.extend_from_slice(&short[next..])?;
-    Ok(all)
+    Ok(())
 }
 
 /// Gives the points of the contact at a place these impulses, if it has this key and isn't over. Answers whether it has and isn't.
@@ -190,6 +195,7 @@ impl SplitContacts {
             over: CountedFlags::new(alloc),
             short: Vec::new(alloc),
             index: BodyIndex::new(alloc),
+            spare: Vec::new(alloc),
         }
     }
 
@@ -206,6 +212,7 @@ impl SplitContacts {
             over,
             short: Vec::new(alloc),
             index: BodyIndex::new(alloc),
+            spare: Vec::new(alloc),
         })
     }
 
@@ -305,19 +312,48 @@ impl SplitContacts {
         ensures contacts { IfOk result (λ entries. AreContacts entries.items) }
         ensures memory_only { IsOkUnless result Refusal.NoMemory }
     {
-        join(alloc, &self.long, &self.over, &self.short)
+        self.list_in(Vec::new(alloc))
+    }
+
+    /// The same list, in the memory of `room`, whatever is in it.
+    fn list_in(&self, room: Vec<ContactEntry>) -> Result<Vec<ContactEntry>, Refusal>
+        ensures value { IfOk result (λ entries. entries.items ≡ contacts_in self.now) }
+        ensures contacts { IfOk result (λ entries. AreContacts entries.items) }
+        ensures memory_only { IsOkUnless result Refusal.NoMemory }
+    {
+        let mut all = room;
+        join(&mut all, &self.long, &self.over, &self.short)?;
+        Ok(all)
     }
 
     /// Makes the two lists one, in one pass. Refused 1 where memory is wanting. Changes no contact.
+    ///
+    /// The long list is made in the memory of an earlier one, and its own is kept for the next.
     pub fn flush(&mut self, alloc: Global) -> Result<(), Refusal>
         ensures contacts { contacts_in self.new ≡ contacts_in self.old }
         ensures settled { OnOk result (self.new.long ≡ contacts_in self.old) }
         ensures refused { OnErr result (self.new ≡ self.old) }
         ensures memory_only { IsOkUnless result Refusal.NoMemory }
     {
-        let entries = self.to_entries(alloc)?;
-        *self = SplitContacts::from_entries(alloc, entries)?;
+        let room = self.take_spare(alloc);
+        let entries = self.list_in(room)?;
+        self.replace_with(SplitContacts::from_entries(alloc, entries)?);
         Ok(())
+    }
+
+    /// Gives away the memory that is kept for the next long list.
+    pub fn take_spare(&mut self, alloc: Global) -> Vec<ContactEntry>
+        ensures { self.new ≡ self.old }
+    {
+        mem::replace(&mut self.spare, Vec::new(alloc))
+    }
+
+    /// Becomes other contacts, and keeps the memory of its long list for the next one. Takes no memory.
+    pub fn replace_with(&mut self, other: SplitContacts)
+        ensures { self.new ≡ other }
+    {
+        let SplitContacts { long, .. } = mem::replace(self, other);
+        self.spare = long;
     }
 
     /// Makes the index of the long list by body, if it isn't made: `push_places_of` and `drop_of_body` then cost by the body's own contacts. Refused 1

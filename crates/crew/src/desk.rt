@@ -3,10 +3,10 @@
 ghost use Rattle.std.specs.Prelude.{◌≡◌, ◌++◌, ◌+◌, ◌≤◌, true, None, length, vec_len, vec_capacity};
 ghost use Rattle.std.specs.Arc.{arc_value};
 ghost use Rattle.crossbeam_queue.specs.Passes.{view, IsPassOf};
-ghost use Rattle.crew.specs.Answers.{AreAccepted, answers, due};
+ghost use Rattle.crew.specs.Answers.{AreAccepted, answers, open_answers};
 ghost use Rattle.crew.specs.Mailbox.{is_asked};
 
-use crate::post::{Place, Post};
+use crate::post::{MailboxPass, Post};
 use crate::slip::Slip;
 use crate::stack::stack_last;
 use crate::{Gate, Work};
@@ -22,7 +22,7 @@ where
 {
     pub(crate) alloc: Global,
     pub(crate) post: Arc<Post<W>, Global>,
-    pub(crate) pass: Place<W>,
+    pub(crate) pass: MailboxPass<W>,
     pub(crate) asked: bool,
     pub(crate) stack: Vec<W::Item>,
     pub(crate) answers: Vec<W::Out>,
@@ -75,7 +75,7 @@ where
     )
         requires many { count ≤ vec_len items.old }
         requires accepted { AreAccepted W.accepts (arc_value work.now) items.old.items }
-        ensures due { answers W.answer (arc_value work.now) items.new.items ++ due (view self.new.pass).ask ≡ answers W.answer (arc_value work.now) items.old.items }
+        ensures open { answers W.answer (arc_value work.now) items.new.items ++ open_answers (view self.new.pass).ask ≡ answers W.answer (arc_value work.now) items.old.items }
         ensures accepted { AreAccepted W.accepts (arc_value work.now) items.new.items }
         ensures capacity { vec_capacity items.new ≡ vec_capacity items.old }
     {
@@ -101,7 +101,7 @@ where
         self.asked = true;
     }
 
-    /// Adds the answers that are due to `out`, which has room for them.
+    /// Adds the open answers to `out`, which has room for them.
     pub(crate) fn collect<R: Wait, G: Gate>(
         &mut self,
         rt: &R,
@@ -109,8 +109,8 @@ where
         round: u64,
         out: &mut Vec<W::Out>,
     )
-        requires room { vec_len out.old + length (due (view self.old.pass).ask) ≤ vec_capacity out.old }
-        ensures out { out.new.items ≡ out.old.items ++ due (view self.old.pass).ask }
+        requires room { vec_len out.old + length (open_answers (view self.old.pass).ask) ≤ vec_capacity out.old }
+        ensures out { out.new.items ≡ out.old.items ++ open_answers (view self.old.pass).ask }
         ensures capacity { vec_capacity out.old ≤ vec_capacity out.new }
     {
         if !self.asked {
@@ -118,7 +118,7 @@ where
         }
         let slip = self.post.get(rt, &mut self.pass, round);
         self.asked = false;
-        let (stack, answers) = slip.settle(rt, gate, out);
+        let (stack, answers) = slip.finish(rt, gate, out);
         self.stack = stack;
         self.answers = answers;
     }

@@ -7,7 +7,7 @@ ghost use Rattle.crew.specs.Answers.{owed};
 ghost use Rattle.crew.specs.Mailbox.{hand, is_asked};
 
 use crate::bell::{Bell, OVER, wait_for};
-use crate::rule::{Asked, Begins, Ends, Hand, Turns};
+use crate::rule::{Asked, Begins, Ends, Hand, OneSlip};
 use crate::slip::Slip;
 use crate::{Gate, Work};
 use crossbeam_queue::{Pass, RuledArrayQueue};
@@ -15,9 +15,9 @@ use std::sync::Wait;
 use std::sync::atomic::{AtomicU64, Ordering};
 use std::thread;
 
-pub(crate) type Mailbox<W> = RuledArrayQueue<Slip<W>, Hand<Asked<W>>, Turns>;
+pub(crate) type Mailbox<W> = RuledArrayQueue<Slip<W>, Hand<Asked<W>>, OneSlip>;
 
-pub(crate) type Place<W> = Pass<Slip<W>, Hand<Asked<W>>>;
+pub(crate) type MailboxPass<W> = Pass<Slip<W>, Hand<Asked<W>>>;
 
 /// A mailbox, and the last round that the worker has answered.
 pub(crate) struct Post<W: Work + Drop>
@@ -48,7 +48,7 @@ where
     W::Out: Drop,
 {
     /// The caller asks.
-    pub(crate) fn ask<R: Wait>(&self, rt: &R, pass: &mut Place<W>, slip: Slip<W>)
+    pub(crate) fn ask<R: Wait>(&self, rt: &R, pass: &mut MailboxPass<W>, slip: Slip<W>)
         requires pass { IsPassOf self.now.mailbox pass.old × (view pass.old ≡ hand true None) }
         ensures pass { IsPassOf self.now.mailbox pass.new }
         ensures view { view pass.new ≡ hand true (Some (owed W.answer (arc_value slip.work) slip.stack.items slip.answers.items)) }
@@ -65,7 +65,7 @@ where
     }
 
     /// The worker takes what is asked, if anything is.
-    fn take(&self, pass: &mut Place<W>) -> Option<Slip<W>>
+    fn take(&self, pass: &mut MailboxPass<W>) -> Option<Slip<W>>
         requires pass { IsPassOf self.now.mailbox pass.old × (view pass.old ≡ hand false None) }
         ensures pass { IsPassOf self.now.mailbox pass.new }
         ensures view { MatchOption result (view pass.new ≡ hand false None) (λ s. view pass.new ≡ hand false (Some (owed W.answer (arc_value s.work) s.stack.items s.answers.items))) }
@@ -74,7 +74,7 @@ where
     }
 
     /// The worker gives back what it took.
-    fn give<R: Wait>(&self, rt: &R, pass: &mut Place<W>, slip: Slip<W>)
+    fn give<R: Wait>(&self, rt: &R, pass: &mut MailboxPass<W>, slip: Slip<W>)
         requires pass { IsPassOf self.now.mailbox pass.old × (view pass.old ≡ hand false (Some (owed W.answer (arc_value slip.work) slip.stack.items slip.answers.items))) }
         ensures pass { IsPassOf self.now.mailbox pass.new }
         ensures view { view pass.new ≡ hand false None }
@@ -91,7 +91,7 @@ where
     }
 
     /// The caller gets what it asked, worked or not.
-    pub(crate) fn get<R: Wait>(&self, rt: &R, pass: &mut Place<W>, round: u64) -> Slip<W>
+    pub(crate) fn get<R: Wait>(&self, rt: &R, pass: &mut MailboxPass<W>, round: u64) -> Slip<W>
         requires pass { IsPassOf self.now.mailbox pass.old × ((view pass.old).leads ≡ true) × (is_asked (view pass.old).ask ≡ true) }
         ensures pass { IsPassOf self.now.mailbox pass.new }
         ensures view { view pass.new ≡ hand true None }
@@ -108,7 +108,7 @@ where
     }
 
     /// A worker's turn in a round.
-    fn turn<R: Wait, G: Gate>(&self, rt: &R, gate: &G, pass: &mut Place<W>)
+    fn work_round<R: Wait, G: Gate>(&self, rt: &R, gate: &G, pass: &mut MailboxPass<W>)
         requires pass { IsPassOf self.now.mailbox pass.old × (view pass.old ≡ hand false None) }
         ensures pass { IsPassOf self.now.mailbox pass.new × (view pass.new ≡ hand false None) }
     {
@@ -125,7 +125,7 @@ pub(crate) fn serve<R: Wait, G: Gate, W: Work + Drop>(
     gate: &G,
     post: &Post<W>,
     bell: &Bell,
-    mut pass: Place<W>,
+    mut pass: MailboxPass<W>,
 )
 where
     W::Item: Drop,
@@ -139,7 +139,7 @@ where
             break;
         }
         seen = now;
-        post.turn(rt, gate, &mut pass);
+        post.work_round(rt, gate, &mut pass);
         post.answered.store(seen, Ordering::SeqCst);
     }
 }

@@ -15,9 +15,9 @@ pub(crate) struct Hand<A> {
 pub(crate) type Asked<W> = LinkedList<<W as Work>::Out>;
 
 /// The rule: of what the caller has asked there is one slip at most, in the mailbox or in a worker's hands.
-pub(crate) struct Turns;
+pub(crate) struct OneSlip;
 
-impl<W: Work + Drop> Protocol<Slip<W>, Hand<Asked<W>>> for Turns
+impl<W: Work + Drop> Protocol<Slip<W>, Hand<Asked<W>>> for OneSlip
 where
     W::Item: Drop,
     W::Out: Drop,
@@ -32,7 +32,7 @@ where
     ghost first = { hand true None };
 }
 
-impl<A> Split<Hand<A>> for Turns {
+impl<A> Split<Hand<A>> for OneSlip {
     ghost use Rattle.std.specs.Prelude.{true, false, None};
     ghost use Rattle.crew.specs.Mailbox.{hand};
 

@@ -71,7 +71,7 @@ where
     }
 
     /// Adds its answers to `out`, which has room for them, and works those items that are left. Gives back its two empty lists.
-    pub(crate) fn settle<R: Wait, G: Gate>(
+    pub(crate) fn finish<R: Wait, G: Gate>(
         self,
         rt: &R,
         gate: &G,

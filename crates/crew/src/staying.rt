@@ -3,14 +3,14 @@
 ghost use Rattle.std.specs.Prelude.{◌≡◌, ◌++◌, ◌+◌, ◌≤◌, [], true, false, None, length, vec_len, vec_capacity, IfOk, IfErr};
 ghost use Rattle.std.specs.Arc.{arc_value};
 ghost use Rattle.crossbeam_queue.specs.Passes.{view, IsPassOf};
-ghost use Rattle.crew.specs.Answers.{AreAccepted, answers, due, gathered};
+ghost use Rattle.crew.specs.Answers.{AreAccepted, answers, open_answers, gathered};
 ghost use Rattle.crew.specs.Mailbox.{hand};
 ghost use Rattle.crew.specs.Refusals.{IsStartRefusal};
 
 use crate::bell::{Bell, OVER, next_round};
 use crate::desk::Desk;
-use crate::post::{Mailbox, Place, Post, serve};
-use crate::rule::Turns;
+use crate::post::{Mailbox, MailboxPass, Post, serve};
+use crate::rule::OneSlip;
 use crate::stack::work_stack;
 use crate::{Gate, Work};
 use fixed_geom::Refusal;
@@ -39,7 +39,7 @@ where
 fn furnish<W: Work + Drop>(
     alloc: Global,
     room: usize,
-) -> Result<(Desk<W>, Arc<Post<W>, Global>, Place<W>), AllocError>
+) -> Result<(Desk<W>, Arc<Post<W>, Global>, MailboxPass<W>), AllocError>
 where
     W::Item: Drop,
     W::Out: Drop,
@@ -48,7 +48,7 @@ where
     let stack = Vec::with_capacity(alloc, room)?;
     let answers = Vec::with_capacity(alloc, room)?;
     let (mailbox, mut pass) = Mailbox::<W>::ruled(alloc, 2)?;
-    let theirs = mailbox.another::<Turns>(&mut pass);
+    let theirs = mailbox.another::<OneSlip>(&mut pass);
     let post = Arc::new(
         alloc,
         Post {
@@ -107,7 +107,7 @@ where
     W::Item: Drop,
     W::Out: Drop,
     requires accepted { AreAccepted W.accepts (arc_value work.now) items.old.items }
-    ensures due { answers W.answer (arc_value work.now) items.new.items ++ gathered desks.new (λ d. due (view d.pass).ask) ≡ answers W.answer (arc_value work.now) items.old.items }
+    ensures open { answers W.answer (arc_value work.now) items.new.items ++ gathered desks.new (λ d. open_answers (view d.pass).ask) ≡ answers W.answer (arc_value work.now) items.old.items }
     ensures accepted { AreAccepted W.accepts (arc_value work.now) items.new.items }
     ensures capacity { vec_capacity items.new ≡ vec_capacity items.old }
 {
@@ -132,8 +132,8 @@ fn collect_all<R: Wait, G: Gate, W: Work + Drop>(
 where
     W::Item: Drop,
     W::Out: Drop,
-    requires room { vec_len out.old + length (gathered desks.old (λ d. due (view d.pass).ask)) ≤ vec_capacity out.old }
-    ensures out { out.new.items ≡ out.old.items ++ gathered desks.old (λ d. due (view d.pass).ask) }
+    requires room { vec_len out.old + length (gathered desks.old (λ d. open_answers (view d.pass).ask)) ≤ vec_capacity out.old }
+    ensures out { out.new.items ≡ out.old.items ++ gathered desks.old (λ d. open_answers (view d.pass).ask) }
     ensures capacity { vec_capacity out.old ≤ vec_capacity out.new }
 {
     match desks.split_first_mut() {

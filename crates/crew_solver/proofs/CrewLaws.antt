@@ -6,18 +6,18 @@ use Rattle.fixed_geom.specs.Vectors.{plus}
 use Rattle.fixed_geom.specs.declared.vectors.Vec2.{Vec2}
 use Rattle.momenta.specs.declared.state.BodyState.{BodyState}
 use Rattle.momenta.specs.declared.state.Ends.{Ends}
-use Rattle.momenta.specs.Impulses.{AreSameBodies, AreStates, IsSameBody}
+use Rattle.momenta.specs.ImpulseBounds.{AreSameBodies, AreStates, IsSameBody}
 use Rattle.colour_solver_base.specs.RowsAfter.{RowAfter}
-use Rattle.colour_solver.specs.declared.turns.Slots.{Slots}
-use Rattle.colour_solver.specs.Colour.{AreTurnsFair, IsColour, results}
+use Rattle.colour_solver.specs.declared.row_visits.Slots.{Slots}
+use Rattle.colour_solver.specs.Colour.{AreVisitsFair, IsColour, results}
 use Rattle.colour_solver.specs.States.{AreAllStates, AreSameStates, nobody, total}
-use Rattle.colour_solver.specs.Turns.{AreRowsOn, IsPassed, IsRowOn, after, ends_of, got, passed, rows_passed, share, turn_of, with_ends}
+use Rattle.colour_solver.specs.RowVisits.{AreRowsOn, IsPassed, IsRowOn, after, ends_of, got, passed, rows_passed, share, visit_of, with_ends}
 use Rattle.colour_solver.proofs.ColourLaw.{results_mapped}
-use Rattle.colour_solver.proofs.SameLaws.{same_on, same_turned}
-use Rattle.colour_solver.proofs.TurnLaws.{state_at, states-set, total-after}
+use Rattle.colour_solver.proofs.SameLaws.{same_on, same_visited}
+use Rattle.colour_solver.proofs.VisitLaws.{state_at, states-set, total-after}
 use Rattle.colour_solver.proofs.VectorLaws.{plus_assoc, plus_zero}
 use Rattle.crew_solver.specs.declared.momenta_pair.MomentaPair.{MomentaPair}
-use Rattle.crew_solver.specs.Turned.{AreTurnsLawful, IsFair, ends_with, given_all, momenta_of, put_all, put_at, with_momenta}
+use Rattle.crew_solver.specs.Visited.{AreVisitsLawful, IsFair, ends_with, given_all, momenta_of, put_all, put_at, with_momenta}
 
 -- ---- momenta put into bodies
 
@@ -35,17 +35,17 @@ ends_put e t h = λ i. record { a = same_put e.a t.a h.a i; b = same_put e.b t.b
 
 -- ---- the turn of one row
 
-module _ {R : Type 0} (at : R → Slots) (is : R → Type 0) (f : R → Ends → RowAfter R) (lawful : AreTurnsLawful at f) where
+module _ {R : Type 0} (at : R → Slots) (is : R → Type 0) (f : R → Ends → RowAfter R) (lawful : AreVisitsLawful at f) where
   ends_states : (ss : List BodyState) (r : R) → AreAllStates ss → IsRowOn at is (length ss) r → AreStates (ends_of at ss r)
   ends_states ss r all on = record { a = state_at ss (at r).a (get_or ss (at r).a nobody) nobody all on.a refl; b = state_at ss (at r).b (get_or ss (at r).b nobody) nobody all on.b refl }
 
   -- what is known of the bodies after it
   record IsOneOn (ss : List BodyState) (r : R) : Type 0 where
-    fair : IsFair (ends_of at ss r) (turn_of at f ss r).ends
+    fair : IsFair (ends_of at ss r) (visit_of at f ss r).ends
     states : AreAllStates (after at f ss r)
     long : length (after at f ss r) ≡ length ss
     same : AreSameStates ss (after at f ss r)
-    momentum : total (after at f ss r) ≡ plus (total ss) (got (ends_of at ss r) (turn_of at f ss r).ends)
+    momentum : total (after at f ss r) ≡ plus (total ss) (got (ends_of at ss r) (visit_of at f ss r).ends)
 
   there : (ss : List BodyState) (i : ℕ) → get_or ss i nobody ≡ get_or ss i (get_or ss i nobody)
   there [] i = refl
@@ -55,13 +55,13 @@ module _ {R : Type 0} (at : R → Slots) (is : R → Type 0) (f : R → Ends →
   one : (ss : List BodyState) (r : R) → AreAllStates ss → IsRowOn at is (length ss) r → IsOneOn ss r
   one ss r all on =
       let e = ends_of at ss r in
-      let t = turn_of at f ss r in
+      let t = visit_of at f ss r in
       let fair = lawful.fair r e (ends_states ss r all on) in
       record {
         fair = fair;
         states = states-set (set ss (at r).a t.ends.a) (at r).b t.ends.b (states-set ss (at r).a t.ends.a all fair.states.a) fair.states.b;
         long = length-set (set ss (at r).a t.ends.a) (at r).b t.ends.b ∙ length-set ss (at r).a t.ends.a;
-        same = same_turned ss (at r).a (at r).b e t.ends on.a on.b (there ss (at r).a) (there ss (at r).b) fair.same;
+        same = same_visited ss (at r).a (at r).b e t.ends on.a on.b (there ss (at r).a) (there ss (at r).b) fair.same;
         momentum = total-after ss (at r).a (at r).b e t.ends on.a on.b on.apart (there ss (at r).a) (there ss (at r).b) fair.same fair.kept;
       }
 
@@ -83,7 +83,7 @@ module _ {R : Type 0} (at : R → Slots) (is : R → Type 0) (f : R → Ends →
   passed_is (r ∷ rs) ss all on rows =
       let x = one ss r all (All-head (IsRowOn at is (length ss)) r rs on) in
       let us = after at f ss r in
-      let t = (turn_of at f ss r).row in
+      let t = (visit_of at f ss r).row in
       let ts = rows_passed at f us rs in
       let more = passed_is rs us x.states (rows_on (length ss) (length us) rs x.long (All-tail (IsRowOn at is (length ss)) r rs on)) (rows_on (length ss) (length us) ts x.long (All-tail (IsRowOn at is (length ss)) t ts rows)) in
       record {
@@ -93,7 +93,7 @@ module _ {R : Type 0} (at : R → Slots) (is : R → Type 0) (f : R → Ends →
         all_states = more.all_states;
         all_rows = rows_on (length ss) (length (passed at f us rs)) (t ∷ ts) (more.same.long ∙ x.long) rows;
         same = same_on ss us (passed at f us rs) x.same more.same;
-        momentum = behind (total ss) (total us) (total (passed at f us rs)) (got (ends_of at ss r) (turn_of at f ss r).ends) (share at f us rs) x.momentum more.momentum;
+        momentum = behind (total ss) (total us) (total (passed at f us rs)) (got (ends_of at ss r) (visit_of at f ss r).ends) (share at f us rs) x.momentum more.momentum;
       }
 
   -- the momenta that the turns leave, put into the bodies row by row, are the pass
@@ -103,15 +103,15 @@ module _ {R : Type 0} (at : R → Slots) (is : R → Type 0) (f : R → Ends →
   abbrev momenta_in : List (RowAfter R) → List MomentaPair
   momenta_in ts = map (λ (t : RowAfter R). momenta_of t.ends) ts
 
-  one_put : (ss : List BodyState) (r : R) → IsOneOn ss r → put_at at ss (turn_of at f ss r).row (momenta_of (turn_of at f ss r).ends) ≡ after at f ss r
+  one_put : (ss : List BodyState) (r : R) → IsOneOn ss r → put_at at ss (visit_of at f ss r).row (momenta_of (visit_of at f ss r).ends) ≡ after at f ss r
   one_put ss r x =
-      let t = turn_of at f ss r in
+      let t = visit_of at f ss r in
       ap (λ (s : Slots). with_ends (λ (y : Slots). y) ss s (ends_with (ends_of (λ (y : Slots). y) ss s) (momenta_of t.ends))) (lawful.slots r (ends_of at ss r))
       ∙ ap (with_ends at ss r) (ends_put (ends_of at ss r) t.ends x.fair.same)
 
-  one_given : (ss : List BodyState) (r : R) → IsOneOn ss r → got (ends_of at ss (turn_of at f ss r).row) (ends_with (ends_of at ss (turn_of at f ss r).row) (momenta_of (turn_of at f ss r).ends)) ≡ got (ends_of at ss r) (turn_of at f ss r).ends
+  one_given : (ss : List BodyState) (r : R) → IsOneOn ss r → got (ends_of at ss (visit_of at f ss r).row) (ends_with (ends_of at ss (visit_of at f ss r).row) (momenta_of (visit_of at f ss r).ends)) ≡ got (ends_of at ss r) (visit_of at f ss r).ends
   one_given ss r x =
-      let t = turn_of at f ss r in
+      let t = visit_of at f ss r in
       ap (λ (s : Slots). got (ends_of (λ (y : Slots). y) ss s) (ends_with (ends_of (λ (y : Slots). y) ss s) (momenta_of t.ends))) (lawful.slots r (ends_of at ss r))
       ∙ ap (got (ends_of at ss r)) (ends_put (ends_of at ss r) t.ends x.fair.same)
 
@@ -134,24 +134,24 @@ module _ {R : Type 0} (at : R → Slots) (is : R → Type 0) (f : R → Ends →
 
   rows_of_results : (rs : List R) (ss : List BodyState) → rows_in (results at f ss rs) ≡ rows_passed at f ss rs
   rows_of_results [] ss = refl
-  rows_of_results (r ∷ rs) ss = ap (λ (l : List R). (turn_of at f ss r).row ∷ l) (rows_of_results rs (after at f ss r))
+  rows_of_results (r ∷ rs) ss = ap (λ (l : List R). (visit_of at f ss r).row ∷ l) (rows_of_results rs (after at f ss r))
 
   -- ---- a colour
 
-  fair_at : (rs : List R) (ss : List BodyState) → AreAllStates ss → AreRowsOn at is (length ss) rs → AreTurnsFair at f ss rs
-  fair_at [] ss all on = All-nil (λ r. AreSameBodies (ends_of at ss r) (turn_of at f ss r).ends)
+  fair_at : (rs : List R) (ss : List BodyState) → AreAllStates ss → AreRowsOn at is (length ss) rs → AreVisitsFair at f ss rs
+  fair_at [] ss all on = All-nil (λ r. AreSameBodies (ends_of at ss r) (visit_of at f ss r).ends)
   fair_at (r ∷ rs) ss all on =
-      All-cons (λ r. AreSameBodies (ends_of at ss r) (turn_of at f ss r).ends) r rs (one ss r all (All-head (IsRowOn at is (length ss)) r rs on)).fair.same (fair_at rs ss all (All-tail (IsRowOn at is (length ss)) r rs on))
+      All-cons (λ r. AreSameBodies (ends_of at ss r) (visit_of at f ss r).ends) r rs (one ss r all (All-head (IsRowOn at is (length ss)) r rs on)).fair.same (fair_at rs ss all (All-tail (IsRowOn at is (length ss)) r rs on))
 
   -- each turn of a colour made at the bodies before it, and the momenta put into their places
-  pub colour_passed : (ss : List BodyState) (rs turned : List R) (ms : List MomentaPair) (now : List BodyState) (given : Vec2) → AreAllStates ss → AreRowsOn at is (length ss) rs → IsColour at ss rs
-      → turned ≡ map (λ (r : R). (turn_of at f ss r).row) rs → ms ≡ map (λ (r : R). momenta_of (turn_of at f ss r).ends) rs → AreRowsOn at is (length ss) turned
-      → now ≡ put_all at ss turned ms → given ≡ given_all at ss turned ms → IsPassed at is f ss rs now turned given
-  colour_passed ss rs turned ms now given all on colour rows_are momenta_are below put got =
+  pub colour_passed : (ss : List BodyState) (rs visited : List R) (ms : List MomentaPair) (now : List BodyState) (given : Vec2) → AreAllStates ss → AreRowsOn at is (length ss) rs → IsColour at ss rs
+      → visited ≡ map (λ (r : R). (visit_of at f ss r).row) rs → ms ≡ map (λ (r : R). momenta_of (visit_of at f ss r).ends) rs → AreRowsOn at is (length ss) visited
+      → now ≡ put_all at ss visited ms → given ≡ given_all at ss visited ms → IsPassed at is f ss rs now visited given
+  colour_passed ss rs visited ms now given all on colour rows_are momenta_are below put got =
       let mapped = results_mapped at f ss rs colour (fair_at rs ss all on) in
-      let rows : turned ≡ rows_in (results at f ss rs) = rows_are ∙ mapped_twice rs (turn_of at f ss) (λ (t : RowAfter R). t.row) ∙ ap rows_in (sym mapped) in
-      let momenta : ms ≡ momenta_in (results at f ss rs) = momenta_are ∙ mapped_twice rs (turn_of at f ss) (λ (t : RowAfter R). momenta_of t.ends) ∙ ap momenta_in (sym mapped) in
-      let in_order : turned ≡ rows_passed at f ss rs = rows ∙ rows_of_results rs ss in
+      let rows : visited ≡ rows_in (results at f ss rs) = rows_are ∙ mapped_twice rs (visit_of at f ss) (λ (t : RowAfter R). t.row) ∙ ap rows_in (sym mapped) in
+      let momenta : ms ≡ momenta_in (results at f ss rs) = momenta_are ∙ mapped_twice rs (visit_of at f ss) (λ (t : RowAfter R). momenta_of t.ends) ∙ ap momenta_in (sym mapped) in
+      let in_order : visited ≡ rows_passed at f ss rs = rows ∙ rows_of_results rs ss in
       let is_now : now ≡ passed at f ss rs = put ∙ ap₂ (put_all at ss) rows momenta ∙ results_put rs ss all on in
       let is_given : given ≡ share at f ss rs = got ∙ ap₂ (given_all at ss) rows momenta ∙ results_given rs ss all on in
       let whole = passed_is rs ss all on (subst (AreRowsOn at is (length ss)) in_order below) in

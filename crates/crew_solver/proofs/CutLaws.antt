@@ -6,7 +6,7 @@ use Rattle.std.proofs.lemmas.List.{append_assoc, map_more}
 use Rattle.std.proofs.lemmas.List.Elements.{All-cons, All-get_or, All-head, All-nil, All-tail}
 use Rattle.colour_solver.specs.declared.constraint_row.ConstraintRow.{ConstraintRow}
 use Rattle.colour_solver.specs.ColourRows.{ColourRows, all_rows}
-use Rattle.colour_solver.specs.ConstraintTurns.{AreRowsBelow, IsRowBelow}
+use Rattle.colour_solver.specs.ConstraintVisits.{AreRowsBelow, IsRowBelow}
 use Rattle.crew_solver.proofs.PassLaws.{all_behind, all_unmapped}
 
 -- ---- rows of one kind

@@ -6,7 +6,8 @@ use Rattle.fixed_geom.specs.declared.vectors.Vec2.{Vec2}
 use Rattle.momenta.specs.declared.state.BodyState.{BodyState}
 use Rattle.momenta.specs.declared.state.Ends.{Ends}
 use Rattle.momenta.specs.declared.line.Line.{Line}
-use Rattle.momenta.specs.Impulses.{AreStates, exerted, fits, given, impulse_pair, or_dropped, or_kept, solved_impulse, warmed}
+use Rattle.momenta.specs.Impulses.{exerted, fits, given, impulse_pair, or_dropped, or_kept, solved_impulse, warmed}
+use Rattle.momenta.specs.ImpulseBounds.{AreStates}
 use Rattle.momenta.proofs.ImpulseLaws.{pair_first, pair_given, pair_second}
 use Rattle.momenta.proofs.NoImpulse.{same_bodies, same_momentum}
 use Rattle.joint_rows.specs.Rows.{joint_solved, joint_warmed}
@@ -17,13 +18,13 @@ use Rattle.colour_solver_base.specs.declared.solve.PointAfter.{PointAfter}
 use Rattle.colour_solver_base.specs.RowsAfter.{RowAfter}
 use Rattle.colour_solver_base.specs.Rows.{after_first, at_points, bounces, point_bounced, point_solved, point_warmed, row_bounced, row_solved, row_warmed, then_second}
 use Rattle.colour_solver_base.proofs.Kept.{kept_then, same_then}
-use Rattle.colour_solver.specs.ConstraintTurns.{both_turns, constraint_slots, contact_slots, joint_slots, joint_unbounced, turned_joint}
+use Rattle.colour_solver.specs.ConstraintVisits.{both_visits, constraint_slots, contact_slots, joint_slots, joint_unbounced, visited_joint}
 use Rattle.colour_solver.specs.declared.constraint_row.ConstraintRow.{ConstraintRow}
 use Rattle.colour_solver.specs.declared.constraint_row.ConstraintRow.TheVariants.{Contact, Joint}
 use Rattle.colour_solver.specs.declared.phase.Phase.{Phase}
 use Rattle.colour_solver.specs.declared.phase.Phase.TheVariants.{Bounce, Solve, Warm}
-use Rattle.colour_solver.specs.Phases.{constraint_turn, contact_turn, joint_turn}
-use Rattle.crew_solver.specs.Turned.{AreTurnsLawful, IsFair}
+use Rattle.colour_solver.specs.Phases.{constraint_visit, contact_visit, joint_visit}
+use Rattle.crew_solver.specs.Visited.{AreVisitsLawful, IsFair}
 
 -- ---- nothing, and one turn after another
 
@@ -73,15 +74,15 @@ warmed_fair line total e h = impulse_fair _ line.ra line.rb e h
 
 -- ---- a joint
 
-pub joints_warmed : AreTurnsLawful joint_slots (λ r e. turned_joint (joint_warmed r e))
+pub joints_warmed : AreVisitsLawful joint_slots (λ r e. visited_joint (joint_warmed r e))
 unfolding joint_warmed
 joints_warmed = record { fair = λ r e h. warmed_fair r.line r.impulse e h; slots = λ r e. refl }
 
-pub joints_solved : AreTurnsLawful joint_slots (λ r e. turned_joint (joint_solved r e))
+pub joints_solved : AreVisitsLawful joint_slots (λ r e. visited_joint (joint_solved r e))
 unfolding joint_solved
 joints_solved = record { fair = λ r e h. solved_fair r.line _ _ _ r.impulse e h; slots = λ r e. refl }
 
-pub joints_bounced : AreTurnsLawful joint_slots (λ r e. turned_joint (joint_unbounced r e))
+pub joints_bounced : AreVisitsLawful joint_slots (λ r e. visited_joint (joint_unbounced r e))
 joints_bounced = record { fair = λ r e h. still e h; slots = λ r e. refl }
 
 -- ---- a point of a contact
@@ -128,33 +129,33 @@ points_fair f fair r e h = second_fair f fair e (after_first r (f r.first e)) r.
 points_slots : (f : PointRow → Ends → PointAfter) (r : ContactRow) (e : Ends) → contact_slots (at_points f r e).row ≡ contact_slots r
 points_slots f r e = second_slots f (after_first r (f r.first e)) r.second
 
-pub contacts_warmed : AreTurnsLawful contact_slots (λ r e. row_warmed r e)
+pub contacts_warmed : AreVisitsLawful contact_slots (λ r e. row_warmed r e)
 unfolding row_warmed
 contacts_warmed = record { fair = λ r e h. points_fair warmed_point point_warmed_fair r e h; slots = λ r e. points_slots warmed_point r e }
 
-pub contacts_solved : AreTurnsLawful contact_slots (λ r e. row_solved r e)
+pub contacts_solved : AreVisitsLawful contact_slots (λ r e. row_solved r e)
 unfolding row_solved
 contacts_solved = record { fair = λ r e h. points_fair (point_solved r.bodies.friction) (point_solved_fair r.bodies.friction) r e h; slots = λ r e. points_slots (point_solved r.bodies.friction) r e }
 
-pub contacts_bounced : AreTurnsLawful contact_slots (λ r e. row_bounced r e)
+pub contacts_bounced : AreVisitsLawful contact_slots (λ r e. row_bounced r e)
 unfolding row_bounced
 contacts_bounced = record { fair = λ r e h. points_fair (point_bounced r.bodies.restitution) (point_bounced_fair r.bodies.restitution) r e h; slots = λ r e. points_slots (point_bounced r.bodies.restitution) r e }
 
 -- ---- a row of either kind
 
-module _ (f : JointRow → Ends → RowAfter JointRow) (g : ContactRow → Ends → RowAfter ContactRow) (h : AreTurnsLawful joint_slots f) (k : AreTurnsLawful contact_slots g) where
-  either_fair : (r : ConstraintRow) (e : Ends) → AreStates e → IsFair e (both_turns f g r e).ends
+module _ (f : JointRow → Ends → RowAfter JointRow) (g : ContactRow → Ends → RowAfter ContactRow) (h : AreVisitsLawful joint_slots f) (k : AreVisitsLawful contact_slots g) where
+  either_fair : (r : ConstraintRow) (e : Ends) → AreStates e → IsFair e (both_visits f g r e).ends
   either_fair (Joint r) e s = h.fair r e s
   either_fair (Contact r) e s = k.fair r e s
 
-  either_slots : (r : ConstraintRow) (e : Ends) → constraint_slots (both_turns f g r e).row ≡ constraint_slots r
+  either_slots : (r : ConstraintRow) (e : Ends) → constraint_slots (both_visits f g r e).row ≡ constraint_slots r
   either_slots (Joint r) e = h.slots r e
   either_slots (Contact r) e = k.slots r e
 
-  either_lawful : AreTurnsLawful constraint_slots (both_turns f g)
+  either_lawful : AreVisitsLawful constraint_slots (both_visits f g)
   either_lawful = record { fair = either_fair; slots = either_slots }
 
-pub phase_lawful : (phase : Phase) → AreTurnsLawful constraint_slots (constraint_turn phase)
-phase_lawful Warm = either_lawful (joint_turn Warm) (contact_turn Warm) joints_warmed contacts_warmed
-phase_lawful Solve = either_lawful (joint_turn Solve) (contact_turn Solve) joints_solved contacts_solved
-phase_lawful Bounce = either_lawful (joint_turn Bounce) (contact_turn Bounce) joints_bounced contacts_bounced
+pub phase_lawful : (phase : Phase) → AreVisitsLawful constraint_slots (constraint_visit phase)
+phase_lawful Warm = either_lawful (joint_visit Warm) (contact_visit Warm) joints_warmed contacts_warmed
+phase_lawful Solve = either_lawful (joint_visit Solve) (contact_visit Solve) joints_solved contacts_solved
+phase_lawful Bounce = either_lawful (joint_visit Bounce) (contact_visit Bounce) joints_bounced contacts_bounced

@@ -4,7 +4,7 @@ use Rattle.std.proofs.lemmas.List.{drop-set-lt, length-append, length-map, lengt
 use Rattle.colour_solver.specs.declared.colour_rows.RowPlace.{RowPlace}
 use Rattle.colour_solver.specs.declared.constraint_row.ConstraintRow.{ConstraintRow}
 use Rattle.colour_solver.specs.ColourRows.{IsPlace}
-use Rattle.colour_solver.specs.ConstraintTurns.{is_joint}
+use Rattle.colour_solver.specs.ConstraintVisits.{is_joint}
 use Rattle.crew_solver.specs.Putting.{AreNext, IsPut, rows_before}
 use Rattle.crew_solver.proofs.ListLaws.{get_again}
 use Rattle.crew_solver.proofs.PlacedLaws.{done_then, inside, later, next_all, next_behind, next_front, next_inside, next_kind, one_more, whole}

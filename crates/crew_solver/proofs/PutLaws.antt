@@ -4,13 +4,13 @@ use Rattle.std.proofs.lemmas.List.{length-append, take-append-le}
 use Rattle.fixed_geom.specs.Vectors.{IsWithin, plus}
 use Rattle.fixed_geom.specs.declared.vectors.Vec2.{Vec2}
 use Rattle.momenta.specs.declared.state.BodyState.{BodyState}
-use Rattle.colour_solver.specs.declared.turns.Slots.{Slots}
+use Rattle.colour_solver.specs.declared.row_visits.Slots.{Slots}
 use Rattle.colour_solver.specs.States.{AreAllStates}
-use Rattle.colour_solver.specs.Turns.{ends_of, got}
+use Rattle.colour_solver.specs.RowVisits.{ends_of, got}
 use Rattle.colour_solver.proofs.VectorLaws.{plus_assoc, plus_zero}
 use Rattle.crew_solver.specs.declared.momenta_pair.MomentaPair.{MomentaPair}
 use Rattle.crew_solver.proofs.ListLaws.{dropped}
-use Rattle.crew_solver.specs.Turned.{AreWithin, IsSmallSoFar, PieceRows, ends_with, given_all, put_all, put_at, rows_in, turned_in}
+use Rattle.crew_solver.specs.Visited.{AreWithin, IsSmallSoFar, PieceRows, ends_with, given_all, put_all, put_at, rows_in, visited_in}
 
 -- ---- the bodies' momenta
 
@@ -98,27 +98,27 @@ module _ {R : Type 0} (at : R → Slots) where
 
   -- ---- one piece, and those behind it
 
-  pub small_first : (ps : List (PieceRows R)) (p : PieceRows R) (rest : List (PieceRows R)) (ss : List BodyState) (g : Vec2) → ps ≡ p ∷ rest → length p.turned ≡ length p.rows
-      → IsSmallSoFar at ss g (rows_in ps) (turned_in ps) → IsSmallSoFar at ss g p.rows p.turned
-  small_first ps p rest ss g e long small = small_before p.rows (rows_in rest) p.turned (turned_in rest) ss g long (subst (λ (l : List (PieceRows R)). IsSmallSoFar at ss g (rows_in l) (turned_in l)) e small)
+  pub small_first : (ps : List (PieceRows R)) (p : PieceRows R) (rest : List (PieceRows R)) (ss : List BodyState) (g : Vec2) → ps ≡ p ∷ rest → length p.visited ≡ length p.rows
+      → IsSmallSoFar at ss g (rows_in ps) (visited_in ps) → IsSmallSoFar at ss g p.rows p.visited
+  small_first ps p rest ss g e long small = small_before p.rows (rows_in rest) p.visited (visited_in rest) ss g long (subst (λ (l : List (PieceRows R)). IsSmallSoFar at ss g (rows_in l) (visited_in l)) e small)
 
-  pub small_rest : (ps : List (PieceRows R)) (p : PieceRows R) (rest : List (PieceRows R)) (ss now : List BodyState) (g h : Vec2) → ps ≡ p ∷ rest → length p.turned ≡ length p.rows
-      → now ≡ put_all at ss p.rows p.turned → h ≡ plus g (given_all at ss p.rows p.turned) → IsSmallSoFar at ss g (rows_in ps) (turned_in ps) → IsSmallSoFar at now h (rows_in rest) (turned_in rest)
+  pub small_rest : (ps : List (PieceRows R)) (p : PieceRows R) (rest : List (PieceRows R)) (ss now : List BodyState) (g h : Vec2) → ps ≡ p ∷ rest → length p.visited ≡ length p.rows
+      → now ≡ put_all at ss p.rows p.visited → h ≡ plus g (given_all at ss p.rows p.visited) → IsSmallSoFar at ss g (rows_in ps) (visited_in ps) → IsSmallSoFar at now h (rows_in rest) (visited_in rest)
   small_rest ps p rest ss now g h e long put given small =
-      subst (λ (l : List BodyState). IsSmallSoFar at l h (rows_in rest) (turned_in rest)) (sym put)
-      (subst (λ (v : Vec2). IsSmallSoFar at (put_all at ss p.rows p.turned) v (rows_in rest) (turned_in rest)) (sym given)
-      (small_after p.rows (rows_in rest) p.turned (turned_in rest) ss g long (subst (λ (l : List (PieceRows R)). IsSmallSoFar at ss g (rows_in l) (turned_in l)) e small)))
+      subst (λ (l : List BodyState). IsSmallSoFar at l h (rows_in rest) (visited_in rest)) (sym put)
+      (subst (λ (v : Vec2). IsSmallSoFar at (put_all at ss p.rows p.visited) v (rows_in rest) (visited_in rest)) (sym given)
+      (small_after p.rows (rows_in rest) p.visited (visited_in rest) ss g long (subst (λ (l : List (PieceRows R)). IsSmallSoFar at ss g (rows_in l) (visited_in l)) e small)))
 
-  pub put_rest : (ps : List (PieceRows R)) (p : PieceRows R) (rest : List (PieceRows R)) (ss now : List BodyState) → ps ≡ p ∷ rest → length p.turned ≡ length p.rows → now ≡ put_all at ss p.rows p.turned
-      → put_all at now (rows_in rest) (turned_in rest) ≡ put_all at ss (rows_in ps) (turned_in ps)
+  pub put_rest : (ps : List (PieceRows R)) (p : PieceRows R) (rest : List (PieceRows R)) (ss now : List BodyState) → ps ≡ p ∷ rest → length p.visited ≡ length p.rows → now ≡ put_all at ss p.rows p.visited
+      → put_all at now (rows_in rest) (visited_in rest) ≡ put_all at ss (rows_in ps) (visited_in ps)
   put_rest ps p rest ss now e long put =
-      ap (λ (l : List BodyState). put_all at l (rows_in rest) (turned_in rest)) put
-      ∙ sym (put_then p.rows (rows_in rest) p.turned (turned_in rest) ss long)
-      ∙ ap (λ (l : List (PieceRows R)). put_all at ss (rows_in l) (turned_in l)) (sym e)
+      ap (λ (l : List BodyState). put_all at l (rows_in rest) (visited_in rest)) put
+      ∙ sym (put_then p.rows (rows_in rest) p.visited (visited_in rest) ss long)
+      ∙ ap (λ (l : List (PieceRows R)). put_all at ss (rows_in l) (visited_in l)) (sym e)
 
-  pub given_rest : (ps : List (PieceRows R)) (p : PieceRows R) (rest : List (PieceRows R)) (ss now : List BodyState) (g h : Vec2) → ps ≡ p ∷ rest → length p.turned ≡ length p.rows → now ≡ put_all at ss p.rows p.turned → h ≡ plus g (given_all at ss p.rows p.turned)
-      → plus h (given_all at now (rows_in rest) (turned_in rest)) ≡ plus g (given_all at ss (rows_in ps) (turned_in ps))
+  pub given_rest : (ps : List (PieceRows R)) (p : PieceRows R) (rest : List (PieceRows R)) (ss now : List BodyState) (g h : Vec2) → ps ≡ p ∷ rest → length p.visited ≡ length p.rows → now ≡ put_all at ss p.rows p.visited → h ≡ plus g (given_all at ss p.rows p.visited)
+      → plus h (given_all at now (rows_in rest) (visited_in rest)) ≡ plus g (given_all at ss (rows_in ps) (visited_in ps))
   given_rest ps p rest ss now g h e long put given =
-      ap₂ (λ (v : Vec2) (l : List BodyState). plus v (given_all at l (rows_in rest) (turned_in rest))) given put
-      ∙ given_then p.rows (rows_in rest) p.turned (turned_in rest) ss g long
-      ∙ ap (λ (l : List (PieceRows R)). plus g (given_all at ss (rows_in l) (turned_in l))) (sym e)
+      ap₂ (λ (v : Vec2) (l : List BodyState). plus v (given_all at l (rows_in rest) (visited_in rest))) given put
+      ∙ given_then p.rows (rows_in rest) p.visited (visited_in rest) ss g long
+      ∙ ap (λ (l : List (PieceRows R)). plus g (given_all at ss (rows_in l) (visited_in l))) (sym e)

@@ -1,2 +1,2 @@
-pub mod Turned
+pub mod Visited
 pub mod Putting

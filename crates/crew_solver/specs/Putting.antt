@@ -3,7 +3,7 @@ use Rattle.std.specs.Prelude.{◌≡◌, ◌+◌, ◌++◌, ℕ, List, drop, len
 use Rattle.colour_solver.specs.declared.colour_rows.RowPlace.{RowPlace}
 use Rattle.colour_solver.specs.declared.constraint_row.ConstraintRow.{ConstraintRow}
 use Rattle.colour_solver.specs.ColourRows.{IsPlace}
-use Rattle.colour_solver.specs.ConstraintTurns.{is_joint}
+use Rattle.colour_solver.specs.ConstraintVisits.{is_joint}
 
 -- how many rows stand before a place
 abbrev pub rows_before : RowPlace → ℕ

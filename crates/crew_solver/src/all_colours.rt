@@ -5,13 +5,13 @@ ghost use Rattle.std.specs.List.{flat_map};
 ghost use Rattle.fixed_geom.specs.Vectors.{plus};
 ghost use Rattle.momenta.specs.Gains.{IsGain};
 ghost use Rattle.colour_solver.specs.Colour.{IsColour};
-ghost use Rattle.colour_solver.specs.ConstraintTurns.{AreRowsBelow, IsConstraintRow, constraint_slots};
+ghost use Rattle.colour_solver.specs.ConstraintVisits.{AreRowsBelow, IsConstraintRow, constraint_slots};
 ghost use Rattle.colour_solver.specs.States.{AreAllStates, AreSameStates, as_vector, total};
-ghost use Rattle.colour_solver.specs.Turns.{IsPassed, passed, rows_passed, share};
-ghost use Rattle.colour_solver.specs.Phases.{constraint_turn};
-ghost use Rattle.crew_solver.specs.Turned.{ArePiecesOf, all_in, row_count, rows_in};
+ghost use Rattle.colour_solver.specs.RowVisits.{IsPassed, passed, rows_passed, share};
+ghost use Rattle.colour_solver.specs.Phases.{constraint_visit};
+ghost use Rattle.crew_solver.specs.Visited.{ArePiecesOf, all_in, row_count, rows_in};
 
-use crate::{ColourPieces, Turning};
+use crate::{ColourPieces, Visiting};
 use body_handles::MAX_SLOTS;
 use colour_solver::{ConstraintRow, Phase, pass_rows};
 use crew::{Crew, Gate};
@@ -23,7 +23,7 @@ use std::sync::Wait;
 fn pass_colours<'s, H: Wait, G: Gate>(
     rt: &H,
     alloc: Global,
-    crew: &mut Crew<'s, G, Turning<ConstraintRow, Phase>>,
+    crew: &mut Crew<'s, G, Visiting<ConstraintRow, Phase>>,
     states: &mut Vec<BodyState>,
     colours: &mut [ColourPieces],
     phase: Phase,
@@ -32,7 +32,7 @@ fn pass_colours<'s, H: Wait, G: Gate>(
     requires states { AreAllStates states.old.items }
     requires bodies { All (λ c. ArePiecesOf states.old.items c) colours.old }
     requires colours { All (λ c. IsColour constraint_slots states.old.items (rows_in c)) colours.old }
-    ensures passed { IsPassed constraint_slots IsConstraintRow (constraint_turn phase) states.old.items (flat_map rows_in colours.old) states.new.items (flat_map rows_in colours.new) (as_vector result) }
+    ensures passed { IsPassed constraint_slots IsConstraintRow (constraint_visit phase) states.old.items (flat_map rows_in colours.old) states.new.items (flat_map rows_in colours.new) (as_vector result) }
     ensures bodies { All (λ c. ArePiecesOf states.new.items c) colours.new }
     ensures counts { map row_count colours.new ≡ map row_count colours.old }
     ensures small { IsGain (2 ^ 78) result }
@@ -53,7 +53,7 @@ fn pass_colours<'s, H: Wait, G: Gate>(
 pub fn pass_crew<'s, H: Wait, G: Gate>(
     rt: &H,
     alloc: Global,
-    crew: &mut Crew<'s, G, Turning<ConstraintRow, Phase>>,
+    crew: &mut Crew<'s, G, Visiting<ConstraintRow, Phase>>,
     states: &mut Vec<BodyState>,
     colours: &mut [ColourPieces],
     left: &mut Vec<ConstraintRow>,
@@ -64,10 +64,10 @@ pub fn pass_crew<'s, H: Wait, G: Gate>(
     requires bodies { All (λ c. ArePiecesOf states.old.items c) colours.old }
     requires colours { All (λ c. IsColour constraint_slots states.old.items (rows_in c)) colours.old }
     requires rows { AreRowsBelow (length states.old.items) left.old.items }
-    ensures states { states.new.items ≡ passed constraint_slots (constraint_turn phase) states.old.items (all_in colours.old left.old.items) }
-    ensures rows { all_in colours.new left.new.items ≡ rows_passed constraint_slots (constraint_turn phase) states.old.items (all_in colours.old left.old.items) }
+    ensures states { states.new.items ≡ passed constraint_slots (constraint_visit phase) states.old.items (all_in colours.old left.old.items) }
+    ensures rows { all_in colours.new left.new.items ≡ rows_passed constraint_slots (constraint_visit phase) states.old.items (all_in colours.old left.old.items) }
     ensures counts { map row_count colours.new ≡ map row_count colours.old }
-    ensures share { as_vector result ≡ share constraint_slots (constraint_turn phase) states.old.items (all_in colours.old left.old.items) }
+    ensures share { as_vector result ≡ share constraint_slots (constraint_visit phase) states.old.items (all_in colours.old left.old.items) }
     ensures all_states { AreAllStates states.new.items }
     ensures bodies { All (λ c. ArePiecesOf states.new.items c) colours.new }
     ensures all_rows { AreRowsBelow (length states.new.items) (all_in colours.new left.new.items) }

@@ -4,13 +4,13 @@ ghost use Rattle.std.specs.Prelude.{◌≡◌, ◌≤◌, ◌^◌, [], All, leng
 ghost use Rattle.std.specs.Result.{IsOkUnless};
 ghost use Rattle.momenta.specs.Gains.{IsGain};
 ghost use Rattle.colour_solver.specs.Colour.{IsColour};
-ghost use Rattle.colour_solver.specs.ConstraintTurns.{AreRowsBelow, IsConstraintRow, constraint_slots};
+ghost use Rattle.colour_solver.specs.ConstraintVisits.{AreRowsBelow, IsConstraintRow, constraint_slots};
 ghost use Rattle.colour_solver.specs.States.{AreAllStates, as_vector};
-ghost use Rattle.colour_solver.specs.Turns.{IsPassed};
-ghost use Rattle.colour_solver.specs.Phases.{constraint_turn};
-ghost use Rattle.crew_solver.specs.Turned.{ArePiecesOf, row_count, rows_in};
+ghost use Rattle.colour_solver.specs.RowVisits.{IsPassed};
+ghost use Rattle.colour_solver.specs.Phases.{constraint_visit};
+ghost use Rattle.crew_solver.specs.Visited.{ArePiecesOf, row_count, rows_in};
 
-use crate::{Piece, Turning, pass_pieces};
+use crate::{Piece, Visiting, pass_pieces};
 use body_handles::MAX_SLOTS;
 use colour_solver::{ConstraintRow, Phase};
 use crew::{Crew, Gate};
@@ -33,7 +33,7 @@ pub struct ColourPieces {
 impl Model for ColourPieces {
     ghost use Rattle.std.specs.Prelude.{◌≤◌, List, vec_capacity, vec_len};
     ghost use Rattle.colour_solver.specs.declared.constraint_row.ConstraintRow.{ConstraintRow};
-    ghost use Rattle.crew_solver.specs.Turned.{PieceRows};
+    ghost use Rattle.crew_solver.specs.Visited.{PieceRows};
 
     ghost Value = { List (PieceRows ConstraintRow) };
 
@@ -101,7 +101,7 @@ impl ColourPieces {
         &mut self,
         rt: &H,
         alloc: Global,
-        crew: &mut Crew<'s, G, Turning<ConstraintRow, Phase>>,
+        crew: &mut Crew<'s, G, Visiting<ConstraintRow, Phase>>,
         states: &mut Vec<BodyState>,
         phase: Phase,
     ) -> Gain
@@ -109,7 +109,7 @@ impl ColourPieces {
         requires states { AreAllStates states.old.items }
         requires bodies { ArePiecesOf states.old.items self.old }
         requires colour { IsColour constraint_slots states.old.items (rows_in self.old) }
-        ensures passed { IsPassed constraint_slots IsConstraintRow (constraint_turn phase) states.old.items (rows_in self.old) states.new.items (rows_in self.new) (as_vector result) }
+        ensures passed { IsPassed constraint_slots IsConstraintRow (constraint_visit phase) states.old.items (rows_in self.old) states.new.items (rows_in self.new) (as_vector result) }
         ensures bodies { ArePiecesOf states.new.items self.new }
         ensures small { IsGain (2 ^ 78) result }
     {

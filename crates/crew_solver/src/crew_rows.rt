@@ -5,13 +5,13 @@ ghost use Rattle.std.specs.Result.{IsOkUnless};
 ghost use Rattle.fixed_geom.specs.Vectors.{plus};
 ghost use Rattle.momenta.specs.Gains.{IsGain};
 ghost use Rattle.colour_solver.specs.Colour.{IsColour};
-ghost use Rattle.colour_solver.specs.ConstraintTurns.{AreRowsBelow, IsRowBelow, constraint_slots};
+ghost use Rattle.colour_solver.specs.ConstraintVisits.{AreRowsBelow, IsRowBelow, constraint_slots};
 ghost use Rattle.colour_solver.specs.States.{AreAllStates, AreSameStates, as_vector, total};
-ghost use Rattle.colour_solver.specs.Turns.{passed, rows_passed, share};
-ghost use Rattle.colour_solver.specs.Phases.{constraint_turn};
-ghost use Rattle.crew_solver.specs.Turned.{all_of, rows_in};
+ghost use Rattle.colour_solver.specs.RowVisits.{passed, rows_passed, share};
+ghost use Rattle.colour_solver.specs.Phases.{constraint_visit};
+ghost use Rattle.crew_solver.specs.Visited.{all_of, rows_in};
 
-use crate::{ColourPieces, Turning, pass_crew};
+use crate::{ColourPieces, Visiting, pass_crew};
 use body_handles::MAX_SLOTS;
 use colour_solver::{ConstraintRow, Phase};
 use crew::{Crew, Gate};
@@ -33,8 +33,8 @@ pub struct CrewRows {
 impl Model for CrewRows {
     ghost use Rattle.std.specs.Prelude.{◌≡◌, All, map};
     ghost use Rattle.colour_solver.specs.declared.constraint_row.ConstraintRow.{ConstraintRow};
-    ghost use Rattle.colour_solver.specs.ConstraintTurns.{AreRowsBelow};
-    ghost use Rattle.crew_solver.specs.Turned.{StepRows, rows_in};
+    ghost use Rattle.colour_solver.specs.ConstraintVisits.{AreRowsBelow};
+    ghost use Rattle.crew_solver.specs.Visited.{StepRows, rows_in};
 
     ghost Value = { StepRows ConstraintRow };
 
@@ -107,7 +107,7 @@ impl CrewRows {
         &mut self,
         rt: &H,
         alloc: Global,
-        crew: &mut Crew<'s, G, Turning<ConstraintRow, Phase>>,
+        crew: &mut Crew<'s, G, Visiting<ConstraintRow, Phase>>,
         states: &mut Vec<BodyState>,
         phase: Phase,
     ) -> Gain
@@ -115,10 +115,10 @@ impl CrewRows {
         requires states { AreAllStates states.old.items }
         requires bodies { self.old.bodies ≡ length states.old.items }
         requires colours { All (λ rs. IsColour constraint_slots states.old.items rs) self.old.colours }
-        ensures states { states.new.items ≡ passed constraint_slots (constraint_turn phase) states.old.items (all_of self.old) }
-        ensures rows { all_of self.new ≡ rows_passed constraint_slots (constraint_turn phase) states.old.items (all_of self.old) }
+        ensures states { states.new.items ≡ passed constraint_slots (constraint_visit phase) states.old.items (all_of self.old) }
+        ensures rows { all_of self.new ≡ rows_passed constraint_slots (constraint_visit phase) states.old.items (all_of self.old) }
         ensures colours { map length self.new.colours ≡ map length self.old.colours }
-        ensures share { as_vector result ≡ share constraint_slots (constraint_turn phase) states.old.items (all_of self.old) }
+        ensures share { as_vector result ≡ share constraint_slots (constraint_visit phase) states.old.items (all_of self.old) }
         ensures all_states { AreAllStates states.new.items }
         ensures all_rows { AreRowsBelow (length states.new.items) (all_of self.new) }
         ensures bodies { self.new.bodies ≡ self.old.bodies }

@@ -4,7 +4,7 @@ ghost use Rattle.std.specs.Prelude.{◌≡◌, ◌++◌, ◌<◌, [], map, slice
 ghost use Rattle.joint_rows.specs.declared.row.JointRow.{JointRow as TheJointRow};
 ghost use Rattle.colour_solver_base.specs.declared.row.ContactRow.{ContactRow as TheContactRow};
 ghost use Rattle.colour_solver.specs.ColourRows.{all_rows, joints_first};
-ghost use Rattle.colour_solver.specs.ConstraintTurns.{AreRowsBelow, contacts_among, joints_among};
+ghost use Rattle.colour_solver.specs.ConstraintVisits.{AreRowsBelow, contacts_among, joints_among};
 ghost use Rattle.colour_solver.specs.declared.constraint_row.ConstraintRow.TheVariants.{Joint, Contact};
 
 use crate::CrewRows;

@@ -16,7 +16,7 @@ pub mod piece;
 pub mod put;
 mod putting;
 pub mod step_crew;
-pub mod turning;
+pub mod visiting;
 
 pub use all_colours::pass_crew;
 pub use colour_pieces::ColourPieces;
@@ -25,4 +25,4 @@ pub use momenta_pair::MomentaPair;
 pub use pass::pass_pieces;
 pub use piece::Piece;
 pub use step_crew::StepCrew;
-pub use turning::Turning;
+pub use visiting::Visiting;

@@ -4,13 +4,13 @@ ghost use Rattle.std.specs.Prelude.{◌≡◌, ◌^◌, ◌≤◌, [], All, leng
 ghost use Rattle.momenta.specs.Gains.{IsGain};
 ghost use Rattle.colour_solver.specs.Colour.{IsColour};
 ghost use Rattle.colour_solver.specs.States.{AreAllStates, as_vector};
-ghost use Rattle.colour_solver.specs.Turns.{AreRowsOn, IsPassed};
-ghost use Rattle.crew_solver.specs.Turned.{AreTurnsLawful, rows_in, worked};
+ghost use Rattle.colour_solver.specs.RowVisits.{AreRowsOn, IsPassed};
+ghost use Rattle.crew_solver.specs.Visited.{AreVisitsLawful, rows_in, worked};
 
 use crate::put::put_pieces;
-use crate::{Piece, Turning};
+use crate::{Piece, Visiting};
 use body_handles::MAX_SLOTS;
-use colour_solver::{Row, Turn};
+use colour_solver::{Row, Visit};
 use crew::{Crew, Gate};
 use momenta::{BodyState, Gain, NOTHING};
 use std::alloc::Global;
@@ -29,26 +29,26 @@ fn know_rows_stand<R: Row>(pieces: &[Piece<R>], bodies: usize)
 }
 
 /// The turns of all rows by the crew, each with the bodies as they are before all of them.
-fn turn_pieces<'s, H: Wait, G: Gate, R: Row, T: Turn<R> + Copy>(
+fn visit_pieces<'s, H: Wait, G: Gate, R: Row, T: Visit<R> + Copy>(
     rt: &H,
     alloc: Global,
-    crew: &mut Crew<'s, G, Turning<R, T>>,
+    crew: &mut Crew<'s, G, Visiting<R, T>>,
     states: &mut Vec<BodyState>,
     pieces: &mut Vec<Piece<R>>,
     spare: &mut Vec<Piece<R>>,
-    turn: T,
+    visit: T,
 )
     requires states { AreAllStates states.old.items }
     requires bodies { All (λ p. p.bodies ≡ length states.old.items) pieces.old.items }
     requires room { vec_len pieces.old ≤ vec_capacity spare.old }
     ensures states { states.new.items ≡ states.old.items }
-    ensures pieces { pieces.new.items ≡ map (worked R.slots (T.turn turn) states.old.items) pieces.old.items }
+    ensures pieces { pieces.new.items ≡ map (worked R.slots (T.visit visit) states.old.items) pieces.old.items }
     ensures spare { spare.new.items ≡ [] }
     ensures room { vec_capacity pieces.old ≤ vec_capacity spare.new }
     ensures other_room { vec_capacity spare.old ≤ vec_capacity pieces.new }
 {
     spare.clear();
-    let work = Turning::new(mem::replace(states, Vec::new(alloc)), turn);
+    let work = Visiting::new(mem::replace(states, Vec::new(alloc)), visit);
     let work = crew.map(rt, work, pieces, spare);
     *states = work.into_states();
     mem::swap(pieces, spare);
@@ -57,22 +57,22 @@ fn turn_pieces<'s, H: Wait, G: Gate, R: Row, T: Turn<R> + Copy>(
 /// One pass over the rows of a colour, which stand in pieces: the turn is made of each, the workers of the crew having a piece at a time.
 /// It is the pass one row after another, each with the bodies as those before it left them. `spare` is a list with as much room. Answers
 /// what immovable bodies have given to the movers (mass·u/tick). It takes no memory that it couldn't do without, and is never refused.
-pub fn pass_pieces<'s, H: Wait, G: Gate, R: Row, T: Turn<R> + Copy>(
+pub fn pass_pieces<'s, H: Wait, G: Gate, R: Row, T: Visit<R> + Copy>(
     rt: &H,
     alloc: Global,
-    crew: &mut Crew<'s, G, Turning<R, T>>,
+    crew: &mut Crew<'s, G, Visiting<R, T>>,
     states: &mut Vec<BodyState>,
     pieces: &mut Vec<Piece<R>>,
     spare: &mut Vec<Piece<R>>,
-    turn: T,
+    visit: T,
 ) -> Gain
     requires few { length states.old.items ≤ MAX_SLOTS }
     requires states { AreAllStates states.old.items }
     requires bodies { All (λ p. p.bodies ≡ length states.old.items) pieces.old.items }
     requires colour { IsColour R.slots states.old.items (rows_in pieces.old.items) }
-    requires lawful { AreTurnsLawful R.slots (T.turn turn) }
+    requires lawful { AreVisitsLawful R.slots (T.visit visit) }
     requires room { vec_len pieces.old ≤ vec_capacity spare.old }
-    ensures passed { IsPassed R.slots R.is_row (T.turn turn) states.old.items (rows_in pieces.old.items) states.new.items (rows_in pieces.new.items) (as_vector result) }
+    ensures passed { IsPassed R.slots R.is_row (T.visit visit) states.old.items (rows_in pieces.old.items) states.new.items (rows_in pieces.new.items) (as_vector result) }
     ensures pieces { map (λ p. length p.rows) pieces.new.items ≡ map (λ p. length p.rows) pieces.old.items }
     ensures bodies { All (λ p. p.bodies ≡ length states.new.items) pieces.new.items }
     ensures room { vec_capacity pieces.old ≤ vec_capacity spare.new }
@@ -80,7 +80,7 @@ pub fn pass_pieces<'s, H: Wait, G: Gate, R: Row, T: Turn<R> + Copy>(
     ensures small { IsGain (2 ^ 78) result }
 {
     know_rows_stand(pieces.as_slice(), states.len());
-    turn_pieces(rt, alloc, crew, states, pieces, spare, turn);
+    visit_pieces(rt, alloc, crew, states, pieces, spare, visit);
     know_rows_stand(pieces.as_slice(), states.len());
     put_pieces(states, pieces.as_slice(), NOTHING)
 }

@@ -2,15 +2,15 @@
 
 ghost use Rattle.std.specs.Prelude.{◌≡◌, ◌≤◌, All, length, map, vec_len, vec_capacity, IfOk};
 ghost use Rattle.std.specs.Result.{IsOkUnless};
-ghost use Rattle.momenta.specs.Impulses.{IsState};
+ghost use Rattle.momenta.specs.ImpulseBounds.{IsState};
 ghost use Rattle.momenta.specs.Line64.{both_ends, ends_with};
 ghost use Rattle.momenta.specs.declared.state.BodyState.{BodyState};
 ghost use Rattle.colour_solver.specs.States.{AreAllStates};
-ghost use Rattle.colour_solver.specs.Turns.{AreRowsOn, IsRowOn, ends_of, turn_of};
-ghost use Rattle.crew_solver.specs.Turned.{IsPairWithin, momenta_of, worked};
+ghost use Rattle.colour_solver.specs.RowVisits.{AreRowsOn, IsRowOn, ends_of, visit_of};
+ghost use Rattle.crew_solver.specs.Visited.{IsPairWithin, momenta_of, worked};
 
 use crate::MomentaPair;
-use colour_solver::{Row, Turn};
+use colour_solver::{Row, Visit};
 use fixed_geom::Refusal;
 use momenta::{BodyState, Ends, Momenta, MomentaPair64};
 use std::alloc::Global;
@@ -20,19 +20,19 @@ use std::marker::Model;
 pub struct Piece<R: Row> {
     bodies: usize,
     rows: Vec<R>,
-    turned: Vec<MomentaPair>,
+    visited: Vec<MomentaPair>,
 }
 
 impl<R: Row> Model for Piece<R> {
     ghost use Rattle.std.specs.Prelude.{◌≤◌, All, vec_capacity, vec_len};
-    ghost use Rattle.colour_solver.specs.Turns.{AreRowsOn};
-    ghost use Rattle.crew_solver.specs.Turned.{IsPairWithin, PieceRows};
+    ghost use Rattle.colour_solver.specs.RowVisits.{AreRowsOn};
+    ghost use Rattle.crew_solver.specs.Visited.{IsPairWithin, PieceRows};
 
     ghost Value = { PieceRows R };
 
-    ghost view = { λ a. record { bodies = a.bodies; rows = a.rows.items; turned = a.turned.items } };
+    ghost view = { λ a. record { bodies = a.bodies; rows = a.rows.items; visited = a.visited.items } };
 
-    ghost invariant = { λ a. AreRowsOn R.slots R.is_row a.bodies a.rows.items × All IsPairWithin a.turned.items × (vec_len a.rows ≤ vec_capacity a.turned) };
+    ghost invariant = { λ a. AreRowsOn R.slots R.is_row a.bodies a.rows.items × All IsPairWithin a.visited.items × (vec_len a.rows ≤ vec_capacity a.visited) };
 }
 
 impl<R: Row> Drop for Piece<R> {
@@ -40,7 +40,7 @@ impl<R: Row> Drop for Piece<R> {
         let Self {
             bodies: _,
             rows: _,
-            turned: _,
+            visited: _,
         } = self;
     }
 }
@@ -81,88 +81,93 @@ fn widened(now: MomentaPair64) -> MomentaPair
 
 /// The turn of a row in full width.
 #[inline(never)]
-fn turn_wide<R: Row, T: Turn<R>>(row: &mut R, a: &BodyState, b: &BodyState, turn: &T) -> MomentaPair
+fn visit_wide<R: Row, T: Visit<R>>(
+    row: &mut R,
+    a: &BodyState,
+    b: &BodyState,
+    visit: &T,
+) -> MomentaPair
     requires row { R.is_row row.old }
     requires first { IsState a.now }
     requires second { IsState b.now }
-    ensures row { row.new ≡ (T.turn turn.now row.old (both_ends a.now b.now)).row }
-    ensures momenta { result ≡ momenta_of (T.turn turn.now row.old (both_ends a.now b.now)).ends }
+    ensures row { row.new ≡ (T.visit visit.now row.old (both_ends a.now b.now)).row }
+    ensures momenta { result ≡ momenta_of (T.visit visit.now row.old (both_ends a.now b.now)).ends }
     ensures whole { R.is_row row.new }
     ensures slots { R.slots row.new ≡ R.slots row.old }
     ensures within { IsPairWithin result }
 {
     let mut ends = Ends { a: *a, b: *b };
-    turn.turn(row, &mut ends);
+    visit.visit(row, &mut ends);
     momenta_of(&ends.a, &ends.b)
 }
 
 /// The turn of a row with its two bodies. Answers the momenta that it leaves them with.
 #[inline(always)]
-fn turn_between<R: Row, T: Turn<R>>(
+fn visit_between<R: Row, T: Visit<R>>(
     row: &mut R,
     a: &BodyState,
     b: &BodyState,
-    turn: &T,
+    visit: &T,
 ) -> MomentaPair
     requires row { R.is_row row.old }
     requires first { IsState a.now }
     requires second { IsState b.now }
-    ensures row { row.new ≡ (T.turn turn.now row.old (both_ends a.now b.now)).row }
-    ensures momenta { result ≡ momenta_of (T.turn turn.now row.old (both_ends a.now b.now)).ends }
+    ensures row { row.new ≡ (T.visit visit.now row.old (both_ends a.now b.now)).row }
+    ensures momenta { result ≡ momenta_of (T.visit visit.now row.old (both_ends a.now b.now)).ends }
     ensures whole { R.is_row row.new }
     ensures slots { R.slots row.new ≡ R.slots row.old }
     ensures within { IsPairWithin result }
 {
-    if turn.is_idle(row) {
+    if visit.is_idle(row) {
         return momenta_of(a, b);
     }
-    match turn.turn_64(row, a, b) {
-        None => turn_wide(row, a, b, turn),
+    match visit.visit_64(row, a, b) {
+        None => visit_wide(row, a, b, visit),
         Some(now) => widened(now),
     }
 }
 
 /// The turn of one row, the bodies standing so. Answers the momenta that it leaves its two bodies with.
 #[inline(always)]
-fn turn_one<R: Row, T: Turn<R>>(states: &[BodyState], row: &mut R, turn: &T) -> MomentaPair
+fn visit_one<R: Row, T: Visit<R>>(states: &[BodyState], row: &mut R, visit: &T) -> MomentaPair
     requires states { AreAllStates states.now }
     requires row { IsRowOn R.slots R.is_row (length states.now) row.old }
-    ensures row { row.new ≡ (turn_of R.slots (T.turn turn.now) states.now row.old).row }
-    ensures momenta { result ≡ momenta_of (turn_of R.slots (T.turn turn.now) states.now row.old).ends }
+    ensures row { row.new ≡ (visit_of R.slots (T.visit visit.now) states.now row.old).row }
+    ensures momenta { result ≡ momenta_of (visit_of R.slots (T.visit visit.now) states.now row.old).ends }
     ensures on { IsRowOn R.slots R.is_row (length states.now) row.new }
     ensures within { IsPairWithin result }
 {
     let slots = row.slots();
-    turn_between(
+    visit_between(
         row,
         &states[slots.a as usize],
         &states[slots.b as usize],
-        turn,
+        visit,
     )
 }
 
 /// The turns of rows, the bodies standing so.
-fn turn_rows<R: Row, T: Turn<R>>(
+fn visit_rows<R: Row, T: Visit<R>>(
     states: &[BodyState],
     rows: &mut Vec<R>,
-    turned: &mut Vec<MomentaPair>,
-    turn: &T,
+    visited: &mut Vec<MomentaPair>,
+    visit: &T,
 )
     requires states { AreAllStates states.now }
     requires on { AreRowsOn R.slots R.is_row (length states.now) rows.old.items }
-    requires room { vec_len rows.old ≤ vec_capacity turned.old }
-    ensures rows { rows.new.items ≡ map (λ r. (turn_of R.slots (T.turn turn.now) states.now r).row) rows.old.items }
-    ensures turned { turned.new.items ≡ map (λ r. momenta_of (turn_of R.slots (T.turn turn.now) states.now r).ends) rows.old.items }
+    requires room { vec_len rows.old ≤ vec_capacity visited.old }
+    ensures rows { rows.new.items ≡ map (λ r. (visit_of R.slots (T.visit visit.now) states.now r).row) rows.old.items }
+    ensures visited { visited.new.items ≡ map (λ r. momenta_of (visit_of R.slots (T.visit visit.now) states.now r).ends) rows.old.items }
     ensures on { AreRowsOn R.slots R.is_row (length states.now) rows.new.items }
-    ensures within { All IsPairWithin turned.new.items }
+    ensures within { All IsPairWithin visited.new.items }
     ensures long { vec_len rows.new ≡ vec_len rows.old }
     ensures rows_room { vec_capacity rows.new ≡ vec_capacity rows.old }
-    ensures turned_room { vec_capacity turned.new ≡ vec_capacity turned.old }
+    ensures visited_room { vec_capacity visited.new ≡ vec_capacity visited.old }
 {
-    turned.clear();
+    visited.clear();
     for index in 0..rows.len() {
-        let pair = turn_one(states, &mut rows[index], turn);
-        turned.push_reserved(pair);
+        let pair = visit_one(states, &mut rows[index], visit);
+        visited.push_reserved(pair);
     }
 }
 
@@ -174,12 +179,12 @@ impl<R: Row> Piece<R> {
         ensures bodies { IfOk result (λ p. p.bodies ≡ bodies) }
         ensures memory_only { IsOkUnless result Refusal.NoMemory }
     {
-        let turned = Vec::with_capacity(alloc, rows.len())?;
+        let visited = Vec::with_capacity(alloc, rows.len())?;
         let rows = Vec::from_slice(alloc, rows)?;
         Ok(Piece {
             bodies,
             rows,
-            turned,
+            visited,
         })
     }
 
@@ -192,19 +197,19 @@ impl<R: Row> Piece<R> {
     }
 
     /// The momenta of the bodies of each row after its turn.
-    pub fn turned(&self) -> &[MomentaPair]
-        ensures turned { result.now ≡ self.now.turned }
+    pub fn visited(&self) -> &[MomentaPair]
+        ensures visited { result.now ≡ self.now.visited }
         ensures within { All IsPairWithin result.now }
     {
-        self.turned.as_slice()
+        self.visited.as_slice()
     }
 
     /// The turns of its rows, each with the bodies as they are before all of them.
-    pub fn turn_all<T: Turn<R>>(&mut self, states: &[BodyState], turn: &T)
+    pub fn visit_all<T: Visit<R>>(&mut self, states: &[BodyState], visit: &T)
         requires states { AreAllStates states.now }
         requires bodies { self.old.bodies ≡ length states.now }
-        ensures { self.new ≡ worked R.slots (T.turn turn.now) states.now self.old }
+        ensures { self.new ≡ worked R.slots (T.visit visit.now) states.now self.old }
     {
-        turn_rows(states, &mut self.rows, &mut self.turned, turn);
+        visit_rows(states, &mut self.rows, &mut self.visited, visit);
     }
 }

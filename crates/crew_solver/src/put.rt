@@ -4,8 +4,8 @@ ghost use Rattle.std.specs.Prelude.{◌≡◌, ◌≢◌, ◌^◌, ◌<◌, All,
 ghost use Rattle.fixed_geom.specs.Vectors.{IsWithin, plus};
 ghost use Rattle.momenta.specs.Gains.{IsGain};
 ghost use Rattle.colour_solver.specs.States.{as_vector};
-ghost use Rattle.colour_solver.specs.Turns.{AreRowsOn, ends_of, got};
-ghost use Rattle.crew_solver.specs.Turned.{AreWithin, IsPairWithin, IsSmallSoFar, ends_with, given_all, put_all, put_at, rows_in, turned_in, with_momenta};
+ghost use Rattle.colour_solver.specs.RowVisits.{AreRowsOn, ends_of, got};
+ghost use Rattle.crew_solver.specs.Visited.{AreWithin, IsPairWithin, IsSmallSoFar, ends_with, given_all, put_all, put_at, rows_in, visited_in, with_momenta};
 
 use crate::{MomentaPair, Piece};
 use colour_solver::{Row, Slots};
@@ -69,22 +69,22 @@ fn put_pair(states: &mut Vec<BodyState>, slots: Slots, now: &MomentaPair) -> Gai
 fn put_rows<R: Row>(
     states: &mut Vec<BodyState>,
     rows: &[R],
-    turned: &[MomentaPair],
+    visited: &[MomentaPair],
     given: Gain,
 ) -> Gain
-    requires as_many { length turned.now ≡ length rows.now }
+    requires as_many { length visited.now ≡ length rows.now }
     requires on { AreRowsOn R.slots R.is_row (length states.old.items) rows.now }
     requires states { AreWithin states.old.items }
-    requires turned { All IsPairWithin turned.now }
-    requires small { IsSmallSoFar R.slots states.old.items (as_vector given) rows.now turned.now }
-    ensures states { states.new.items ≡ put_all R.slots states.old.items rows.now turned.now }
-    ensures given { as_vector result ≡ plus (as_vector given) (given_all R.slots states.old.items rows.now turned.now) }
+    requires visited { All IsPairWithin visited.now }
+    requires small { IsSmallSoFar R.slots states.old.items (as_vector given) rows.now visited.now }
+    ensures states { states.new.items ≡ put_all R.slots states.old.items rows.now visited.now }
+    ensures given { as_vector result ≡ plus (as_vector given) (given_all R.slots states.old.items rows.now visited.now) }
     ensures within { AreWithin states.new.items }
     ensures long { length states.new.items ≡ length states.old.items }
 {
     let mut given = given;
     for index in 0..rows.len() {
-        let got = put_pair(states, rows[index].slots(), &turned[index]);
+        let got = put_pair(states, rows[index].slots(), &visited[index]);
         given = plus(given, got);
     }
     given
@@ -96,18 +96,18 @@ pub(crate) fn put_pieces<R: Row>(
     pieces: &[Piece<R>],
     given: Gain,
 ) -> Gain
-    requires as_many { All (λ p. length p.turned ≡ length p.rows) pieces.now }
+    requires as_many { All (λ p. length p.visited ≡ length p.rows) pieces.now }
     requires bodies { All (λ p. p.bodies ≡ length states.old.items) pieces.now }
     requires states { AreWithin states.old.items }
-    requires small { IsSmallSoFar R.slots states.old.items (as_vector given) (rows_in pieces.now) (turned_in pieces.now) }
-    ensures states { states.new.items ≡ put_all R.slots states.old.items (rows_in pieces.now) (turned_in pieces.now) }
-    ensures given { as_vector result ≡ plus (as_vector given) (given_all R.slots states.old.items (rows_in pieces.now) (turned_in pieces.now)) }
+    requires small { IsSmallSoFar R.slots states.old.items (as_vector given) (rows_in pieces.now) (visited_in pieces.now) }
+    ensures states { states.new.items ≡ put_all R.slots states.old.items (rows_in pieces.now) (visited_in pieces.now) }
+    ensures given { as_vector result ≡ plus (as_vector given) (given_all R.slots states.old.items (rows_in pieces.now) (visited_in pieces.now)) }
     ensures long { length states.new.items ≡ length states.old.items }
 {
     match pieces.split_first() {
         None => given,
         Some((first, rest)) => {
-            let more = put_rows(states, first.rows(), first.turned(), given);
+            let more = put_rows(states, first.rows(), first.visited(), given);
             put_pieces(states, rest, more)
         }
     }

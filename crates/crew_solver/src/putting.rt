@@ -3,9 +3,9 @@
 ghost use Rattle.std.specs.Prelude.{◌≡◌, length, map};
 ghost use Rattle.std.specs.List.{flat_map};
 ghost use Rattle.colour_solver.specs.ColourRows.{IsPlace, all_rows};
-ghost use Rattle.colour_solver.specs.ConstraintTurns.{is_joint};
+ghost use Rattle.colour_solver.specs.ConstraintVisits.{is_joint};
 ghost use Rattle.crew_solver.specs.Putting.{AreNext, IsPut, rows_before};
-ghost use Rattle.crew_solver.specs.Turned.{all_of, rows_in};
+ghost use Rattle.crew_solver.specs.Visited.{all_of, rows_in};
 
 use crate::{ColourPieces, CrewRows, Piece};
 use colour_solver::{ConstraintRow, RowPlace, Rows};
@@ -57,15 +57,15 @@ fn put_colours(rows: &mut Rows, colours: &[ColourPieces], place: RowPlace) -> Ro
 }
 
 /// Puts all rows back. They are of the same kinds.
-pub(crate) fn put_back(rows: &mut Rows, turned: &CrewRows)
-    requires kinds { map is_joint (all_of turned.now) ≡ map is_joint (all_rows rows.old) }
-    ensures rows { all_rows rows.new ≡ all_of turned.now }
+pub(crate) fn put_back(rows: &mut Rows, visited: &CrewRows)
+    requires kinds { map is_joint (all_of visited.now) ≡ map is_joint (all_rows rows.old) }
+    ensures rows { all_rows rows.new ≡ all_of visited.now }
     ensures counts { map length rows.new.colours ≡ map length rows.old.colours }
 {
     let first = RowPlace {
         joints: 0,
         contacts: 0,
     };
-    let next = put_colours(rows, turned.colours(), first);
-    let _ = put_rows(rows, turned.left(), next);
+    let next = put_colours(rows, visited.colours(), first);
+    let _ = put_rows(rows, visited.left(), next);
 }

@@ -2,13 +2,13 @@
 
 ghost use Rattle.std.specs.Prelude.{◌≡◌, IfErr, IfOk, OnErr, OnOk};
 ghost use Rattle.colour_solver.specs.ColourRows.{all_rows};
-ghost use Rattle.colour_solver.specs.ConstraintTurns.{AreRowsBelow};
+ghost use Rattle.colour_solver.specs.ConstraintVisits.{AreRowsBelow};
 ghost use Rattle.crew.specs.Refusals.{IsStartRefusal};
-ghost use Rattle.crew_solver.specs.Turned.{coloured};
+ghost use Rattle.crew_solver.specs.Visited.{coloured};
 
 use crate::cutting::cut_rows;
 use crate::putting::put_back;
-use crate::{CrewRows, Turning};
+use crate::{CrewRows, Visiting};
 use colour_solver::{
     ConstraintRow, Passes, Phase, Rows, StepSolver, StepSums, run_step, run_ticks,
 };
@@ -28,7 +28,7 @@ pub struct StepCrew<'s, R, G: Gate> {
     rt: &'s R,
     alloc: Global,
     workers: usize,
-    crew: Crew<'s, G, Turning<ConstraintRow, Phase>>,
+    crew: Crew<'s, G, Visiting<ConstraintRow, Phase>>,
     rows: CrewRows,
 }
 

@@ -1,9 +1,9 @@
 -- Lists that are written into a caller's array.
 use Rattle.std.specs.Prelude.{ℕ, zero, suc, ◌++◌, ◌/◌, ◌%◌, ◌^◌, Bool, true, cond, List, [], ◌∷◌, length, map, Option, Some, None, ℤ, pos}
 use Rattle.std.specs.Int.{cast_signed, cast_unsigned, w64, w128}
-use Rattle.body_handles.specs.Places.{generation_at}
+use Rattle.body_handles.specs.SlotEntries.{generation_at}
 use Rattle.body_handles.specs.declared.handle.Handle.{Handle}
-use Rattle.body_handles.specs.declared.places.Place.{Place}
+use Rattle.body_handles.specs.declared.slot_table.SlotEntry.{SlotEntry}
 use Rattle.contacts_base.specs.declared.contact.ContactEntry.{ContactEntry}
 use Rattle.contacts_base.specs.declared.contact.ContactPoint.{ContactPoint}
 use Rattle.contacts_base.specs.declared.key.ContactKey.{ContactKey}
@@ -67,12 +67,12 @@ pose_asked moving slot generation None = None
 pose_asked moving slot generation (Some b) = pose_if (is_asked moving b) (pose_shown slot generation b)
 
 -- of the bodies in the slots below n: all, or those that a step may move
-abbrev pub poses_up : Bool → List Place → List (Option Body) → ℕ → List CPose
-poses_up moving places bodies zero = []
-poses_up moving places bodies (suc n) = poses_up moving places bodies n ++ list_of (pose_asked moving n (generation_at places n) (body_at bodies n))
+abbrev pub poses_up : Bool → List SlotEntry → List (Option Body) → ℕ → List CPose
+poses_up moving slot_entries bodies zero = []
+poses_up moving slot_entries bodies (suc n) = poses_up moving slot_entries bodies n ++ list_of (pose_asked moving n (generation_at slot_entries n) (body_at bodies n))
 
 abbrev pub poses_of : Bool → Plain → List CPose
-poses_of moving w = poses_up moving w.places w.bodies (length w.bodies)
+poses_of moving w = poses_up moving w.slot_entries w.bodies (length w.bodies)
 
 abbrev pub poses_in : Bool → Option Desk → List CPose
 poses_in moving None = []

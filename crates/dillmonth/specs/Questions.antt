@@ -10,7 +10,7 @@ use Rattle.shape_rays.specs.declared.hits.Hit.{Hit}
 use Rattle.shapes.specs.Rays.{IsBeam, beam_of}
 use Rattle.world_desk.specs.declared.desk.Desk.{Desk}
 use Rattle.world_queries.specs.Limits.{is_region}
-use Rattle.world_queries.specs.Placed.{placed_shapes}
+use Rattle.world_queries.specs.Posed.{posed_shapes}
 use Rattle.world_rules.specs.World.{World}
 
 abbrev pub hit_shown : Option Hit → CHit
@@ -19,7 +19,7 @@ hit_shown (Some h) = record { is_hit = 1; fraction = h.fraction; shape = id_show
 
 -- the ray's first hit on all shapes is written; or the ray is beyond its limits, and nothing is written
 abbrev pub Hits : World → Vec2 → Vec2 → ℕ → CHit → CHit → Type 0
-Hits w from along status before after = (IsBeam (beam_of from along) × (status ≡ 0) × (after ≡ hit_shown (first_hit (beam_of from along) (placed_shapes w.plain.bodies))))
+Hits w from along status before after = (IsBeam (beam_of from along) × (status ≡ 0) × (after ≡ hit_shown (first_hit (beam_of from along) (posed_shapes w.plain.bodies))))
     ⊎ ((¬ IsBeam (beam_of from along)) × (status ≡ 5) × (after ≡ before))
 
 abbrev pub HitsIn : Option Desk → Vec2 → Vec2 → ℕ → CHit → CHit → Type 0
@@ -29,7 +29,7 @@ HitsIn (Some desk) from along status before after = Hits desk.world from along s
 -- the shapes over the region are kept and counted, and the world is as it was; or nothing has changed, and the region is beyond its limits or memory was wanting
 abbrev pub FindsAt : Box2 → Desk → ℕ → ℕ → ℕ → Desk → Type 0
 FindsAt bounds old status before after new =
-    ((status ≡ 0) × (is_region bounds ≡ true) × (new.world ≡ old.world) × (new.found.items ≡ region bounds (placed_shapes old.world.plain.bodies)) × (after ≡ length new.found.items))
+    ((status ≡ 0) × (is_region bounds ≡ true) × (new.world ≡ old.world) × (new.found.items ≡ region bounds (posed_shapes old.world.plain.bodies)) × (after ≡ length new.found.items))
     ⊎ ((((is_region bounds ≡ false) × (status ≡ 5)) ⊎ ((is_region bounds ≡ true) × (status ≡ 1))) × (after ≡ before) × (new ≡ old))
 
 abbrev pub Finds : Box2 → Option Desk → ℕ → ℕ → ℕ → Option Desk → Type 0

@@ -11,7 +11,7 @@ use crate::forms::{CFacing, CHandle, CPair, CPose, CVector, CView, handle_of, sh
 use crate::held::{CWorld, put, take};
 use crate::shown::write_all;
 use crate::statuses::{DONE, NO_WORLD};
-use body_handles::Place;
+use body_handles::SlotEntry;
 use plain_world::{Body, BodyView, NO_COURSE, SetName};
 use std::alloc::Global;
 use world_core::WorldCore;
@@ -78,14 +78,24 @@ fn pose_asked(moving: bool, slot: u32, generation: u32, entry: &Option<Body>) ->
 }
 
 /// Writes the poses of the bodies by slot, as many as fit, and tells how many there are.
-fn write_poses(moving: bool, places: &[Place], bodies: &[Option<Body>], out: &mut [CPose]) -> usize
-    requires { AreMatched places.now bodies.now }
-    ensures count { result ≡ length (poses_up moving places.now bodies.now (length bodies.now)) }
-    ensures written { out.new ≡ written (poses_up moving places.now bodies.now (length bodies.now)) out.old }
+fn write_poses(
+    moving: bool,
+    slot_entries: &[SlotEntry],
+    bodies: &[Option<Body>],
+    out: &mut [CPose],
+) -> usize
+    requires { AreMatched slot_entries.now bodies.now }
+    ensures count { result ≡ length (poses_up moving slot_entries.now bodies.now (length bodies.now)) }
+    ensures written { out.new ≡ written (poses_up moving slot_entries.now bodies.now (length bodies.now)) out.old }
 {
     let mut count = 0;
     for slot in 0..bodies.len() {
-        let pose = pose_asked(moving, slot as u32, places[slot].generation, &bodies[slot]);
+        let pose = pose_asked(
+            moving,
+            slot as u32,
+            slot_entries[slot].generation,
+            &bodies[slot],
+        );
         count = write_next(out, count, pose);
     }
     count
@@ -96,7 +106,7 @@ fn write_poses_of(world: &WorldCore, moving: bool, out: &mut [CPose]) -> usize
     ensures count { result ≡ length (poses_of moving world.now.plain) }
     ensures written { out.new ≡ written (poses_of moving world.now.plain) out.old }
 {
-    write_poses(moving, world.places(), world.bodies(), out)
+    write_poses(moving, world.slot_entries(), world.bodies(), out)
 }
 
 /// The poses of all bodies, by slot.

@@ -1,14 +1,13 @@
 -- Bits of words that are joined, and tests as bits.
-use Rattle.std.proofs.Common.{◌≡◌, ◌≢◌, ℕ, ◌-◌, ◌*◌, ◌%◌, ◌^◌, ◌<◌, ◌≤◌, Bool, true, false, not, cond, ◌==◌, ◌||◌, ◌&&◌, min, max, w32, refl, ◌∙◌, sym, inl, inr, arith}
+use Rattle.std.proofs.Common.{◌≡◌, ◌≢◌, ℕ, ◌+◌, ◌-◌, ◌*◌, ◌/◌, ◌%◌, ◌^◌, ◌<◌, ◌≤◌, Bool, true, false, not, cond, ◌||◌, ◌&&◌, min, max, w32, refl, ◌∙◌, sym, ap, inl, inr, arith, div-le_self}
 use Rattle.std.specs.Prelude.{bit_and, bit_or}
 use Rattle.std.specs.Int.{bit_at, bit_not, trailing_zeros}
+use Rattle.std.specs.Int.Count.{trailing_of_zero}
 use Rattle.std.proofs.lemmas.Bool.{cases_lt}
-use Rattle.std.proofs.lemmas.Nat.{or_lt, le_or_r}
-use Rattle.std.proofs.lemmas.Nat.Bits.{bit_at_and, bit_at_or, bit_at_not, bit_at-pow_same, bit_at-pow_other, bit_at-lt, bit_at_above, bit_at_clear_other, bit_at-trailing_zeros}
+use Rattle.std.proofs.lemmas.Nat.{or_lt, le_or_r, shr-shr}
+use Rattle.std.proofs.lemmas.Nat.Bits.{bit_at_and, bit_at_or, bit_at_not, bit_at-pow_same, bit_at-pow_other, bit_at-lt, bit_at_above, bit_at_clear_other, bit_at-trailing_zeros, bit_at-zero}
 use Rattle.graph_colours.specs.declared.limits.TheConstants.{COLOURS}
-use Rattle.graph_colours.specs.Marks.{bit_of}
-use Rattle.graph_colours.proofs.Cases.{true_or_false}
-use Rattle.graph_colours.proofs.PlaceLemmas.{is_same}
+use Rattle.graph_colours.specs.TakenColours.{bit_of}
 
 pub bit_true : (t : Bool) → bit_of t ≡ 1 → t ≡ true
 bit_true true h = refl
@@ -46,13 +45,6 @@ overflow_set a h =
     let none : bit_at (2 ^ COLOURS) COLOURS ≡ 0 = (neither_set a (2 ^ COLOURS) COLOURS h).1 in
     let one : bit_at (2 ^ COLOURS) COLOURS ≡ 1 = bit_at-pow_same COLOURS in
     omega (arith, none, one)
-
--- a test of a bit that fails
-pub not_set : (n i : ℕ) → (bit_at n i == 1) ≡ false → bit_at n i ≡ 0
-not_set n i h =
-    let two : bit_at n i < 2 = bit_at-lt n i in
-    let off : bit_at n i ≡ 1 → ⊥ = λ q. true_or_false (bit_at n i == 1) (is_same (bit_at n i) 1 q) h in
-    omega (arith, two, off)
 
 -- a bit taken away changes no other
 pub clear_other : (n k : ℕ) → k < 32 → n < 2 ^ 32 → (i : ℕ) → i ≢ k → bit_at (bit_and n (bit_not w32 (1 * 2 ^ k % 2 ^ 32))) i ≡ bit_at n i
@@ -101,4 +93,53 @@ first_clear n small =
           let is : bit_at m c ≡ max (1 - bit_at n c) (bit_at (2 ^ COLOURS) c) = or_overflow n c small lt in
           let two : bit_at n c < 2 = bit_at-lt n c in
           omega (arith, one, is, pow, two);
+    }
+
+-- ---- bits from one on
+
+-- the bits of a word that is moved down are those from there on
+bit_at_shifted : (n k i : ℕ) → bit_at (n / 2 ^ k) i ≡ bit_at n (k + i)
+bit_at_shifted n k i = ap (λ x. x % 2) (shr-shr n k i)
+
+-- how many bits of a word are clear before the first that is set; 32 or more where none is
+record IsCount (m t : ℕ) : Type 0 where
+  pub set : t < 32 → bit_at m t ≡ 1
+  pub clear : (i : ℕ) → i < t → bit_at m i ≡ 0
+
+count_none : (m : ℕ) → m ≡ 0 → IsCount m (trailing_zeros w32 m)
+count_none m is = record {
+  set = λ lt. let all : trailing_zeros w32 m ≡ 32 = ap (trailing_zeros w32) is ∙ trailing_of_zero 32 in absurd (omega (arith, all, lt));
+  clear = λ i lt. ap (λ w. bit_at w i) is ∙ bit_at-zero i;
+}
+
+count_some : (m : ℕ) → 0 < m → m < 2 ^ 32 → IsCount m (trailing_zeros w32 m)
+count_some m some small =
+    let low = bit_at-trailing_zeros w32 m some small in
+    record {
+      set = λ lt. low.1;
+      clear = low.2;
+    }
+
+count_is : (m : ℕ) → m < 2 ^ 32 → IsCount m (trailing_zeros w32 m)
+count_is m small = elim (cases_lt 0 m) [ inl some ↦ count_some m some small | inr none ↦ count_none m (omega (arith, none)) ]
+
+-- the first bit that is set from a number on; 32 or more where none is
+pub record IsNextSet (n from c : ℕ) : Type 0 where
+  pub ahead : from ≤ c
+  pub set : c < 32 → bit_at n c ≡ 1
+  pub skipped : (k : ℕ) → from ≤ k → k < c → bit_at n k ≡ 0
+
+pub next_set : (n from : ℕ) → n < 2 ^ 32 → IsNextSet n from (from + trailing_zeros w32 (n / 2 ^ from))
+next_set n from small =
+    let m : ℕ = n / 2 ^ from in
+    let low : m ≤ n = div-le_self n (2 ^ from) in
+    let count = count_is m (omega (arith, low, small)) in
+    let t : ℕ = trailing_zeros w32 m in
+    record {
+      ahead = omega arith;
+      set = λ lt. let less : t < 32 = omega (arith, lt) in sym (bit_at_shifted n from t) ∙ count.set less;
+      skipped = λ k le lt.
+          let at : k ≡ from + (k - from) = omega (arith, le) in
+          let less : k - from < t = omega (arith, le, lt) in
+          ap (bit_at n) at ∙ sym (bit_at_shifted n from (k - from)) ∙ count.clear (k - from) less;
     }

@@ -11,8 +11,9 @@ use Rattle.std.proofs.lemmas.List.Sorted.{IsPermutation-trans, IsPermutation-app
 use Rattle.graph_colours.specs.declared.limits.TheConstants.{COLOURS}
 use Rattle.graph_colours.specs.declared.member.Movers.{Movers}
 use Rattle.graph_colours.specs.declared.member.Member.{Member}
-use Rattle.graph_colours.specs.Members.{AreRising, AreApart, is_free, has_id, inserted, without_member}
-use Rattle.graph_colours.specs.Colours.{list_at, all_members, least_colour, with_placed, released, colour_of, IsColouring}
+use Rattle.graph_colours.specs.Members.{AreRising, AreApart, is_free, inserted, without_member}
+use Rattle.graph_colours.specs.FoundMembers.{has_id, colour_of}
+use Rattle.graph_colours.specs.Colours.{list_at, all_members, least_colour, with_placed, released, IsColouring}
 use Rattle.graph_colours.proofs.Cases.{by_test, or_left, or_right}
 use Rattle.graph_colours.proofs.PlaceLemmas.{is_same, not_same}
 use Rattle.graph_colours.proofs.ListLemmas.{moved_behind, same_inserted, rising_inserted, apart_inserted, rising_without, apart_without}

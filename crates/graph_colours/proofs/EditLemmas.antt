@@ -5,7 +5,8 @@ use Rattle.std.proofs.lemmas.List.{append_assoc, drop-drop, drop_more, length-dr
 use Rattle.std.proofs.lemmas.List.Elements.{All-nil, All-cons, All-head, All-tail}
 use Rattle.graph_colours.specs.declared.member.Member.{Member}
 use Rattle.graph_colours.specs.declared.edits.Edit.{Edit}
-use Rattle.graph_colours.specs.Members.{AreRising, inserted, without_member, is_at}
+use Rattle.graph_colours.specs.Members.{AreRising, inserted, without_member}
+use Rattle.graph_colours.specs.FoundMembers.{is_at}
 use Rattle.graph_colours.specs.Edits.{edit_number, put, added, edited, all_edited, AreInOrder, IsEdited}
 use Rattle.graph_colours.proofs.Cases.{by_test, true_or_false}
 use Rattle.graph_colours.proofs.PlaceLemmas.{is_lower, not_lower, is_same, not_same, same_from, without_none}
@@ -261,8 +262,8 @@ below_first {C} number (x ∷ es) e ms start lt is order below = λ k d low high
     All-cons (λ (f : Edit C). number (get_or ms k d).id < edit_number number f) x es first (λ j f less. let u : edit_number number x < edit_number number (get_or es j f) = up j f less in omega (arith, first, u))
 
 -- the edits were made
-pub settled_is : {C : Type 0} (number : C → ℕ) (es left : List (Edit C)) (ms now : List (Member C)) (capacity more : ℕ) → IsEdited number ms es capacity → capacity ≤ more → now ≡ all_edited number es ms → left ≡ [] → length now ≤ more → IsEdited number now left more
-settled_is {C} number es left ms now capacity more is le made none fits =
+pub flushed_is : {C : Type 0} (number : C → ℕ) (es left : List (Edit C)) (ms now : List (Member C)) (capacity more : ℕ) → IsEdited number ms es capacity → capacity ≤ more → now ≡ all_edited number es ms → left ≡ [] → length now ≤ more → IsEdited number now left more
+flushed_is {C} number es left ms now capacity more is le made none fits =
     let P : List (Member C) → Type 0 = λ l. AreRising number l in
     let short : length left ≡ 0 = ap (λ (l : List (Edit C)). length l) none in
     record {

@@ -8,7 +8,7 @@ use Rattle.std.proofs.lemmas.List.Folds.{list_any-append}
 use Rattle.graph_colours.specs.declared.member.Member.{Member}
 use Rattle.graph_colours.specs.Movers.{has_mover}
 use Rattle.graph_colours.specs.Edits.{Pended}
-use Rattle.graph_colours.specs.Marks.{bit_of, mark_at, any_has_mover, AreMarks, AreSet}
+use Rattle.graph_colours.specs.TakenColours.{bit_of, colour_bit, any_has_mover, AreTakenColours, AreSet}
 use Rattle.graph_colours.specs.Graph.{lists_of, HaveRoom, IsGraph}
 use Rattle.graph_colours.specs.Colours.{list_at, all_members, IsColouring}
 use Rattle.graph_colours.specs.Given.{AreAllBelow, members_of}
@@ -39,18 +39,18 @@ any_front {C} ms i m slot lt is =
     turned false true = refl
     turned false false = refl
 
-pub one_marked : {C : Type 0} (ms : List (Member C)) (i : ℕ) (m : Member C) (old new : List ℕ) (colour slot : ℕ) → i < length ms → m ≡ get_or ms i m → AreSet old new (has_mover m.movers) colour true → mark_at old slot colour ≡ bit_of (any_has_mover (take i ms) slot) → mark_at new slot colour ≡ bit_of (any_has_mover (take (i + 1) ms) slot)
-one_marked ms i m old new colour slot lt is set was =
+pub one_taken : {C : Type 0} (ms : List (Member C)) (i : ℕ) (m : Member C) (old new : List ℕ) (colour slot : ℕ) → i < length ms → m ≡ get_or ms i m → AreSet old new (has_mover m.movers) colour true → colour_bit old slot colour ≡ bit_of (any_has_mover (take i ms) slot) → colour_bit new slot colour ≡ bit_of (any_has_mover (take (i + 1) ms) slot)
+one_taken ms i m old new colour slot lt is set was =
     set.own slot ∙ ap (λ b. cond (has_mover m.movers slot) (bit_of true) b) was ∙ set_bit (has_mover m.movers slot) (any_has_mover (take i ms) slot) ∙ ap bit_of (sym (any_front ms i m slot lt is))
 
 -- the graph of lists that are given
-pub graph_given : {C : Type 0} (number : C → ℕ) (ks : List (Pended C)) (lists : List (List (Member C))) (words : List ℕ) (count slots : ℕ) → IsColouring number lists → lists_of ks ≡ lists → AreMarks lists words → length words ≡ slots → count ≡ length (all_members lists) → HaveRoom count ks → IsGraph number ks words (record { count = count; total = count; slots = slots })
-graph_given {C} number ks lists words count slots colouring same marks long size rooms =
+pub graph_given : {C : Type 0} (number : C → ℕ) (ks : List (Pended C)) (lists : List (List (Member C))) (words : List ℕ) (count slots : ℕ) → IsColouring number lists → lists_of ks ≡ lists → AreTakenColours lists words → length words ≡ slots → count ≡ length (all_members lists) → HaveRoom count ks → IsGraph number ks words (record { count = count; total = count; slots = slots })
+graph_given {C} number ks lists words count slots colouring same bits long size rooms =
     let P : List (List (Member C)) → Type 0 = λ l. IsColouring number l in
-    let Q : List (List (Member C)) → Type 0 = λ l. AreMarks l words in
+    let Q : List (List (Member C)) → Type 0 = λ l. AreTakenColours l words in
     record {
       colouring = subst P (sym same) colouring;
-      marks = subst Q (sym same) marks;
+      bits = subst Q (sym same) bits;
       members = size ∙ sym (ap (λ (ls : List (List (Member C))). length (all_members ls)) same);
       few = omega arith;
       rooms = rooms;

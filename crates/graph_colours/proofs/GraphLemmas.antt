@@ -9,12 +9,13 @@ use Rattle.graph_colours.specs.declared.limits.TheConstants.{COLOURS}
 use Rattle.graph_colours.specs.declared.member.Movers.{Movers}
 use Rattle.graph_colours.specs.declared.member.Member.{Member}
 use Rattle.graph_colours.specs.Movers.{AreBelow}
-use Rattle.graph_colours.specs.Members.{AreRising, AreApart, is_free, has_id, inserted}
+use Rattle.graph_colours.specs.Members.{AreRising, AreApart, is_free, inserted}
+use Rattle.graph_colours.specs.FoundMembers.{has_id, colour_of}
 use Rattle.graph_colours.specs.Edits.{Pended}
-use Rattle.graph_colours.specs.Marks.{word_at, AreMarks, taken}
+use Rattle.graph_colours.specs.TakenColours.{word_at, AreTakenColours, taken}
 use Rattle.graph_colours.specs.Graph.{lists_of, HaveRoom, IsGraph}
-use Rattle.graph_colours.specs.Colours.{list_at, all_members, least_colour, with_placed, released, colour_of, IsColouring}
-use Rattle.graph_colours.proofs.MarkLemmas.{is_taken, is_untaken, marks_same}
+use Rattle.graph_colours.specs.Colours.{list_at, all_members, least_colour, with_placed, released, IsColouring}
+use Rattle.graph_colours.proofs.TakenLemmas.{is_taken, is_untaken, bits_same}
 use Rattle.graph_colours.proofs.SearchLemmas.{position_none, position_some, found_in_map, none_passes}
 use Rattle.graph_colours.proofs.ColouringLemmas.{enough, placed_keeps, released_keeps}
 use Rattle.graph_colours.proofs.SizeLemmas.{placed_size, released_size}
@@ -24,10 +25,10 @@ use Rattle.graph_colours.proofs.OnceLemmas.{times}
 pub graph_same : {C : Type 0} (number : C → ℕ) (ks cs : List (Pended C)) (words more : List ℕ) (size other : Size) → IsGraph number ks words size → lists_of cs ≡ lists_of ks → ((slot : ℕ) → word_at more slot ≡ word_at words slot) → other.count ≡ size.count → other.count ≤ other.total → HaveRoom other.total cs → other.slots ≤ length more → IsGraph number cs more other
 graph_same {C} number ks cs words more size other graph same words_same count few rooms slots =
     let P : List (List (Member C)) → Type 0 = λ l. IsColouring number l in
-    let Q : List (List (Member C)) → Type 0 = λ l. AreMarks l more in
+    let Q : List (List (Member C)) → Type 0 = λ l. AreTakenColours l more in
     record {
       colouring = subst P (sym same) graph.colouring;
-      marks = subst Q (sym same) (marks_same (lists_of ks) words more graph.marks words_same);
+      bits = subst Q (sym same) (bits_same (lists_of ks) words more graph.bits words_same);
       members = count ∙ graph.members ∙ sym (ap (λ (ls : List (List (Member C))). length (all_members ls)) same);
       few = few;
       rooms = rooms;
@@ -50,17 +51,17 @@ below_words words slots v le below = below_by words slots v.first v.second le be
     below_by ws n first (Some s) enough is = let lt : first < n = is.first in let next : s < n = is.second in record { first = omega (arith, lt, enough); second = omega (arith, next, enough) }
 
 -- the first colour that no mover has is the least colour
-pub least_is : {C : Type 0} (lists : List (List (Member C))) (words : List ℕ) (v : Movers) (c : ℕ) → length lists ≡ COLOURS + 1 → AreMarks lists words → c ≤ COLOURS → ((k : ℕ) → k < c → bit_at (taken words v) k ≡ 1) → (c < COLOURS → bit_at (taken words v) c ≡ 0) → c ≡ least_colour lists v
+pub least_is : {C : Type 0} (lists : List (List (Member C))) (words : List ℕ) (v : Movers) (c : ℕ) → length lists ≡ COLOURS + 1 → AreTakenColours lists words → c ≤ COLOURS → ((k : ℕ) → k < c → bit_at (taken words v) k ≡ 1) → (c < COLOURS → bit_at (taken words v) c ≡ 0) → c ≡ least_colour lists v
 unfolding least_colour
-least_is {C} lists words v c n marks most before free =
+least_is {C} lists words v c n bits most before free =
     let p : List (Member C) → Bool = λ ms. is_free ms v in
     let len : length (take COLOURS lists) ≡ COLOURS = enough COLOURS lists (omega (arith, n)) in
     let not_before : (k : ℕ) → k < c → p (get_or (take COLOURS lists) k []) ≡ false = λ k lt.
     let below : k < COLOURS = omega (arith, lt, most) in
-    ap p (get_or-take COLOURS lists k [] below) ∙ is_taken lists words v k marks below (before k lt) in
+    ap p (get_or-take COLOURS lists k [] below) ∙ is_taken lists words v k bits below (before k lt) in
     let here : c < length (take COLOURS lists) → p (get_or (take COLOURS lists) c []) ≡ true = λ lt.
     let below : c < COLOURS = omega (arith, lt, len) in
-    ap p (get_or-take COLOURS lists c [] below) ∙ is_untaken lists words v c marks below (free below) in
+    ap p (get_or-take COLOURS lists c [] below) ∙ is_untaken lists words v c bits below (free below) in
     sym (position_or_len_is p (take COLOURS lists) c [] (omega (arith, most, len)) not_before here)
 
 -- where an id stands
@@ -108,14 +109,14 @@ placed_is {C} number m lists now place at is =
     subst P at is
 
 -- the graph once a constraint was placed
-pub graph_placed : {C : Type 0} (number : C → ℕ) (m : Member C) (ks cs : List (Pended C)) (words more : List ℕ) (size : Size) → IsGraph number ks words size → colour_of number m.id (lists_of ks) ≡ None → lists_of cs ≡ with_placed number m (lists_of ks) → AreMarks (lists_of cs) more → size.count < size.total → HaveRoom size.total cs → length more ≡ length words → IsGraph number cs more (record { count = size.count + 1; total = size.total; slots = size.slots })
-graph_placed {C} number m ks cs words more size graph absent is marks room rooms long =
+pub graph_placed : {C : Type 0} (number : C → ℕ) (m : Member C) (ks cs : List (Pended C)) (words more : List ℕ) (size : Size) → IsGraph number ks words size → colour_of number m.id (lists_of ks) ≡ None → lists_of cs ≡ with_placed number m (lists_of ks) → AreTakenColours (lists_of cs) more → size.count < size.total → HaveRoom size.total cs → length more ≡ length words → IsGraph number cs more (record { count = size.count + 1; total = size.total; slots = size.slots })
+graph_placed {C} number m ks cs words more size graph absent is bits room rooms long =
     let P : List (List (Member C)) → Type 0 = λ l. IsColouring number l in
     let one : length (all_members (with_placed number m (lists_of ks))) ≡ length (all_members (lists_of ks)) + 1 = placed_size number m (lists_of ks) graph.colouring in
     let now : length (all_members (lists_of cs)) ≡ length (all_members (with_placed number m (lists_of ks))) = ap (λ (ls : List (List (Member C))). length (all_members ls)) is in
     record {
       colouring = subst P (sym is) (placed_keeps number m (lists_of ks) graph.colouring absent);
-      marks = marks;
+      bits = bits;
       members = omega (arith, graph.members, one, now);
       few = omega (arith, room);
       rooms = rooms;
@@ -123,14 +124,14 @@ graph_placed {C} number m ks cs words more size graph absent is marks room rooms
     }
 
 -- the graph once a constraint was released
-pub graph_released : {C : Type 0} (number : C → ℕ) (id : C) (ks cs : List (Pended C)) (words more : List ℕ) (size other : Size) (gone : ℕ) → IsGraph number ks words size → lists_of cs ≡ released number id (lists_of ks) → AreMarks (lists_of cs) more → gone ≡ times number id (all_members (lists_of ks)) → other.count + gone ≡ size.count → other.total ≡ size.total → other.slots ≡ size.slots → HaveRoom other.total cs → length more ≡ length words → IsGraph number cs more other
-graph_released {C} number id ks cs words more size other gone graph is marks left count total slots rooms long =
+pub graph_released : {C : Type 0} (number : C → ℕ) (id : C) (ks cs : List (Pended C)) (words more : List ℕ) (size other : Size) (gone : ℕ) → IsGraph number ks words size → lists_of cs ≡ released number id (lists_of ks) → AreTakenColours (lists_of cs) more → gone ≡ times number id (all_members (lists_of ks)) → other.count + gone ≡ size.count → other.total ≡ size.total → other.slots ≡ size.slots → HaveRoom other.total cs → length more ≡ length words → IsGraph number cs more other
+graph_released {C} number id ks cs words more size other gone graph is bits left count total slots rooms long =
     let P : List (List (Member C)) → Type 0 = λ l. IsColouring number l in
     let fewer : length (all_members (released number id (lists_of ks))) + times number id (all_members (lists_of ks)) ≡ length (all_members (lists_of ks)) = released_size number id (lists_of ks) in
     let now : length (all_members (lists_of cs)) ≡ length (all_members (released number id (lists_of ks))) = ap (λ (ls : List (List (Member C))). length (all_members ls)) is in
     record {
       colouring = subst P (sym is) (released_keeps number id (lists_of ks) graph.colouring);
-      marks = marks;
+      bits = bits;
       members = omega (arith, graph.members, fewer, now, left, count);
       few = omega (arith, graph.few, count, total);
       rooms = rooms;
@@ -138,6 +139,6 @@ graph_released {C} number id ks cs words more size other gone graph is marks lef
     }
 
 -- no edit is put off where none may be
-pub settled_is : (settled : Bool) (pending : ℕ) → pending ≡ cond settled 0 1 → pending ≡ 0 → settled ≡ true
-settled_is true pending is none = refl
-settled_is false pending is none = absurd (omega (arith, is, none))
+pub flushed_is : (flushed : Bool) (pending : ℕ) → pending ≡ cond flushed 0 1 → pending ≡ 0 → flushed ≡ true
+flushed_is true pending is none = refl
+flushed_is false pending is none = absurd (omega (arith, is, none))

@@ -3,7 +3,7 @@ pub mod PlaceLemmas
 pub mod MoverLemmas
 pub mod ListLemmas
 pub mod BitLaws
-pub mod MarkLemmas
+pub mod TakenLemmas
 pub mod SearchLemmas
 pub mod StepLemmas
 pub mod OnceLemmas

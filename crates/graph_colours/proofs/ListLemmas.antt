@@ -7,7 +7,8 @@ use Rattle.std.proofs.lemmas.List.Kept.{AllPairs-cons, AllPairs-filter}
 use Rattle.std.proofs.lemmas.List.Sorted.{IsPermutation-refl, IsPermutation-cons, IsPermutation-trans}
 use Rattle.graph_colours.specs.declared.member.Member.{Member}
 use Rattle.graph_colours.specs.Movers.{shares}
-use Rattle.graph_colours.specs.Members.{AreRising, AreApart, is_free, has_id, inserted, without_member}
+use Rattle.graph_colours.specs.Members.{AreRising, AreApart, is_free, inserted, without_member}
+use Rattle.graph_colours.specs.FoundMembers.{has_id}
 use Rattle.graph_colours.proofs.Cases.{by_test, or_swaps, or_left, or_right, not_true}
 use Rattle.graph_colours.proofs.MoverLemmas.{shares_back}
 use Rattle.graph_colours.proofs.PlaceLemmas.{is_same}

@@ -10,7 +10,8 @@ use Rattle.std.proofs.lemmas.List.{get_or_default}
 use Rattle.graph_colours.specs.declared.member.Movers.{Movers}
 use Rattle.graph_colours.specs.declared.member.Member.{Member}
 use Rattle.graph_colours.specs.declared.edits.Edit.{Edit}
-use Rattle.graph_colours.specs.Members.{AreRising, has_id, inserted, without_member, movers_of, with_number}
+use Rattle.graph_colours.specs.Members.{AreRising, inserted, without_member}
+use Rattle.graph_colours.specs.FoundMembers.{has_id, movers_of, with_number}
 use Rattle.graph_colours.specs.Edits.{edit_number, put, edited, all_edited, edit_with, is_edit_at, noted, AreInOrder, IsEdited}
 use Rattle.graph_colours.proofs.Cases.{by_test, true_or_false, not_true, not_false}
 use Rattle.graph_colours.proofs.PlaceLemmas.{is_lower, not_lower, is_same, not_same, same_from, without_none, without_same}

@@ -3,7 +3,8 @@ use Rattle.std.proofs.Common.{◌≡◌, ℕ, zero, suc, ◌+◌, ◌<◌, ◌�
 use Rattle.std.specs.List.{list_any, count_by, sum_by}
 use Rattle.std.proofs.lemmas.List.Sums.{sum_by-append, sum_by-cons}
 use Rattle.graph_colours.specs.declared.member.Member.{Member}
-use Rattle.graph_colours.specs.Members.{has_id, without_member}
+use Rattle.graph_colours.specs.Members.{without_member}
+use Rattle.graph_colours.specs.FoundMembers.{has_id}
 use Rattle.graph_colours.specs.Colours.{list_at, all_members, released}
 use Rattle.graph_colours.proofs.Cases.{true_or_false, not_true_then}
 use Rattle.graph_colours.proofs.PlaceLemmas.{without_same}

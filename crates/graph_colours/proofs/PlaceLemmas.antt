@@ -8,7 +8,8 @@ use Rattle.std.proofs.lemmas.Bool.Decides.{nat_tests}
 use Rattle.std.proofs.lemmas.List.Folds.{list_any_none}
 use Rattle.graph_colours.specs.declared.member.Movers.{Movers}
 use Rattle.graph_colours.specs.declared.member.Member.{Member}
-use Rattle.graph_colours.specs.Members.{AreRising, has_id, inserted, without_member, movers_of}
+use Rattle.graph_colours.specs.Members.{AreRising, inserted, without_member}
+use Rattle.graph_colours.specs.FoundMembers.{has_id, movers_of}
 use Rattle.graph_colours.proofs.Cases.{by_test, or_left, or_right}
 
 pub not_before : {C : Type 0} (number : C → ℕ) (ms : List (Member C)) → AreRising number ms → IsNonDecreasingBy (λ m. number m.id) ms

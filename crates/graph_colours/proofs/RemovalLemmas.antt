@@ -5,7 +5,8 @@ use Rattle.std.proofs.lemmas.List.{drop-drop}
 use lib.Seq.{paste, drop-paste}
 use Rattle.graph_colours.specs.declared.member.Member.{Member}
 use Rattle.graph_colours.specs.declared.edits.Edit.{Edit}
-use Rattle.graph_colours.specs.Members.{AreRising, is_at}
+use Rattle.graph_colours.specs.Members.{AreRising}
+use Rattle.graph_colours.specs.FoundMembers.{is_at}
 use Rattle.graph_colours.specs.declared.removals.Gap.{Gap}
 use Rattle.graph_colours.specs.Edits.{edit_number, all_edited, AreInOrder}
 use Rattle.graph_colours.specs.Gaps.{closed}

@@ -3,7 +3,8 @@ use Rattle.std.proofs.Common.{◌≡◌, ◌≢◌, ℕ, ◌+◌, ◌<◌, ◌�
 use Rattle.std.specs.List.{All, list_any, position, position_or_len}
 use Rattle.std.proofs.lemmas.List.Sums.{fails_before_first, passes_at_first}
 use Rattle.graph_colours.specs.declared.member.Member.{Member}
-use Rattle.graph_colours.specs.Members.{has_id, inserted, without_member}
+use Rattle.graph_colours.specs.Members.{inserted, without_member}
+use Rattle.graph_colours.specs.FoundMembers.{has_id}
 use Rattle.graph_colours.proofs.Cases.{by_test, not_true, true_or_false, not_false, not_true_then}
 use Rattle.graph_colours.proofs.PlaceLemmas.{is_lower, not_lower, same_from}
 use Rattle.graph_colours.proofs.ListLemmas.{any_inserted}

@@ -1,10 +1,10 @@
 -- The colours of the active constraints: a list for each, in none of which two share a mover, and after them the overflow.
-use Rattle.std.specs.Prelude.{◌≡◌, ℕ, ◌≤◌, ◌+◌, ◌==◌, List, [], length, map, take, slice_index_or, slice_set, All, Option}
-use Rattle.std.specs.List.{flat_map, count_by, position, position_or_len}
+use Rattle.std.specs.Prelude.{◌≡◌, ℕ, ◌≤◌, ◌+◌, ◌==◌, List, [], length, map, take, slice_index_or, slice_set, All}
+use Rattle.std.specs.List.{flat_map, count_by, position_or_len}
 use Rattle.graph_colours.specs.declared.limits.TheConstants.{COLOURS}
 use Rattle.graph_colours.specs.declared.member.Movers.{Movers}
 use Rattle.graph_colours.specs.declared.member.Member.{Member}
-use Rattle.graph_colours.specs.Members.{AreRising, AreApart, is_free, has_id, inserted, without_member}
+use Rattle.graph_colours.specs.Members.{AreRising, AreApart, is_free, inserted, without_member}
 
 -- what contracts see: the members of each colour once all edits are made, how many more constraints may be placed with no memory, the bound
 -- below which their movers' slots must be, and whether edits are put off: if it is 0, none
@@ -36,10 +36,6 @@ with_placed number m lists = let colour = least_colour lists m.movers in slice_s
 -- the constraint is taken out of its colour
 unfoldable pub released : {C : Type 0} → (C → ℕ) → C → List (List (Member C)) → List (List (Member C))
 released number id lists = map (without_member number id) lists
-
--- the colour of the constraint
-unfoldable pub colour_of : {C : Type 0} → (C → ℕ) → C → List (List (Member C)) → Option ℕ
-colour_of number id lists = position (has_id number id) lists
 
 -- what every colouring keeps: a list for each colour and one for the overflow; each ascends, no two of one colour share a mover, and no id stands twice
 pub record IsColouring {C : Type 0} (number : C → ℕ) (lists : List (List (Member C))) : Type 0 where

@@ -1,9 +1,10 @@
 pub mod Movers
+pub mod FoundMembers
 pub mod Members
 pub mod Colours
 pub mod Edits
 pub mod Gaps
-pub mod Marks
+pub mod TakenColours
 pub mod Graph
 pub mod Given
 pub mod Own

@@ -1,5 +1,5 @@
 -- The members of one colour: constraints that ascend by the numbers of their ids.
-use Rattle.std.specs.Prelude.{◌≡◌, ℕ, ◌<◌, ◌==◌, Bool, false, not, cond, nat_lt, List, [], ◌∷◌, Option, Some, None}
+use Rattle.std.specs.Prelude.{◌≡◌, ℕ, ◌<◌, ◌==◌, Bool, false, not, cond, nat_lt, List, [], ◌∷◌}
 use Rattle.std.specs.List.{AllPairs, filter, list_any}
 use Rattle.graph_colours.specs.declared.member.Movers.{Movers}
 use Rattle.graph_colours.specs.declared.member.Member.{Member}
@@ -17,10 +17,6 @@ AreApart ms = AllPairs (λ m later. shares m.movers later.movers ≡ false) ms
 unfoldable pub is_free : {C : Type 0} → List (Member C) → Movers → Bool
 is_free ms movers = not (list_any (λ m. shares m.movers movers) ms)
 
--- a member has the id
-unfoldable pub has_id : {C : Type 0} → (C → ℕ) → C → List (Member C) → Bool
-has_id number id ms = list_any (λ m. number m.id == number id) ms
-
 -- with one more member, which stands before the first whose number isn't lower
 abbrev pub inserted : {C : Type 0} → (C → ℕ) → Member C → List (Member C) → List (Member C)
 inserted number m [] = m ∷ []
@@ -29,18 +25,3 @@ inserted number m (x ∷ xs) = cond (nat_lt (number x.id) (number m.id)) (x ∷ 
 -- without the member that has the id
 unfoldable pub without_member : {C : Type 0} → (C → ℕ) → C → List (Member C) → List (Member C)
 without_member number id ms = filter (λ m. not (number m.id == number id)) ms
-
--- the movers of the member that has the id
-abbrev pub movers_of : {C : Type 0} → (C → ℕ) → C → List (Member C) → Option Movers
-movers_of number id [] = None
-movers_of number id (x ∷ xs) = cond (number x.id == number id) (Some x.movers) (movers_of number id xs)
-
--- the member whose id has the number
-abbrev pub with_number : {C : Type 0} → (C → ℕ) → ℕ → List (Member C) → Option (Member C)
-with_number number n [] = None
-with_number number n (x ∷ xs) = cond (number x.id == n) (Some x) (with_number number n xs)
-
--- the first member has the number
-abbrev pub is_at : {C : Type 0} → (C → ℕ) → ℕ → List (Member C) → Bool
-is_at number n [] = false
-is_at number n (x ∷ xs) = number x.id == n

@@ -10,12 +10,13 @@ ghost use Rattle.graph_colours.specs.Movers.{AreBelow};
 ghost use Rattle.graph_colours.specs.Members.{AreRising, AreApart, without_member};
 ghost use Rattle.graph_colours.specs.Graph.{lists_of, IsGraph};
 ghost use Rattle.graph_colours.specs.Own.{AreOwn};
-ghost use Rattle.graph_colours.specs.Colours.{list_at, all_members, least_colour, with_placed, released, colour_of, IsColouring};
+ghost use Rattle.graph_colours.specs.Colours.{list_at, all_members, least_colour, with_placed, released, IsColouring};
+ghost use Rattle.graph_colours.specs.FoundMembers.{colour_of};
 
 use crate::edited::EditedList;
 use crate::limits::OVERFLOW;
 use crate::lists::{copies, first_with, flush_all, no_lists, remove_from_first, reserve_all};
-use crate::marks::{first_free, grow, set_marks};
+use crate::taken_colours::{first_free, grow, set_colour_bits};
 use crate::{Id, Member, Movers};
 use fixed_geom::Refusal;
 use std::alloc::Global;
@@ -35,7 +36,7 @@ pub struct Colours<C: Id> {
     spare: Vec<Member<C>>,
     size: Size,
     // Whether no edit of a list is put off.
-    settled: bool,
+    flushed: bool,
 }
 
 /// How many constraints there are, for how many in all each list has room, and the bound below which their movers' slots are.
@@ -53,9 +54,9 @@ impl<C: Id> Model for Colours<C> {
 
     ghost Value = { Coloured C };
 
-    ghost view = { λ a. record { lists = lists_of a.lists.items; room = a.size.total - a.size.count; slots = a.size.slots; pending = cond a.settled 0 1 } };
+    ghost view = { λ a. record { lists = lists_of a.lists.items; room = a.size.total - a.size.count; slots = a.size.slots; pending = cond a.flushed 0 1 } };
 
-    ghost invariant = { λ a. IsKeptGraph C.number a.lists.items a.words.items a.size a.settled };
+    ghost invariant = { λ a. IsKeptGraph C.number a.lists.items a.words.items a.size a.flushed };
 }
 
 /// The constraint takes the least colour that is free, and answers its place.
@@ -77,7 +78,7 @@ fn place_in<C: Id>(
 {
     let colour = first_free(words, member.movers);
     lists[colour].insert(member, spare);
-    set_marks(words, colour, member.movers, true);
+    set_colour_bits(words, colour, member.movers, true);
     colour
 }
 
@@ -122,7 +123,7 @@ impl<C: Id> Colours<C> {
                 total: 0,
                 slots: 0,
             },
-            settled: true,
+            flushed: true,
         })
     }
 
@@ -146,7 +147,7 @@ impl<C: Id> Colours<C> {
                 total: self.size.count,
                 slots: 0,
             },
-            settled: true,
+            flushed: true,
         })
     }
 
@@ -198,7 +199,7 @@ impl<C: Id> Colours<C> {
         ensures others { (other : C) → C.number other ≢ C.number id → colour_of C.number other self.new.lists ≡ colour_of C.number other self.old.lists }
         ensures members { IsPermutation (record { id = id; movers = movers } ∷ all_members self.old.lists) (all_members self.new.lists) }
     {
-        self.settled = false;
+        self.flushed = false;
         let colour = place_in(
             &mut self.lists,
             &mut self.words,
@@ -222,7 +223,7 @@ impl<C: Id> Colours<C> {
         ensures others { (other : C) → C.number other ≢ C.number id → colour_of C.number other self.new.lists ≡ colour_of C.number other self.old.lists }
         ensures members { all_members self.new.lists ≡ without_member C.number id (all_members self.old.lists) }
     {
-        self.settled = false;
+        self.flushed = false;
         self.size = release_in(
             &mut self.lists,
             &mut self.words,
@@ -240,7 +241,7 @@ impl<C: Id> Colours<C> {
         ensures total { self.new.room + length (all_members self.new.lists) ≡ self.old.room + length (all_members self.old.lists) }
         ensures slots { self.new.slots ≡ self.old.slots }
     {
-        self.settled = false;
+        self.flushed = false;
         self.size = release_in(
             &mut self.lists,
             &mut self.words,
@@ -258,11 +259,11 @@ impl<C: Id> Colours<C> {
         ensures slots { self.new.slots ≡ self.old.slots }
         ensures pending { self.new.pending ≡ 0 }
     {
-        if self.settled {
+        if self.flushed {
             return;
         }
         flush_all(&mut self.lists, &mut self.spare);
-        self.settled = true;
+        self.flushed = true;
     }
 
     /// What every colouring keeps: a law.
@@ -290,12 +291,13 @@ impl<C: Id> Colours<C> {
         ensures value { IfOk result (λ members. members.items ≡ list_at self.now.lists colour) }
         ensures memory_only { IsOkUnless result Refusal.NoMemory }
     {
-        self.lists[colour as usize].to_members(*self.spare.allocator())
+        let room = Vec::new(*self.spare.allocator());
+        self.lists[colour as usize].to_members(room)
     }
 
     /// The members of a colour, 0 to `OVERFLOW`, ascending by id, where no edit is put off.
     pub fn members(&self, colour: u8) -> &[Member<C>]
-        requires settled { self.now.pending ≡ 0 }
+        requires flushed { self.now.pending ≡ 0 }
         requires colour { colour ≤ OVERFLOW }
         ensures value { result.now ≡ list_at self.now.lists colour }
         ensures rising { AreRising C.number result.now }

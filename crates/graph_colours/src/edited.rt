@@ -3,7 +3,8 @@
 ghost use Rattle.std.specs.Prelude.{◌≡◌, ◌<◌, ◌≤◌, ◌+◌, [], true, false, drop, length, vec_len, vec_capacity, IfOk, OnOk};
 ghost use Rattle.std.specs.List.{AllWithin};
 ghost use Rattle.std.specs.Result.{IsOkUnless};
-ghost use Rattle.graph_colours.specs.Members.{AreRising, has_id, inserted, without_member, movers_of, with_number};
+ghost use Rattle.graph_colours.specs.Members.{AreRising, inserted, without_member};
+ghost use Rattle.graph_colours.specs.FoundMembers.{has_id, movers_of, with_number};
 ghost use Rattle.graph_colours.specs.Edits.{edit_number, edited, all_edited, noted, AreInOrder, IsEdited, edit_with, is_edit_at};
 
 use crate::edits::{Edit, edit_all, edit_one, pass};
@@ -180,19 +181,20 @@ impl<C: Id> EditedList<C> {
         ensures memory_only { IsOkUnless result Refusal.NoMemory }
     {
         Ok(EditedList {
-            list: self.to_members(alloc)?,
+            list: self.to_members(Vec::new(alloc))?,
             edits: Vec::new(alloc),
             count: self.count,
         })
     }
 
-    /// The members, ascending by id. Refused 1 where memory is wanting.
-    pub fn to_members(&self, alloc: Global) -> Result<Vec<Member<C>>, Refusal>
+    /// The members, ascending by id, in the memory of `room`, whatever is in it. Refused 1 where memory is wanting.
+    pub fn to_members(&self, room: Vec<Member<C>>) -> Result<Vec<Member<C>>, Refusal>
         ensures items { IfOk result (λ members. members.items ≡ self.now.items) }
         ensures rising { IfOk result (λ members. AreRising C.number members.items) }
         ensures memory_only { IsOkUnless result Refusal.NoMemory }
     {
-        let mut members = Vec::new(alloc);
+        let mut members = room;
+        members.clear();
         members.reserve(self.list.len() + self.edits.len())?;
         pass(&mut members, &self.list, &self.edits);
         Ok(members)

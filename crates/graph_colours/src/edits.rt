@@ -3,7 +3,8 @@
 ghost use Rattle.std.specs.Prelude.{◌≡◌, ◌<◌, ◌≤◌, ◌+◌, ◌++◌, ◌∷◌, [], true, List, All, length, drop, vec_len, vec_capacity};
 ghost use Rattle.std.specs.List.{AllWithin};
 ghost use Rattle.graph_colours.specs.declared.edits.Edit.{Edit as TheEdit};
-ghost use Rattle.graph_colours.specs.Members.{AreRising, is_at};
+ghost use Rattle.graph_colours.specs.Members.{AreRising};
+ghost use Rattle.graph_colours.specs.FoundMembers.{is_at};
 ghost use Rattle.graph_colours.specs.Edits.{edit_number, added, edited, all_edited, AreInOrder, IsEdited};
 
 use crate::member::{insert, place_from, remove};

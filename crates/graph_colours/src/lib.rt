@@ -11,9 +11,9 @@ mod edited;
 mod edits;
 mod limits;
 mod lists;
-mod marks;
 pub mod member;
 mod removals;
+mod taken_colours;
 
 pub use colours::Colours;
 pub use edited::EditedList;

@@ -2,18 +2,18 @@
 
 ghost use Rattle.std.specs.Prelude.{◌≡◌, ◌<◌, ◌+◌, ◌==◌, ℕ, length, replicate, slice_set, [], false, OnOk, IfOk};
 ghost use Rattle.std.specs.Result.{IsOkUnless};
-ghost use Rattle.std.specs.Int.{bit_at};
 ghost use Rattle.std.specs.List.{position_or_len, count_by};
 ghost use Rattle.graph_colours.specs.declared.limits.TheConstants.{COLOURS};
-ghost use Rattle.graph_colours.specs.Members.{has_id, without_member};
-ghost use Rattle.graph_colours.specs.Marks.{AreMarks};
+ghost use Rattle.graph_colours.specs.Members.{without_member};
+ghost use Rattle.graph_colours.specs.FoundMembers.{has_id};
+ghost use Rattle.graph_colours.specs.TakenColours.{AreTakenColours};
 ghost use Rattle.graph_colours.specs.Graph.{lists_of, HaveRoom, AreAtRest};
 ghost use Rattle.graph_colours.specs.Own.{AreOwn};
 ghost use Rattle.graph_colours.specs.Colours.{list_at, all_members, released, IsColouring};
 
 use crate::edited::EditedList;
 use crate::limits::LISTS;
-use crate::marks::{candidates, has_mark, set_marks};
+use crate::taken_colours::{candidates, next_candidate, set_colour_bits};
 use crate::{Id, Member, Movers};
 use fixed_geom::Refusal;
 use std::alloc::Global;
@@ -87,32 +87,27 @@ pub(crate) fn first_with<C: Id>(lists: &[EditedList<C>], id: C) -> usize
     lists.len()
 }
 
-/// Takes the id, and the marks of its movers, out of the list at a place, if it is among the candidates. Answers whether the id was there.
+/// Takes the id, and the marks of its movers, out of the list at a place. Answers whether the id was there.
 fn remove_at<C: Id>(
     lists: &mut Vec<EditedList<C>>,
     words: &mut Vec<u32>,
     place: usize,
-    candidates: u32,
     id: C,
     spare: &mut Vec<Member<C>>,
 ) -> bool
     requires place { place < length lists.old.items }
     requires colouring { IsColouring C.number (lists_of lists.old.items) }
-    requires marks { AreMarks (lists_of lists.old.items) words.old.items }
-    requires candidate { bit_at candidates place ≡ 0 → has_id C.number id (list_at (lists_of lists.old.items) place) ≡ false }
+    requires bits { AreTakenColours (lists_of lists.old.items) words.old.items }
     ensures value { result ≡ has_id C.number id (list_at (lists_of lists.old.items) place) }
     ensures lists { lists_of lists.new.items ≡ slice_set (lists_of lists.old.items) place (without_member C.number id (list_at (lists_of lists.old.items) place)) }
-    ensures marks { AreMarks (lists_of lists.new.items) words.new.items }
+    ensures bits { AreTakenColours (lists_of lists.new.items) words.new.items }
     ensures long { length words.new.items ≡ length words.old.items }
     ensures kept { (room : ℕ) → HaveRoom room lists.old.items → HaveRoom room lists.new.items }
 {
-    if !has_mark(candidates, place) {
-        return false;
-    }
     let Some(movers) = lists[place].remove(id, spare) else {
         return false;
     };
-    set_marks(words, place, movers, false);
+    set_colour_bits(words, place, movers, false);
     true
 }
 
@@ -126,19 +121,21 @@ pub(crate) fn remove_from_first<C: Id>(
     spare: &mut Vec<Member<C>>,
 ) -> usize
     requires colouring { IsColouring C.number (lists_of lists.old.items) }
-    requires marks { AreMarks (lists_of lists.old.items) words.old.items }
+    requires bits { AreTakenColours (lists_of lists.old.items) words.old.items }
     requires own { AreOwn C.number id movers (all_members (lists_of lists.old.items)) }
     ensures gone { result ≡ count_by (λ m. C.number m.id == C.number id) (all_members (lists_of lists.old.items)) }
     ensures lists { lists_of lists.new.items ≡ released C.number id (lists_of lists.old.items) }
-    ensures marks { AreMarks (lists_of lists.new.items) words.new.items }
+    ensures bits { AreTakenColours (lists_of lists.new.items) words.new.items }
     ensures long { length words.new.items ≡ length words.old.items }
     ensures kept { (room : ℕ) → HaveRoom room lists.old.items → HaveRoom room lists.new.items }
 {
     let candidates = candidates(words, movers);
-    for place in 0..lists.len() {
-        if remove_at(lists, words, place, candidates, id, spare) {
+    let mut place = next_candidate(candidates, 0);
+    while place < lists.len() {
+        if remove_at(lists, words, place, id, spare) {
             return 1;
         }
+        place = next_candidate(candidates, place + 1);
     }
     0
 }

@@ -2,7 +2,8 @@
 
 ghost use Rattle.std.specs.Prelude.{◌≡◌, ℕ, ◌<◌, ◌≤◌, ◌+◌, length, vec_len, vec_capacity};
 ghost use Rattle.std.specs.List.{AllWithin};
-ghost use Rattle.graph_colours.specs.Members.{AreRising, inserted, without_member, movers_of, with_number};
+ghost use Rattle.graph_colours.specs.Members.{AreRising, inserted, without_member};
+ghost use Rattle.graph_colours.specs.FoundMembers.{movers_of, with_number};
 
 /// The name of a constraint. Constraints are solved in the order of these numbers, and two names
 /// with one number are one constraint.

@@ -9,14 +9,14 @@ use Rattle.joint_rows.specs.declared.row.JointRow.{JointRow}
 use Rattle.colour_solver_base.specs.declared.row.ContactRow.{ContactRow}
 use Rattle.colour_solver.specs.declared.constraint_row.ConstraintRow.{ConstraintRow}
 use Rattle.colour_solver.specs.declared.constraint_row.ConstraintRow.TheVariants.{Contact, Joint}
-use Rattle.colour_solver.specs.declared.turns.Slots.{Slots}
+use Rattle.colour_solver.specs.declared.row_visits.Slots.{Slots}
 use Rattle.colour_solver.specs.Colour.{is_mover}
-use Rattle.colour_solver.specs.ConstraintTurns.{constraint_slots, contact_slots, contacts_among, is_joint, joint_slots, joints_among}
+use Rattle.colour_solver.specs.ConstraintVisits.{constraint_slots, contact_slots, contacts_among, is_joint, joint_slots, joints_among}
 use Rattle.colour_solver.specs.States.{nobody}
 use Rattle.colour_solver.specs.Ticks.{Run, ran, start}
 use Rattle.island_runs.specs.Apart.{hidden, is_of, ran_of, rows_of, seen, share_of}
 use Rattle.island_runs.specs.ReadBack.{AreReadBack, AreRowsBack, cursor, home}
-use Rattle.island_runs.specs.Laws.{CursorsMove, KindsTellAll, RunsAreReadBack}
+use Rattle.island_runs.specs.Laws.{CursorsMove, KindsDetermineRows, RunsAreReadBack}
 use Rattle.island_runs.proofs.HiddenLaws.{get-hidden, seen_own}
 use Rattle.island_runs.proofs.PassApart.{SameMovers}
 use Rattle.island_runs.proofs.RunApart.{IsKept, IsSeen, ran_kept, ran_seen}
@@ -156,21 +156,21 @@ contacts_of_share g k first (Contact r ∷ rs) =
     contacts_if t (Contact r) kept ∙ ap (λ (l : List ContactRow). cond t (r ∷ l) l) (contacts_of_share g k first rs)
 
 -- where the bodies of joints and of contacts stand is told by kinds and slots
-joint_places : (old now : List ConstraintRow) → map constraint_slots now ≡ map constraint_slots old → map is_joint now ≡ map is_joint old → map joint_slots (joints_among now) ≡ map joint_slots (joints_among old)
-joint_places [] [] s k = refl
-joint_places [] (x ∷ now) s k = absurd (cc k)
-joint_places (x ∷ old) [] s k = absurd (cc k)
-joint_places (Joint a ∷ old) (Joint b ∷ now) s k =
+joint_entries : (old now : List ConstraintRow) → map constraint_slots now ≡ map constraint_slots old → map is_joint now ≡ map is_joint old → map joint_slots (joints_among now) ≡ map joint_slots (joints_among old)
+joint_entries [] [] s k = refl
+joint_entries [] (x ∷ now) s k = absurd (cc k)
+joint_entries (x ∷ old) [] s k = absurd (cc k)
+joint_entries (Joint a ∷ old) (Joint b ∷ now) s k =
     let here : joint_slots b ≡ joint_slots a = cc s in
     let slots : map constraint_slots now ≡ map constraint_slots old = cc s in
     let kinds : map is_joint now ≡ map is_joint old = cc k in
-    ap₂ (λ (x : Slots) (l : List Slots). x ∷ l) here (joint_places old now slots kinds)
-joint_places (Joint a ∷ old) (Contact b ∷ now) s k = absurd (cc k)
-joint_places (Contact a ∷ old) (Joint b ∷ now) s k = absurd (cc k)
-joint_places (Contact a ∷ old) (Contact b ∷ now) s k =
+    ap₂ (λ (x : Slots) (l : List Slots). x ∷ l) here (joint_entries old now slots kinds)
+joint_entries (Joint a ∷ old) (Contact b ∷ now) s k = absurd (cc k)
+joint_entries (Contact a ∷ old) (Joint b ∷ now) s k = absurd (cc k)
+joint_entries (Contact a ∷ old) (Contact b ∷ now) s k =
     let slots : map constraint_slots now ≡ map constraint_slots old = cc s in
     let kinds : map is_joint now ≡ map is_joint old = cc k in
-    joint_places old now slots kinds
+    joint_entries old now slots kinds
 
 contact_places : (old now : List ConstraintRow) → map constraint_slots now ≡ map constraint_slots old → map is_joint now ≡ map is_joint old → map contact_slots (contacts_among now) ≡ map contact_slots (contacts_among old)
 contact_places [] [] s k = refl
@@ -188,22 +188,22 @@ contact_places (Joint a ∷ old) (Joint b ∷ now) s k =
     let kinds : map is_joint now ≡ map is_joint old = cc k in
     contact_places old now slots kinds
 
-pub kinds_tell : KindsTellAll
-kinds_tell [] [] k j c = refl
-kinds_tell [] (x ∷ new) k j c = absurd (cc k)
-kinds_tell (x ∷ old) [] k j c = absurd (cc k)
-kinds_tell (Joint a ∷ old) (Joint b ∷ new) k j c =
+pub kinds_determine : KindsDetermineRows
+kinds_determine [] [] k j c = refl
+kinds_determine [] (x ∷ new) k j c = absurd (cc k)
+kinds_determine (x ∷ old) [] k j c = absurd (cc k)
+kinds_determine (Joint a ∷ old) (Joint b ∷ new) k j c =
     let here : a ≡ b = cc j in
     let kinds : map is_joint old ≡ map is_joint new = cc k in
     let joints : joints_among old ≡ joints_among new = cc j in
-    ap₂ (λ (x : JointRow) (l : List ConstraintRow). Joint x ∷ l) here (kinds_tell old new kinds joints c)
-kinds_tell (Joint a ∷ old) (Contact b ∷ new) k j c = absurd (cc k)
-kinds_tell (Contact a ∷ old) (Joint b ∷ new) k j c = absurd (cc k)
-kinds_tell (Contact a ∷ old) (Contact b ∷ new) k j c =
+    ap₂ (λ (x : JointRow) (l : List ConstraintRow). Joint x ∷ l) here (kinds_determine old new kinds joints c)
+kinds_determine (Joint a ∷ old) (Contact b ∷ new) k j c = absurd (cc k)
+kinds_determine (Contact a ∷ old) (Joint b ∷ new) k j c = absurd (cc k)
+kinds_determine (Contact a ∷ old) (Contact b ∷ new) k j c =
     let here : a ≡ b = cc c in
     let kinds : map is_joint old ≡ map is_joint new = cc k in
     let contacts : contacts_among old ≡ contacts_among new = cc c in
-    ap₂ (λ (x : ContactRow) (l : List ConstraintRow). Contact x ∷ l) here (kinds_tell old new kinds j contacts)
+    ap₂ (λ (x : ContactRow) (l : List ConstraintRow). Contact x ∷ l) here (kinds_determine old new kinds j contacts)
 
 -- ---- a run
 
@@ -217,7 +217,7 @@ runs_back g count v states rows together =
       states = bodies_back g states rows r part kept seen;
       long = kept.long;
       rows = rows_back constraint_slots g states rows r.rows (λ k. (part k).rows) kept.slots seen.rows;
-      joints = rows_back joint_slots g states (joints_among rows) (joints_among r.rows) (λ k. joints_among (part k).rows) (joint_places rows r.rows kept.slots kept.kinds)
+      joints = rows_back joint_slots g states (joints_among rows) (joints_among r.rows) (λ k. joints_among (part k).rows) (joint_entries rows r.rows kept.slots kept.kinds)
           (λ k. sym (joints_of_share g k states r.rows) ∙ ap joints_among (seen.rows k));
       contacts = rows_back contact_slots g states (contacts_among rows) (contacts_among r.rows) (λ k. contacts_among (part k).rows) (contact_places rows r.rows kept.slots kept.kinds)
           (λ k. sym (contacts_of_share g k states r.rows) ∙ ap contacts_among (seen.rows k));

@@ -6,7 +6,7 @@ use Rattle.std.specs.List.{slice_get}
 use Rattle.fixed_geom.specs.Vectors.{plus, zero_vector}
 use Rattle.fixed_geom.specs.declared.vectors.Vec2.{Vec2}
 use Rattle.momenta.specs.declared.state.BodyState.{BodyState}
-use Rattle.momenta.specs.Impulses.{IsSameBody}
+use Rattle.momenta.specs.ImpulseBounds.{IsSameBody}
 use Rattle.colour_solver.specs.States.{AreSameBeside, is_carried, moves, nobody, places_from}
 use Rattle.island_runs.specs.Apart.{AreShares, hidden, hidden_from, seen, sum_below}
 use Rattle.island_runs.specs.Laws.{BodiesAreHidden}

@@ -1,6 +1,6 @@
 pub mod SumLaws
 pub mod HiddenLaws
-pub mod FairTurns
+pub mod FairVisits
 pub mod PassApart
 pub mod WholeLaws
 pub mod RunApart

@@ -9,14 +9,14 @@ use Rattle.std.proofs.lemmas.Option.{get_or_from_slice_get, slice_get-get_or, sl
 use Rattle.fixed_geom.specs.Numbers.{rdiv}
 use Rattle.fixed_geom.specs.Reciprocals.{rdiv_reciprocal, share_reciprocal}
 use Rattle.momenta.specs.declared.state.BodyState.{BodyState}
-use Rattle.momenta.specs.Impulses.{IsState}
+use Rattle.momenta.specs.ImpulseBounds.{IsState}
 use Rattle.momenta.specs.Motions.{IsMass}
 use Rattle.momenta.specs.Reciprocals.{reciprocals_of}
 use Rattle.colour_solver.specs.declared.constraint_row.ConstraintRow.{ConstraintRow}
-use Rattle.colour_solver.specs.declared.turns.Slots.{Slots}
+use Rattle.colour_solver.specs.declared.row_visits.Slots.{Slots}
 use Rattle.colour_solver.specs.Colour.{IsColour, ShareNone, is_mover}
 use Rattle.colour_solver.specs.ColourRows.{ColourRows, all_rows}
-use Rattle.colour_solver.specs.ConstraintTurns.{AreRowsBelow, IsRowBelow, constraint_slots}
+use Rattle.colour_solver.specs.ConstraintVisits.{AreRowsBelow, IsRowBelow, constraint_slots}
 use Rattle.colour_solver.specs.States.{AreAllStates, HasCourse, HaveCourses, is_carried, nobody}
 use Rattle.colour_solver.specs.Masses.{standing}
 use Rattle.island_runs.specs.Apart.{AreRowsOf, hidden, hidden_from, is_of, rows_of, seen}

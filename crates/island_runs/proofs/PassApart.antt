@@ -7,17 +7,17 @@ use Rattle.fixed_geom.specs.Vectors.{plus, zero_vector}
 use Rattle.fixed_geom.specs.declared.vectors.Vec2.{Vec2}
 use Rattle.momenta.specs.declared.state.BodyState.{BodyState}
 use Rattle.momenta.specs.declared.state.Ends.{Ends}
-use Rattle.momenta.specs.Impulses.{AreSameBodies}
+use Rattle.momenta.specs.ImpulseBounds.{AreSameBodies}
 use Rattle.colour_solver_base.specs.RowsAfter.{RowAfter}
 use Rattle.colour_solver.specs.declared.constraint_row.ConstraintRow.{ConstraintRow}
-use Rattle.colour_solver.specs.declared.turns.Slots.{Slots}
+use Rattle.colour_solver.specs.declared.row_visits.Slots.{Slots}
 use Rattle.colour_solver.specs.Colour.{is_mover}
-use Rattle.colour_solver.specs.ConstraintTurns.{constraint_slots}
+use Rattle.colour_solver.specs.ConstraintVisits.{constraint_slots}
 use Rattle.colour_solver.specs.States.{nobody}
-use Rattle.colour_solver.specs.Turns.{after, ends_of, got, passed, rows_passed, share, turn_of, with_ends}
+use Rattle.colour_solver.specs.RowVisits.{after, ends_of, got, passed, rows_passed, share, visit_of, with_ends}
 use Rattle.colour_solver.proofs.VectorLaws.{zero_plus}
 use Rattle.island_runs.specs.Apart.{AreShares, AreTogether, IsTogether, hidden, is_of, rows_of, seen, share_of, sum_below}
-use Rattle.island_runs.proofs.FairTurns.{IsFairTurn}
+use Rattle.island_runs.proofs.FairVisits.{IsFairVisit}
 use Rattle.island_runs.proofs.HiddenLaws.{get-hidden, hidden-set, seen_other, seen_own}
 use Rattle.island_runs.proofs.SumLaws.{added_apart, one_of, sum_alike, sum_none, sum_one}
 
@@ -50,7 +50,7 @@ record AreOf (g : ℕ → ℕ) (k : ℕ) (now : List BodyState) (slots : Slots) 
   a : is_mover now slots.a ≡ true → nat_eq (g slots.a) k ≡ t
   b : is_mover now slots.b ≡ true → nat_eq (g slots.b) k ≡ t
 
-module _ (f : ConstraintRow → Ends → RowAfter ConstraintRow) (fair : IsFairTurn f) where
+module _ (f : ConstraintRow → Ends → RowAfter ConstraintRow) (fair : IsFairVisit f) where
   -- ---- what turns leave
 
   after_moves : (ss : List BodyState) (r : ConstraintRow) → SameMovers ss (after constraint_slots f ss r)
@@ -75,7 +75,7 @@ module _ (f : ConstraintRow → Ends → RowAfter ConstraintRow) (fair : IsFairT
   passed_long [] ss = refl
   passed_long (r ∷ rs) ss = passed_long rs (after constraint_slots f ss r) ∙ after_long ss r
 
-module _ (f : ConstraintRow → Ends → RowAfter ConstraintRow) (fair : IsFairTurn f) (g : ℕ → ℕ) (first : List BodyState) where
+module _ (f : ConstraintRow → Ends → RowAfter ConstraintRow) (fair : IsFairVisit f) (g : ℕ → ℕ) (first : List BodyState) where
   are_of : (k : ℕ) (now : List BodyState) (r : ConstraintRow) (t : Bool) → SameMovers first now → IsTogether constraint_slots g first r → is_of constraint_slots g k first r ≡ t → AreOf g k now (constraint_slots r) t
   are_of k now r t same together is =
       let s : Slots = constraint_slots r in
@@ -94,8 +94,8 @@ module _ (f : ConstraintRow → Ends → RowAfter ConstraintRow) (fair : IsFairT
       let at_b : get_or (hidden g k ss) s.b nobody ≡ get_or ss s.b nobody = get-hidden g k ss s.b ∙ seen_own g k s.b (get_or ss s.b nobody) own.b in
       λ i. record { a = at_a i; b = at_b i }
 
-  own_turn : (k : ℕ) (ss : List BodyState) (r : ConstraintRow) → AreOf g k ss (constraint_slots r) true → turn_of constraint_slots f (hidden g k ss) r ≡ turn_of constraint_slots f ss r
-  own_turn k ss r own = ap (f r) (own_ends k ss r own)
+  own_visit : (k : ℕ) (ss : List BodyState) (r : ConstraintRow) → AreOf g k ss (constraint_slots r) true → visit_of constraint_slots f (hidden g k ss) r ≡ visit_of constraint_slots f ss r
+  own_visit k ss r own = ap (f r) (own_ends k ss r own)
 
   -- a share sees the turn of its own row
   own_after : (k : ℕ) (ss : List BodyState) (r : ConstraintRow) → AreOf g k ss (constraint_slots r) true → hidden g k (after constraint_slots f ss r) ≡ after constraint_slots f (hidden g k ss) r
@@ -108,7 +108,7 @@ module _ (f : ConstraintRow → Ends → RowAfter ConstraintRow) (fair : IsFairT
       let seen_b : seen g k s.b t.b ≡ t.b = seen_own g k s.b t.b (λ m. own.b (sym same.b.movable ∙ m)) in
       let set_a : hidden g k (set ss s.a t.a) ≡ set (hidden g k ss) s.a t.a = hidden-set g k ss s.a t.a ∙ ap (set (hidden g k ss) s.a) seen_a in
       let set_b : hidden g k (set (set ss s.a t.a) s.b t.b) ≡ set (set (hidden g k ss) s.a t.a) s.b t.b = hidden-set g k (set ss s.a t.a) s.b t.b ∙ (λ i. set (set_a i) s.b (seen_b i)) in
-      set_b ∙ ap (λ (x : RowAfter ConstraintRow). with_ends constraint_slots (hidden g k ss) r x.ends) (sym (own_turn k ss r own))
+      set_b ∙ ap (λ (x : RowAfter ConstraintRow). with_ends constraint_slots (hidden g k ss) r x.ends) (sym (own_visit k ss r own))
 
   -- and nothing of the turn of another row
   other_after : (k : ℕ) (ss : List BodyState) (r : ConstraintRow) → AreOf g k ss (constraint_slots r) false → hidden g k (after constraint_slots f ss r) ≡ hidden g k ss
@@ -141,14 +141,14 @@ module _ (f : ConstraintRow → Ends → RowAfter ConstraintRow) (fair : IsFairT
       passed_apart k rs (after constraint_slots f ss r) (λ slot. after_moves f fair ss r slot ∙ same slot) rest
       ∙ sym (passed_step k ss r (rows_of constraint_slots g k first rs) t (are_of k ss r t same is refl))
 
-  rows_step : (k : ℕ) (ss : List BodyState) (r : ConstraintRow) (rs turned : List ConstraintRow) (t : Bool) → AreOf g k ss (constraint_slots r) t
-      → turned ≡ rows_passed constraint_slots f (hidden g k (after constraint_slots f ss r)) rs
-      → cond t ((turn_of constraint_slots f ss r).row ∷ turned) turned ≡ rows_passed constraint_slots f (hidden g k ss) (cond t (r ∷ rs) rs)
-  rows_step k ss r rs turned true of e =
-      let here = own_turn k ss r of in
-      let rest : turned ≡ rows_passed constraint_slots f (after constraint_slots f (hidden g k ss) r) rs = e ∙ ap (λ (l : List BodyState). rows_passed constraint_slots f l rs) (own_after k ss r of) in
+  rows_step : (k : ℕ) (ss : List BodyState) (r : ConstraintRow) (rs visited : List ConstraintRow) (t : Bool) → AreOf g k ss (constraint_slots r) t
+      → visited ≡ rows_passed constraint_slots f (hidden g k (after constraint_slots f ss r)) rs
+      → cond t ((visit_of constraint_slots f ss r).row ∷ visited) visited ≡ rows_passed constraint_slots f (hidden g k ss) (cond t (r ∷ rs) rs)
+  rows_step k ss r rs visited true of e =
+      let here = own_visit k ss r of in
+      let rest : visited ≡ rows_passed constraint_slots f (after constraint_slots f (hidden g k ss) r) rs = e ∙ ap (λ (l : List BodyState). rows_passed constraint_slots f l rs) (own_after k ss r of) in
       ap₂ (λ (x : RowAfter ConstraintRow) (l : List ConstraintRow). x.row ∷ l) (sym here) rest
-  rows_step k ss r rs turned false of e = e ∙ ap (λ (l : List BodyState). rows_passed constraint_slots f l rs) (other_after k ss r of)
+  rows_step k ss r rs visited false of e = e ∙ ap (λ (l : List BodyState). rows_passed constraint_slots f l rs) (other_after k ss r of)
 
   pub rows_apart : (k : ℕ) (rs : List ConstraintRow) (ss : List BodyState) → SameMovers first ss → AreTogether constraint_slots g first rs
       → rows_of constraint_slots g k first (rows_passed constraint_slots f ss rs) ≡ rows_passed constraint_slots f (hidden g k ss) (rows_of constraint_slots g k first rs)
@@ -157,14 +157,14 @@ module _ (f : ConstraintRow → Ends → RowAfter ConstraintRow) (fair : IsFairT
       let is : IsTogether constraint_slots g first r = All-head (IsTogether constraint_slots g first) r rs together in
       let rest : AreTogether constraint_slots g first rs = All-tail (IsTogether constraint_slots g first) r rs together in
       let t : Bool = is_of constraint_slots g k first r in
-      let row : ConstraintRow = (turn_of constraint_slots f ss r).row in
-      let turned : List ConstraintRow = rows_of constraint_slots g k first (rows_passed constraint_slots f (after constraint_slots f ss r) rs) in
+      let row : ConstraintRow = (visit_of constraint_slots f ss r).row in
+      let visited : List ConstraintRow = rows_of constraint_slots g k first (rows_passed constraint_slots f (after constraint_slots f ss r) rs) in
       let more = rows_apart k rs (after constraint_slots f ss r) (λ slot. after_moves f fair ss r slot ∙ same slot) rest in
       let stays : is_of constraint_slots g k first row ≡ t = ap (λ (s : Slots). nat_eq (cond (is_mover first s.a) (g s.a) (g s.b)) k) (fair.slots r (ends_of constraint_slots ss r)) in
-      ap (λ (x : Bool). cond x (row ∷ turned) turned) stays ∙ rows_step k ss r (rows_of constraint_slots g k first rs) turned t (are_of k ss r t same is refl) more
+      ap (λ (x : Bool). cond x (row ∷ visited) visited) stays ∙ rows_step k ss r (rows_of constraint_slots g k first rs) visited t (are_of k ss r t same is refl) more
 
   share_step : (k : ℕ) (ss : List BodyState) (r : ConstraintRow) (rs : List ConstraintRow) (t : Bool) → AreOf g k ss (constraint_slots r) t
-      → plus (cond t (got (ends_of constraint_slots ss r) (turn_of constraint_slots f ss r).ends) zero_vector) (share constraint_slots f (hidden g k (after constraint_slots f ss r)) rs) ≡ share constraint_slots f (hidden g k ss) (cond t (r ∷ rs) rs)
+      → plus (cond t (got (ends_of constraint_slots ss r) (visit_of constraint_slots f ss r).ends) zero_vector) (share constraint_slots f (hidden g k (after constraint_slots f ss r)) rs) ≡ share constraint_slots f (hidden g k ss) (cond t (r ∷ rs) rs)
   share_step k ss r rs true of =
       let ends = own_ends k ss r of in
       let rest = own_after k ss r of in
@@ -178,7 +178,7 @@ module _ (f : ConstraintRow → Ends → RowAfter ConstraintRow) (fair : IsFairT
       let is : IsTogether constraint_slots g first r = All-head (IsTogether constraint_slots g first) r rs together in
       let rest : AreTogether constraint_slots g first rs = All-tail (IsTogether constraint_slots g first) r rs together in
       let q : ℕ = share_of constraint_slots g first r in
-      let v : Vec2 = got (ends_of constraint_slots ss r) (turn_of constraint_slots f ss r).ends in
+      let v : Vec2 = got (ends_of constraint_slots ss r) (visit_of constraint_slots f ss r).ends in
       let behind : ℕ → Vec2 = λ k. share constraint_slots f (hidden g k (after constraint_slots f ss r)) (rows_of constraint_slots g k first rs) in
       let more = share_apart n shares rs (after constraint_slots f ss r) (λ slot. after_moves f fair ss r slot ∙ same slot) rest in
       let each : (k : ℕ) → plus (one_of q v k) (behind k) ≡ share constraint_slots f (hidden g k ss) (rows_of constraint_slots g k first (r ∷ rs)) = λ k.

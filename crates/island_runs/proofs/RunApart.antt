@@ -11,19 +11,19 @@ use Rattle.momenta.specs.declared.state.BodyState.{BodyState}
 use Rattle.momenta.specs.declared.state.Ends.{Ends}
 use Rattle.colour_solver_base.specs.RowsAfter.{RowAfter}
 use Rattle.colour_solver.specs.declared.constraint_row.ConstraintRow.{ConstraintRow}
-use Rattle.colour_solver.specs.declared.turns.Slots.{Slots}
+use Rattle.colour_solver.specs.declared.row_visits.Slots.{Slots}
 use Rattle.colour_solver.specs.Colour.{is_mover}
-use Rattle.colour_solver.specs.ConstraintTurns.{constraint_bounced, constraint_slots, constraint_solved, constraint_warmed, is_joint}
+use Rattle.colour_solver.specs.ConstraintVisits.{constraint_bounced, constraint_slots, constraint_solved, constraint_warmed, is_joint}
 use Rattle.colour_solver.specs.Passes.{carried_along, carry, changed, gain, pass}
 use Rattle.colour_solver.specs.States.{AreSameBeside, total}
-use Rattle.colour_solver.specs.Ticks.{Run, carry_all, clamp_all, pull_all, ran, start, tick, ticks, turn_all}
-use Rattle.colour_solver.specs.Turns.{passed, rows_passed, share}
+use Rattle.colour_solver.specs.Ticks.{Run, carry_all, clamp_all, pull_all, ran, start, tick, ticks, visit_all}
+use Rattle.colour_solver.specs.RowVisits.{passed, rows_passed, share}
 use Rattle.colour_solver.proofs.CourseLaws.{beside_on, beside_same, total-carry}
 use Rattle.colour_solver.proofs.VectorLaws.{plus_zero}
 use Rattle.colour_solver.proofs.SlotLaws.{passed_same}
 use Rattle.island_runs.specs.Apart.{added_in, AreShares, AreTogether, hidden, ran_of, rows_of, start_of, sum_below}
 use Rattle.island_runs.specs.Laws.{RunsAreApart}
-use Rattle.island_runs.proofs.FairTurns.{IsFairTurn, all_bounced_fair, all_solved_fair, all_warmed_fair}
+use Rattle.island_runs.proofs.FairVisits.{IsFairVisit, all_bounced_fair, all_solved_fair, all_warmed_fair}
 use Rattle.island_runs.proofs.HiddenLaws.{beside-map, hidden-map}
 use Rattle.island_runs.proofs.PassApart.{SameMovers, passed_apart, passed_long, passed_moves, rows_apart, share_apart}
 use Rattle.island_runs.proofs.WholeLaws.{ArePlaced, IsPlaced, along_is, changed_is, gain_apart, more_clamp, more_gravity, more_immovable, same-passed, same_still, total-pass, total-passed}
@@ -159,8 +159,8 @@ carry_act = record {
   };
 }
 
-turn_act : (f : ConstraintRow → Ends → RowAfter ConstraintRow) → IsFairTurn f → IsAct (turn_all f)
-turn_act f fair = record {
+visit_act : (f : ConstraintRow → Ends → RowAfter ConstraintRow) → IsFairVisit f → IsAct (visit_all f)
+visit_act f fair = record {
   kept = λ first before r kept. record {
     movers = λ slot. passed_moves f fair r.rows r.states slot ∙ kept.movers slot;
     long = passed_long f fair r.rows r.states ∙ kept.long;
@@ -193,10 +193,10 @@ turn_act f fair = record {
 tick_act : (v : Vec2) → IsAct (tick v)
 unfolding tick
 tick_act v =
-    then_act (pull_all v) (λ r. carry_all (clamp_all advanced (clamp_all speed_clamped (turn_all constraint_solved (turn_all constraint_warmed (clamp_all speed_clamped r)))))) (pull_act v)
-    (then_act (clamp_all speed_clamped) (λ r. carry_all (clamp_all advanced (clamp_all speed_clamped (turn_all constraint_solved (turn_all constraint_warmed r))))) (clamp_act speed_clamped)
-    (then_act (turn_all constraint_warmed) (λ r. carry_all (clamp_all advanced (clamp_all speed_clamped (turn_all constraint_solved r)))) (turn_act constraint_warmed all_warmed_fair)
-    (then_act (turn_all constraint_solved) (λ r. carry_all (clamp_all advanced (clamp_all speed_clamped r))) (turn_act constraint_solved all_solved_fair)
+    then_act (pull_all v) (λ r. carry_all (clamp_all advanced (clamp_all speed_clamped (visit_all constraint_solved (visit_all constraint_warmed (clamp_all speed_clamped r)))))) (pull_act v)
+    (then_act (clamp_all speed_clamped) (λ r. carry_all (clamp_all advanced (clamp_all speed_clamped (visit_all constraint_solved (visit_all constraint_warmed r))))) (clamp_act speed_clamped)
+    (then_act (visit_all constraint_warmed) (λ r. carry_all (clamp_all advanced (clamp_all speed_clamped (visit_all constraint_solved r)))) (visit_act constraint_warmed all_warmed_fair)
+    (then_act (visit_all constraint_solved) (λ r. carry_all (clamp_all advanced (clamp_all speed_clamped r))) (visit_act constraint_solved all_solved_fair)
     (then_act (clamp_all speed_clamped) (λ r. carry_all (clamp_all advanced r)) (clamp_act speed_clamped)
     (then_act (clamp_all advanced) carry_all (clamp_act advanced) carry_act)))))
 
@@ -214,7 +214,7 @@ ticks_act (suc count) v = then_act (ticks count v) (tick v) (ticks_act count v) 
 
 ran_act : (count : ℕ) (v : Vec2) → IsAct (ran count v)
 unfolding ran
-ran_act count v = then_act (ticks count v) (turn_all constraint_bounced) (ticks_act count v) (turn_act constraint_bounced all_bounced_fair)
+ran_act count v = then_act (ticks count v) (visit_all constraint_bounced) (ticks_act count v) (visit_act constraint_bounced all_bounced_fair)
 
 -- ---- from the start
 

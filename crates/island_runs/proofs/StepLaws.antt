@@ -6,9 +6,9 @@ use Rattle.std.proofs.lemmas.Bool.{eq-eqb}
 use Rattle.std.proofs.lemmas.List.Elements.{All-cons, All-head, All-nil, All-tail}
 use Rattle.std.proofs.lemmas.Option.{get_or_from_slice_get}
 use Rattle.momenta.specs.declared.state.BodyState.{BodyState}
-use Rattle.colour_solver.specs.declared.turns.Slots.{Slots}
+use Rattle.colour_solver.specs.declared.row_visits.Slots.{Slots}
 use Rattle.colour_solver.specs.Colour.{is_mover}
-use Rattle.colour_solver.specs.ConstraintTurns.{AreRowsBelow, IsRowBelow, constraint_slots}
+use Rattle.colour_solver.specs.ConstraintVisits.{AreRowsBelow, IsRowBelow, constraint_slots}
 use Rattle.colour_solver.specs.States.{nobody}
 use Rattle.colour_solver.specs.Ticks.{Run, ran, start}
 use Rattle.island_runs.specs.Apart.{AreShares, is_of, ran_of, rows_of, seen, share_of}

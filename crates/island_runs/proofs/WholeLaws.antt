@@ -13,16 +13,16 @@ use Rattle.momenta.specs.declared.state.BodyState.{BodyState}
 use Rattle.momenta.specs.declared.state.Ends.{Ends}
 use Rattle.colour_solver_base.specs.RowsAfter.{RowAfter}
 use Rattle.colour_solver.specs.declared.constraint_row.ConstraintRow.{ConstraintRow}
-use Rattle.colour_solver.specs.declared.turns.Slots.{Slots}
-use Rattle.colour_solver.specs.ConstraintTurns.{AreRowsBelow, IsRowBelow, constraint_slots}
+use Rattle.colour_solver.specs.declared.row_visits.Slots.{Slots}
+use Rattle.colour_solver.specs.ConstraintVisits.{AreRowsBelow, IsRowBelow, constraint_slots}
 use Rattle.colour_solver.specs.Passes.{carried_along, changed, gain, one_gain, pass}
 use Rattle.colour_solver.specs.States.{AreSameStates, is_carried, momentum_of, nobody, total}
-use Rattle.colour_solver.specs.Turns.{after, ends_of, got, passed, share, turn_of}
-use Rattle.colour_solver.proofs.SameLaws.{same_on, same_turned}
-use Rattle.colour_solver.proofs.TurnLaws.{total-after}
+use Rattle.colour_solver.specs.RowVisits.{after, ends_of, got, passed, share, visit_of}
+use Rattle.colour_solver.proofs.SameLaws.{same_on, same_visited}
+use Rattle.colour_solver.proofs.VisitLaws.{total-after}
 use Rattle.colour_solver.proofs.VectorLaws.{plus_assoc, plus_zero, same_vector, same_x, same_y}
 use Rattle.island_runs.specs.Apart.{AreShares, hidden, sum_below}
-use Rattle.island_runs.proofs.FairTurns.{IsFairTurn}
+use Rattle.island_runs.proofs.FairVisits.{IsFairVisit}
 use Rattle.island_runs.proofs.HiddenLaws.{IsChange, sum-hidden}
 
 -- ---- changes of each body
@@ -95,15 +95,15 @@ same_still ss = record { long = refl; immovable = λ slot h. refl; reciprocals =
 known : (ss : List BodyState) (i : ℕ) → i < length ss → get_or ss i nobody ≡ get_or ss i (get_or ss i nobody)
 known ss i h = get_or_default ss i nobody (get_or ss i nobody) h
 
-module _ (f : ConstraintRow → Ends → RowAfter ConstraintRow) (fair : IsFairTurn f) where
+module _ (f : ConstraintRow → Ends → RowAfter ConstraintRow) (fair : IsFairVisit f) where
   same-after : (ss : List BodyState) (r : ConstraintRow) → IsPlaced (length ss) (constraint_slots r) → AreSameStates ss (after constraint_slots f ss r)
   same-after ss r is =
       let s : Slots = constraint_slots r in
       let e : Ends = ends_of constraint_slots ss r in
-      same_turned ss s.a s.b e (f r e).ends is.a is.b (known ss s.a is.a) (known ss s.b is.b) (fair.ends r e).same
+      same_visited ss s.a s.b e (f r e).ends is.a is.b (known ss s.a is.a) (known ss s.b is.b) (fair.ends r e).same
 
-  total-turn : (ss : List BodyState) (r : ConstraintRow) → IsPlaced (length ss) (constraint_slots r) → total (after constraint_slots f ss r) ≡ plus (total ss) (got (ends_of constraint_slots ss r) (turn_of constraint_slots f ss r).ends)
-  total-turn ss r is =
+  total-visit : (ss : List BodyState) (r : ConstraintRow) → IsPlaced (length ss) (constraint_slots r) → total (after constraint_slots f ss r) ≡ plus (total ss) (got (ends_of constraint_slots ss r) (visit_of constraint_slots f ss r).ends)
+  total-visit ss r is =
       let s : Slots = constraint_slots r in
       let e : Ends = ends_of constraint_slots ss r in
       total-after ss s.a s.b e (f r e).ends is.a is.b is.apart (known ss s.a is.a) (known ss s.b is.b) (fair.ends r e).same (fair.ends r e).kept
@@ -124,8 +124,8 @@ module _ (f : ConstraintRow → Ends → RowAfter ConstraintRow) (fair : IsFairT
   total-passed [] ss all = sym (plus_zero (total ss))
   total-passed (r ∷ rs) ss all =
       let now : List BodyState = after constraint_slots f ss r in
-      let v : Vec2 = got (ends_of constraint_slots ss r) (turn_of constraint_slots f ss r).ends in
-      let one : total now ≡ plus (total ss) v = total-turn ss r (All-head (λ x. IsPlaced (length ss) (constraint_slots x)) r rs all) in
+      let v : Vec2 = got (ends_of constraint_slots ss r) (visit_of constraint_slots f ss r).ends in
+      let one : total now ≡ plus (total ss) v = total-visit ss r (All-head (λ x. IsPlaced (length ss) (constraint_slots x)) r rs all) in
       total-passed rs now (rest_placed ss r rs all) ∙ ap (λ (t : Vec2). plus t (share constraint_slots f now rs)) one ∙ sym (plus_assoc (total ss) v (share constraint_slots f now rs))
 
 -- ---- sums

@@ -5,10 +5,10 @@ use Rattle.fixed_geom.specs.Vectors.{plus, zero_vector}
 use Rattle.fixed_geom.specs.declared.vectors.Vec2.{Vec2}
 use Rattle.momenta.specs.declared.state.BodyState.{BodyState}
 use Rattle.colour_solver.specs.declared.constraint_row.ConstraintRow.{ConstraintRow}
-use Rattle.colour_solver.specs.declared.turns.Slots.{Slots}
+use Rattle.colour_solver.specs.declared.row_visits.Slots.{Slots}
 use Rattle.colour_solver.specs.Colour.{is_mover}
 use Rattle.colour_solver.specs.ColourRows.{ColourRows}
-use Rattle.colour_solver.specs.ConstraintTurns.{AreRowsBelow, constraint_slots}
+use Rattle.colour_solver.specs.ConstraintVisits.{AreRowsBelow, constraint_slots}
 use Rattle.colour_solver.specs.States.{AreAllStates, AreSameBeside, HaveCourses, nobody, total}
 use Rattle.colour_solver.specs.Ticks.{Run, ran, start}
 

@@ -3,10 +3,10 @@ use Rattle.std.specs.Prelude.{◌≡◌, ℕ, ◌+◌, ◌<◌, cond, nat_eq, Li
 use Rattle.fixed_geom.specs.declared.vectors.Vec2.{Vec2}
 use Rattle.momenta.specs.declared.state.BodyState.{BodyState}
 use Rattle.colour_solver.specs.declared.constraint_row.ConstraintRow.{ConstraintRow}
-use Rattle.colour_solver.specs.declared.turns.Slots.{Slots}
+use Rattle.colour_solver.specs.declared.row_visits.Slots.{Slots}
 use Rattle.colour_solver.specs.Colour.{AreColours}
 use Rattle.colour_solver.specs.ColourRows.{ColourRows, all_rows}
-use Rattle.colour_solver.specs.ConstraintTurns.{AreRowsBelow, constraint_slots, contact_slots, contacts_among, is_joint, joint_slots, joints_among}
+use Rattle.colour_solver.specs.ConstraintVisits.{AreRowsBelow, constraint_slots, contact_slots, contacts_among, is_joint, joint_slots, joints_among}
 use Rattle.colour_solver.specs.States.{AreAllStates, HaveCourses, carried_of, movers_of}
 use Rattle.colour_solver.specs.Ticks.{Run, ran, start}
 use Rattle.island_runs.specs.Apart.{AreRowsOf, AreShares, AreTogether, IsApart, IsInRange, IsStepped, hidden, is_of, ran_of, rows_of, share_of}
@@ -73,5 +73,5 @@ abbrev pub CursorsMove : {R : Type 0} → (R → Slots) → Type 0
 CursorsMove {R} at = (g : ℕ → ℕ) (states : List BodyState) (rows : List R) (i : ℕ) (d : R) → i < length rows → IsCursor at g states rows i d
 
 -- rows of the same kinds with the same joints and contacts are the same
-abbrev pub KindsTellAll : Type 0
-KindsTellAll = (old new : List ConstraintRow) → map is_joint old ≡ map is_joint new → joints_among old ≡ joints_among new → contacts_among old ≡ contacts_among new → old ≡ new
+abbrev pub KindsDetermineRows : Type 0
+KindsDetermineRows = (old new : List ConstraintRow) → map is_joint old ≡ map is_joint new → joints_among old ≡ joints_among new → contacts_among old ≡ contacts_among new → old ≡ new

@@ -1,7 +1,7 @@
 -- The bodies and rows of all shares read back into one list: of each slot and of each row, from which share, and which of its rows.
 use Rattle.std.specs.Prelude.{◌≡◌, ℕ, ◌<◌, cond, List, length, take, slice_index_or}
 use Rattle.momenta.specs.declared.state.BodyState.{BodyState}
-use Rattle.colour_solver.specs.declared.turns.Slots.{Slots}
+use Rattle.colour_solver.specs.declared.row_visits.Slots.{Slots}
 use Rattle.colour_solver.specs.Colour.{is_mover}
 use Rattle.colour_solver.specs.States.{nobody}
 use Rattle.island_runs.specs.Apart.{rows_of, share_of}

@@ -1,7 +1,7 @@
 //! The laws. Their functions do nothing; each contract is a law.
 
-ghost use Rattle.colour_solver.specs.ConstraintTurns.{constraint_slots, contact_slots, joint_slots};
-ghost use Rattle.island_runs.specs.Laws.{BodiesAreHidden, CursorsMove, KindsTellAll, PartsCanRun, PartsStepAll, RunsAreApart, RunsAreReadBack};
+ghost use Rattle.colour_solver.specs.ConstraintVisits.{constraint_slots, contact_slots, joint_slots};
+ghost use Rattle.island_runs.specs.Laws.{BodiesAreHidden, CursorsMove, KindsDetermineRows, PartsCanRun, PartsStepAll, RunsAreApart, RunsAreReadBack};
 
 /// What a share sees has the same slots, the movers of that share, and all bodies that are carried along.
 pub fn bodies_are_hidden()
@@ -36,6 +36,6 @@ pub fn cursors_move()
 {}
 
 /// Rows are told by their kinds, in order, with their joints and their contacts.
-pub fn kinds_tell_all()
-    ensures { KindsTellAll }
+pub fn kinds_determine_rows()
+    ensures { KindsDetermineRows }
 {}

@@ -3,8 +3,8 @@ use Rattle.std.proofs.Common.{◌≡◌, ◌≢◌, ℕ, zero, suc, ◌+◌, ◌
 use Rattle.std.proofs.lemmas.Bool.Decides.{nat_tests}
 use Rattle.std.proofs.lemmas.List.{append_assoc, get_or-drop, get_or-set_other, get_or-set_same, length-drop, length-set, map-append, take_more}
 use Rattle.momenta.specs.declared.state.BodyState.{BodyState}
-use Rattle.colour_solver.specs.declared.turns.Slots.{Slots}
-use Rattle.colour_solver.specs.Turns.{between}
+use Rattle.colour_solver.specs.declared.row_visits.Slots.{Slots}
+use Rattle.colour_solver.specs.RowVisits.{between}
 use Rattle.island_runs.specs.Apart.{AreShares, is_of, share_of}
 use Rattle.island_runs.specs.Laws.{CursorsMove}
 use Rattle.island_runs.specs.ReadBack.{AreRowsBack, cursor}

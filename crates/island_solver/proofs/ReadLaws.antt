@@ -11,11 +11,11 @@ use Rattle.colour_solver_base.specs.declared.row.ContactRow.{ContactRow}
 use Rattle.colour_solver.specs.declared.constraint_row.ConstraintRow.{ConstraintRow}
 use Rattle.colour_solver.specs.declared.constraint_row.ConstraintRow.TheVariants.{Contact, Joint}
 use Rattle.colour_solver.specs.ColourRows.{ColourRows, all_rows, joints_first}
-use Rattle.colour_solver.specs.ConstraintTurns.{contacts_among, is_joint, joints_among}
+use Rattle.colour_solver.specs.ConstraintVisits.{contacts_among, is_joint, joints_among}
 use Rattle.colour_solver.specs.States.{nobody}
-use Rattle.colour_solver.specs.Turns.{between}
+use Rattle.colour_solver.specs.RowVisits.{between}
 use Rattle.island_runs.specs.ReadBack.{AreReadBack, home}
-use Rattle.island_runs.proofs.BackLaws.{kinds_tell}
+use Rattle.island_runs.proofs.BackLaws.{kinds_determine}
 use Rattle.island_solver.specs.ReadingBack.{IsReadBack}
 use Rattle.island_solver.proofs.SeeLaws.{kinds_count}
 
@@ -154,7 +154,7 @@ pub all_back : (now read before : List ConstraintRow) → IsHalfBack now read be
 all_back now read before known kinds =
     let joints : length (joints_among now) ≤ length (joints_among before) = let e = as_many_joints now before kinds in omega (arith, e) in
     let contacts : length (contacts_among now) ≤ length (contacts_among before) = let e = as_many_contacts now before kinds in omega (arith, e) in
-    kinds_tell read now (known.kinds ∙ sym kinds) (known.joints ∙ take_all (length (joints_among before)) (joints_among now) joints) (known.contacts ∙ take_all (length (contacts_among before)) (contacts_among now) contacts)
+    kinds_determine read now (known.kinds ∙ sym kinds) (known.joints ∙ take_all (length (joints_among before)) (joints_among now) joints) (known.contacts ∙ take_all (length (contacts_among before)) (contacts_among now) contacts)
 
 -- ---- colours
 

@@ -7,7 +7,7 @@ use Rattle.colour_solver_base.specs.declared.row.ContactRow.{ContactRow}
 use Rattle.colour_solver.specs.declared.constraint_row.ConstraintRow.{ConstraintRow}
 use Rattle.colour_solver.specs.declared.constraint_row.ConstraintRow.TheVariants.{Contact, Joint}
 use Rattle.colour_solver.specs.ColourRows.{joints_first}
-use Rattle.colour_solver.specs.ConstraintTurns.{constraint_slots, contact_slots, contacts_among, joint_slots, joints_among}
+use Rattle.colour_solver.specs.ConstraintVisits.{constraint_slots, contact_slots, contacts_among, joint_slots, joints_among}
 use Rattle.island_runs.specs.Apart.{hidden, hidden_from, is_of, rows_of, seen}
 
 -- what stands at a place, and what is behind it

@@ -5,10 +5,10 @@ use Rattle.fixed_geom.specs.declared.vectors.Vec2.{Vec2}
 use Rattle.momenta.specs.declared.state.BodyState.{BodyState}
 use Rattle.colour_solver.specs.declared.constraint_row.ConstraintRow.{ConstraintRow}
 use Rattle.colour_solver.specs.declared.ticks.StepSums.{StepSums}
-use Rattle.colour_solver.specs.declared.turns.Slots.{Slots}
+use Rattle.colour_solver.specs.declared.row_visits.Slots.{Slots}
 use Rattle.colour_solver.specs.Colour.{is_mover}
 use Rattle.colour_solver.specs.ColourRows.{ColourRows, all_rows}
-use Rattle.colour_solver.specs.ConstraintTurns.{contact_slots, contacts_among, joint_slots, joints_among}
+use Rattle.colour_solver.specs.ConstraintVisits.{contact_slots, contacts_among, joint_slots, joints_among}
 use Rattle.colour_solver.specs.States.{as_vector, nobody, total}
 use Rattle.colour_solver.specs.Ticks.{AreSums, Run, ran, start}
 use Rattle.island_runs.specs.Apart.{AreShares, IsApart, IsInRange, IsStepped, ran_of, share_of, sum_below}

@@ -4,7 +4,7 @@ use Rattle.std.proofs.lemmas.List.{take_all, take_more}
 use Rattle.std.proofs.lemmas.List.Elements.{All-cons, All-head, All-nil, All-push, All-tail}
 use Rattle.colour_solver.specs.declared.constraint_row.ConstraintRow.{ConstraintRow}
 use Rattle.colour_solver.specs.declared.constraint_row.ConstraintRow.TheVariants.{Contact, Joint}
-use Rattle.colour_solver.specs.ConstraintTurns.{contacts_among, joints_among}
+use Rattle.colour_solver.specs.ConstraintVisits.{contacts_among, joints_among}
 use Rattle.island_runs.specs.Apart.{AreShares}
 use Rattle.island_solver.specs.Shares.{IsShareBelow, share_at}
 

@@ -2,9 +2,9 @@
 use Rattle.std.specs.Prelude.{◌≡◌, ◌<◌, ℕ, List, length, map, slice_index_or}
 use Rattle.momenta.specs.declared.state.BodyState.{BodyState}
 use Rattle.colour_solver.specs.declared.constraint_row.ConstraintRow.{ConstraintRow}
-use Rattle.colour_solver.specs.declared.turns.Slots.{Slots}
+use Rattle.colour_solver.specs.declared.row_visits.Slots.{Slots}
 use Rattle.colour_solver.specs.ColourRows.{ColourRows, all_rows}
-use Rattle.colour_solver.specs.ConstraintTurns.{contact_slots, contacts_among, is_joint, joint_slots, joints_among}
+use Rattle.colour_solver.specs.ConstraintVisits.{contact_slots, contacts_among, is_joint, joint_slots, joints_among}
 use Rattle.island_runs.specs.ReadBack.{AreRowsBack, cursor}
 use Rattle.island_solver.specs.Shares.{Solved, run_at}
 

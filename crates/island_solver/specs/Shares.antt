@@ -1,12 +1,12 @@
 -- A step that is solved by shares: what all shares read, what a share is given, and what it gives back.
 use Rattle.std.specs.Prelude.{◌≡◌, ◌≤◌, ◌<◌, ◌^◌, ◌&&◌, ℕ, suc, Bool, nat_le, List, [], ◌∷◌, length, map, slice_index_or}
-use Rattle.body_handles.specs.declared.places.TheConstants.{MAX_SLOTS}
+use Rattle.body_handles.specs.declared.slot_table.TheConstants.{MAX_SLOTS}
 use Rattle.fixed_geom.specs.Vectors.{IsWithin, plus}
 use Rattle.fixed_geom.specs.declared.vectors.Vec2.{Vec2}
 use Rattle.momenta.specs.declared.state.BodyState.{BodyState}
 use Rattle.colour_solver.specs.declared.constraint_row.ConstraintRow.{ConstraintRow}
 use Rattle.colour_solver.specs.ColourRows.{ColourRows, all_rows}
-use Rattle.colour_solver.specs.ConstraintTurns.{AreRowsBelow, constraint_slots}
+use Rattle.colour_solver.specs.ConstraintVisits.{AreRowsBelow, constraint_slots}
 use Rattle.colour_solver.specs.States.{AreAllStates, AreSameBeside, HaveCourses, total}
 use Rattle.colour_solver.specs.declared.ticks.StepSums.{StepSums}
 use Rattle.colour_solver.specs.Ticks.{AreSums, Run, added, ran, run_of, start}

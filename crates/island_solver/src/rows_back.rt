@@ -4,8 +4,8 @@ ghost use Rattle.std.specs.Prelude.{◌≡◌, ◌+◌, ◌-◌, ◌++◌, ◌<�
 ghost use Rattle.joint_rows.specs.declared.row.JointRow.{JointRow as TheJointRow};
 ghost use Rattle.colour_solver_base.specs.declared.row.ContactRow.{ContactRow as TheContactRow};
 ghost use Rattle.colour_solver.specs.ColourRows.{all_rows, joints_first};
-ghost use Rattle.colour_solver.specs.ConstraintTurns.{contact_slots, contacts_among, joint_slots, joints_among};
-ghost use Rattle.colour_solver.specs.Turns.{between};
+ghost use Rattle.colour_solver.specs.ConstraintVisits.{contact_slots, contacts_among, joint_slots, joints_among};
+ghost use Rattle.colour_solver.specs.RowVisits.{between};
 ghost use Rattle.colour_solver.specs.declared.constraint_row.ConstraintRow.{ConstraintRow as TheConstraintRow};
 ghost use Rattle.colour_solver.specs.declared.constraint_row.ConstraintRow.TheVariants.{Contact, Joint};
 ghost use Rattle.island_runs.specs.Apart.{AreShares};

@@ -2,7 +2,7 @@
 
 ghost use Rattle.std.specs.Prelude.{◌≡◌, ◌≤◌, ◌^◌, OnOk};
 ghost use Rattle.std.specs.Result.{IsOkUnless};
-ghost use Rattle.colour_solver.specs.ConstraintTurns.{contacts_among, joints_among};
+ghost use Rattle.colour_solver.specs.ConstraintVisits.{contacts_among, joints_among};
 ghost use Rattle.colour_solver.specs.States.{as_vector};
 ghost use Rattle.colour_solver.specs.Ticks.{AreSums};
 ghost use Rattle.island_runs.specs.Apart.{IsInRange};

@@ -3,7 +3,7 @@
 ghost use Rattle.std.specs.Prelude.{◌≡◌, ◌+◌, ◌++◌, ◌∷◌, ◌≤◌, [], cond, filter, length, map, nat_eq, vec_capacity};
 ghost use Rattle.colour_solver.specs.Colour.{is_mover};
 ghost use Rattle.colour_solver.specs.ColourRows.{all_rows, joints_first};
-ghost use Rattle.colour_solver.specs.ConstraintTurns.{contact_slots, contacts_among, joint_slots};
+ghost use Rattle.colour_solver.specs.ConstraintVisits.{contact_slots, contacts_among, joint_slots};
 ghost use Rattle.colour_solver.specs.States.{nobody};
 ghost use Rattle.colour_solver.specs.declared.constraint_row.ConstraintRow.TheVariants.{Contact, Joint};
 ghost use Rattle.island_runs.specs.Apart.{AreRowsOf, hidden, rows_of, share_of};

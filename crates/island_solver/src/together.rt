@@ -2,7 +2,7 @@
 
 ghost use Rattle.std.specs.Prelude.{◌≡◌, true, All};
 ghost use Rattle.colour_solver.specs.ColourRows.{all_rows};
-ghost use Rattle.colour_solver.specs.ConstraintTurns.{constraint_slots};
+ghost use Rattle.colour_solver.specs.ConstraintVisits.{constraint_slots};
 ghost use Rattle.island_runs.specs.Apart.{AreTogether, IsTogether};
 ghost use Rattle.island_solver.specs.Shares.{IsShareBelow, share_at};
 

@@ -10,8 +10,8 @@ use Rattle.islands.specs.Labels.{Labels, label_at, is_in, own_label, split_by}
 use Rattle.islands.specs.Merging.{scattered_from}
 use Rattle.islands.specs.Links.{Edges}
 use Rattle.islands.specs.Partition.{Inside}
-use Rattle.islands.specs.Standing.{AreInverse, Places, node_at, slot_at}
-use Rattle.islands.specs.Packed.{Notes, note_at, Heads, head_at, no_head, own_note, own_head, in_part, InPart, rank_of, next_of, rank_at, next_at, name_of, label_in, labels_of, labels_by, by_slot, IsPart, IsPacked, IsPlaced, IsLowestIn, AreNamed, AreMembers, AreScattered}
+use Rattle.islands.specs.Standing.{AreInverse, NodeEntries, node_at, slot_at}
+use Rattle.islands.specs.Packed.{Notes, note_at, Heads, head_at, no_head, own_note, own_head, in_part, InPart, rank_of, next_of, rank_at, next_at, name_of, label_in, labels_of, labels_by, by_slot, IsPart, IsPacked, IsStanding, IsLowestIn, AreNamed, AreMembers, AreScattered}
 use Rattle.islands.proofs.SlotLemmas.{same_labels}
 use Rattle.islands.proofs.SplitLemmas.{scattered_at, scattered_size, split_out, split_size}
 use Rattle.islands.proofs.PartLemmas.{part_case, part_some, part_of_some, one_part, not_part, short, part_stays, labels_at}
@@ -99,23 +99,23 @@ record HasCome (old : Notes) (heads : Heads) (node slot : ℕ) (new : Notes) (al
   fresh : note_at old slot ≡ None
   none : (s : ℕ) → InPart old node s → ⊥
 
-has_come : (places : Places) (notes : Notes) (heads : Heads) (slot : ℕ) → IsPlaced places notes heads → note_at (by_slot places notes) slot ≡ None → slot < length notes → HasCome (by_slot places notes) heads (node_at places slot) slot (by_slot places (notes_with notes (node_at places slot))) (heads_with heads (node_at places slot) slot)
-has_come places notes heads slot w fresh lt =
-    let node : ℕ = node_at places slot in
+has_come : (node_entries : NodeEntries) (notes : Notes) (heads : Heads) (slot : ℕ) → IsStanding node_entries notes heads → note_at (by_slot node_entries notes) slot ≡ None → slot < length notes → HasCome (by_slot node_entries notes) heads (node_at node_entries slot) slot (by_slot node_entries (notes_with notes (node_at node_entries slot))) (heads_with heads (node_at node_entries slot) slot)
+has_come node_entries notes heads slot w fresh lt =
+    let node : ℕ = node_at node_entries slot in
     let z = w.size in
     let y = w.packed.sizes in
-    let short = node_short places slot w.inverse (omega (arith, lt, z)) in
+    let short = node_short node_entries slot w.inverse (omega (arith, lt, z)) in
     let there : node < length notes = omega (arith, short, z) in
-    let size : length places ≡ length (notes_with notes node) = z ∙ sym (length-set notes node (Some (own_note node))) in
-    let none : note_at notes node ≡ None = sym (slot_note places notes slot z) ∙ fresh in
+    let size : length node_entries ≡ length (notes_with notes node) = z ∙ sym (length-set notes node (Some (own_note node))) in
+    let none : note_at notes node ≡ None = sym (slot_note node_entries notes slot z) ∙ fresh in
     record {
-      size = slots_size places (notes_with notes node) ∙ sym (slots_size places notes);
-      here = slot_note places (notes_with notes node) slot size ∙ note_here notes node there;
-      others = λ s away. slot_note places (notes_with notes node) s size ∙ note_with notes node (node_at places s) (λ e. away (one_slot places s slot w.inverse e)) ∙ sym (slot_note places notes s z);
+      size = slots_size node_entries (notes_with notes node) ∙ sym (slots_size node_entries notes);
+      here = slot_note node_entries (notes_with notes node) slot size ∙ note_here notes node there;
+      others = λ s away. slot_note node_entries (notes_with notes node) s size ∙ note_with notes node (node_at node_entries s) (λ e. away (one_slot node_entries s slot w.inverse e)) ∙ sym (slot_note node_entries notes s z);
       head = head_here heads node slot (omega (arith, there, y));
       heads_stay = λ k away. head_with heads node slot k away;
       fresh = fresh;
-      none = λ s h. none_led notes heads node (node_at places s) w.packed none (slot_in places notes heads node s w h);
+      none = λ s h. none_led notes heads node (node_at node_entries s) w.packed none (slot_in node_entries notes heads node s w h);
     }
 
 come_named : (old : Notes) (heads : Heads) (node slot : ℕ) (new : Notes) (also : Heads) → AreNamed old heads → HasCome old heads node slot new also → AreNamed new also
@@ -152,102 +152,102 @@ come_labels old heads node slot new also lt w =
           ∙ sym (get_or-set_other (labels_of old heads) slot s (Some (own_label slot)) None away ∙ labels_at heads old s)
     ])
 
-pub alone_placed : (places : Places) (notes : Notes) (heads : Heads) (slot : ℕ) → IsPlaced places notes heads → note_at (by_slot places notes) slot ≡ None → slot < length notes
-    → IsPlaced places (slice_set notes (node_at places slot) (Some (own_note (node_at places slot)))) (slice_set heads (node_at places slot) (own_head (node_at places slot) slot))
-alone_placed places notes heads slot w fresh lt =
+pub alone_placed : (node_entries : NodeEntries) (notes : Notes) (heads : Heads) (slot : ℕ) → IsStanding node_entries notes heads → note_at (by_slot node_entries notes) slot ≡ None → slot < length notes
+    → IsStanding node_entries (slice_set notes (node_at node_entries slot) (Some (own_note (node_at node_entries slot)))) (slice_set heads (node_at node_entries slot) (own_head (node_at node_entries slot) slot))
+alone_placed node_entries notes heads slot w fresh lt =
     let z = w.size in
-    let short = node_short places slot w.inverse (omega (arith, lt, z)) in
+    let short = node_short node_entries slot w.inverse (omega (arith, lt, z)) in
     record {
-      packed = alone_packed notes heads (node_at places slot) slot w.packed (sym (slot_note places notes slot z) ∙ fresh) (omega (arith, short, z));
-      size = z ∙ sym (length-set notes (node_at places slot) (Some (own_note (node_at places slot))));
+      packed = alone_packed notes heads (node_at node_entries slot) slot w.packed (sym (slot_note node_entries notes slot z) ∙ fresh) (omega (arith, short, z));
+      size = z ∙ sym (length-set notes (node_at node_entries slot) (Some (own_note (node_at node_entries slot))));
       inverse = w.inverse;
-      named = come_named (by_slot places notes) heads (node_at places slot) slot (by_slot places (notes_with notes (node_at places slot))) (heads_with heads (node_at places slot) slot) w.named (has_come places notes heads slot w fresh lt);
+      named = come_named (by_slot node_entries notes) heads (node_at node_entries slot) slot (by_slot node_entries (notes_with notes (node_at node_entries slot))) (heads_with heads (node_at node_entries slot) slot) w.named (has_come node_entries notes heads slot w fresh lt);
     }
 
-pub alone_labels : (places : Places) (notes : Notes) (heads : Heads) (slot : ℕ) → IsPlaced places notes heads → note_at (by_slot places notes) slot ≡ None → slot < length notes
-    → labels_by places (slice_set notes (node_at places slot) (Some (own_note (node_at places slot)))) (slice_set heads (node_at places slot) (own_head (node_at places slot) slot)) ≡ slice_set (labels_by places notes heads) slot (Some (own_label slot))
-alone_labels places notes heads slot w fresh lt =
-    let z = w.size in let y = slots_size places notes in
-    come_labels (by_slot places notes) heads (node_at places slot) slot (by_slot places (notes_with notes (node_at places slot))) (heads_with heads (node_at places slot) slot) (omega (arith, lt, z, y)) (has_come places notes heads slot w fresh lt)
+pub alone_labels : (node_entries : NodeEntries) (notes : Notes) (heads : Heads) (slot : ℕ) → IsStanding node_entries notes heads → note_at (by_slot node_entries notes) slot ≡ None → slot < length notes
+    → labels_by node_entries (slice_set notes (node_at node_entries slot) (Some (own_note (node_at node_entries slot)))) (slice_set heads (node_at node_entries slot) (own_head (node_at node_entries slot) slot)) ≡ slice_set (labels_by node_entries notes heads) slot (Some (own_label slot))
+alone_labels node_entries notes heads slot w fresh lt =
+    let z = w.size in let y = slots_size node_entries notes in
+    come_labels (by_slot node_entries notes) heads (node_at node_entries slot) slot (by_slot node_entries (notes_with notes (node_at node_entries slot))) (heads_with heads (node_at node_entries slot) slot) (omega (arith, lt, z, y)) (has_come node_entries notes heads slot w fresh lt)
 
 -- ---- a part is scattered
 
 -- the slots of the part's nodes are listed
-listed : (places : Places) (old : Notes) (heads : Heads) (k m : ℕ) (members : List ℕ) → IsPlaced places old heads → AreMembers (by_slot places old) k members → InPart old k m → Contains members (slot_at places m)
-listed places old heads k m members w list h = (list.all (slot_at places m)).1 (node_in places old heads k m w h)
+listed : (node_entries : NodeEntries) (old : Notes) (heads : Heads) (k m : ℕ) (members : List ℕ) → IsStanding node_entries old heads → AreMembers (by_slot node_entries old) k members → InPart old k m → Contains members (slot_at node_entries m)
+listed node_entries old heads k m members w list h = (list.all (slot_at node_entries m)).1 (node_in node_entries old heads k m w h)
 
-member : (places : Places) (old : Notes) (heads : Heads) (k m : ℕ) (members : List ℕ) → IsPlaced places old heads → AreMembers (by_slot places old) k members → Contains members (slot_at places m) → InPart old k m
-member places old heads k m members w list h = sym (ap (in_part k) (node_note places old m w.size w.inverse)) ∙ (list.all (slot_at places m)).0 h
+member : (node_entries : NodeEntries) (old : Notes) (heads : Heads) (k m : ℕ) (members : List ℕ) → IsStanding node_entries old heads → AreMembers (by_slot node_entries old) k members → Contains members (slot_at node_entries m) → InPart old k m
+member node_entries old heads k m members w list h = sym (ap (in_part k) (node_note node_entries old m w.size w.inverse)) ∙ (list.all (slot_at node_entries m)).0 h
 
-not_listed : (places : Places) (old : Notes) (heads : Heads) (k m : ℕ) (members : List ℕ) → IsPlaced places old heads → AreMembers (by_slot places old) k members → in_part k (note_at old m) ≡ false → Contains members (slot_at places m) → ⊥
-not_listed places old heads k m members w list off h = false≢true (sym off ∙ member places old heads k m members w list h)
+not_listed : (node_entries : NodeEntries) (old : Notes) (heads : Heads) (k m : ℕ) (members : List ℕ) → IsStanding node_entries old heads → AreMembers (by_slot node_entries old) k members → in_part k (note_at old m) ≡ false → Contains members (slot_at node_entries m) → ⊥
+not_listed node_entries old heads k m members w list off h = false≢true (sym off ∙ member node_entries old heads k m members w list h)
 
 -- a part that isn't led by a member of the scattered one has none of its members
 led_apart : (old : Notes) (heads : Heads) (k m t : ℕ) → IsPacked old heads → in_part k (note_at old m) ≡ false → InPart old m t → InPart old k t → ⊥
 led_apart old heads k m t p off h on = false≢true (sym off ∙ ap (λ j. in_part j (note_at old m)) (one_part k m (note_at old t) on h) ∙ (p.parts m t h).led)
 
-scattered_one : (places : Places) (old : Notes) (heads : Heads) (k m t : ℕ) (members : List ℕ) (new : Notes) (also : Heads) → IsPlaced places old heads → AreMembers (by_slot places old) k members → AreScattered places old heads members new also → InPart old k m → InPart new m t → t ≡ m
-scattered_one places old heads k m t members new also w list x on h = elim (part_case k (note_at old t)) [
-  | inl was ↦ one_part t m (Some (own_note t)) (part_some t (own_note t) refl) (sym (ap (in_part m) (x.notes_alone t (listed places old heads k t members w list was))) ∙ h)
+scattered_one : (node_entries : NodeEntries) (old : Notes) (heads : Heads) (k m t : ℕ) (members : List ℕ) (new : Notes) (also : Heads) → IsStanding node_entries old heads → AreMembers (by_slot node_entries old) k members → AreScattered node_entries old heads members new also → InPart old k m → InPart new m t → t ≡ m
+scattered_one node_entries old heads k m t members new also w list x on h = elim (part_case k (note_at old t)) [
+  | inl was ↦ one_part t m (Some (own_note t)) (part_some t (own_note t) refl) (sym (ap (in_part m) (x.notes_alone t (listed node_entries old heads k t members w list was))) ∙ h)
   | inr away ↦
-      let was : InPart old m t = sym (ap (in_part m) (x.notes_kept t (not_listed places old heads k t members w list away))) ∙ h in
+      let was : InPart old m t = sym (ap (in_part m) (x.notes_kept t (not_listed node_entries old heads k t members w list away))) ∙ h in
       absurd (false≢true (sym away ∙ ap (λ j. in_part j (note_at old t)) (one_part k m (note_at old m) on (w.packed.parts m t was).led) ∙ was))
 ]
 
-scattered_packed : (places : Places) (old : Notes) (heads : Heads) (k : ℕ) (members : List ℕ) (new : Notes) (also : Heads) → IsPlaced places old heads → AreMembers (by_slot places old) k members → AreScattered places old heads members new also → IsPacked new also
-scattered_packed places old heads k members new also w list x = record {
+scattered_packed : (node_entries : NodeEntries) (old : Notes) (heads : Heads) (k : ℕ) (members : List ℕ) (new : Notes) (also : Heads) → IsStanding node_entries old heads → AreMembers (by_slot node_entries old) k members → AreScattered node_entries old heads members new also → IsPacked new also
+scattered_packed node_entries old heads k members new also w list x = record {
   sizes = x.heads_size ∙ w.packed.sizes ∙ sym x.size;
   parts = λ m s h. elim (part_case k (note_at old m)) [
     | inl on ↦
-        one_is_part new also m (slot_at places m) (x.notes_alone m (listed places old heads k m members w list on)) (x.heads_alone m (listed places old heads k m members w list on)) (λ t g. scattered_one places old heads k m t members new also w list x on g)
+        one_is_part new also m (slot_at node_entries m) (x.notes_alone m (listed node_entries old heads k m members w list on)) (x.heads_alone m (listed node_entries old heads k m members w list on)) (λ t g. scattered_one node_entries old heads k m t members new also w list x on g)
     | inr off ↦
         let free : (t : ℕ) → in_part m (note_at new t) ≡ in_part m (note_at old t) = λ t. elim (part_case k (note_at old t)) [
-          | inl on ↦ ap (in_part m) (x.notes_alone t (listed places old heads k t members w list on)) ∙ not_part t m (Some (own_note t)) (part_some t (own_note t) refl) (λ e. false≢true (sym off ∙ ap (λ u. in_part k (note_at old u)) (sym e) ∙ on))
+          | inl on ↦ ap (in_part m) (x.notes_alone t (listed node_entries old heads k t members w list on)) ∙ not_part t m (Some (own_note t)) (part_some t (own_note t) refl) (λ e. false≢true (sym off ∙ ap (λ u. in_part k (note_at old u)) (sym e) ∙ on))
               ∙ sym (not_part k m (note_at old t) on (λ e. led_apart old heads k m t w.packed off (ap (λ j. in_part j (note_at old t)) (sym e) ∙ on) on))
-          | inr away ↦ ap (in_part m) (x.notes_kept t (not_listed places old heads k t members w list away))
+          | inr away ↦ ap (in_part m) (x.notes_kept t (not_listed node_entries old heads k t members w list away))
         ] in
         part_stays old new heads also m (w.packed.parts m s (sym (free s) ∙ h)) free
-        (λ t g. x.notes_kept t (λ c. led_apart old heads k m t w.packed off g (member places old heads k t members w list c)))
-        (x.heads_kept m (not_listed places old heads k m members w list off))
+        (λ t g. x.notes_kept t (λ c. led_apart old heads k m t w.packed off g (member node_entries old heads k t members w list c)))
+        (x.heads_kept m (not_listed node_entries old heads k m members w list off))
   ];
 }
 
 -- ---- the slots of a part that is scattered
 
 -- what is known of the notes by slot: a member is a part of its own, at the node where it stands
-record AreAlone (places : Places) (old : Notes) (heads : Heads) (k : ℕ) (new : Notes) (also : Heads) : Type 0 where
+record AreAlone (node_entries : NodeEntries) (old : Notes) (heads : Heads) (k : ℕ) (new : Notes) (also : Heads) : Type 0 where
   size : length new ≡ length old
-  notes_alone : (s : ℕ) → InPart old k s → note_at new s ≡ Some (own_note (node_at places s))
-  heads_alone : (s : ℕ) → InPart old k s → head_at also (node_at places s) ≡ own_head (node_at places s) s
+  notes_alone : (s : ℕ) → InPart old k s → note_at new s ≡ Some (own_note (node_at node_entries s))
+  heads_alone : (s : ℕ) → InPart old k s → head_at also (node_at node_entries s) ≡ own_head (node_at node_entries s) s
   notes_kept : (s : ℕ) → in_part k (note_at old s) ≡ false → note_at new s ≡ note_at old s
   heads_kept : (m s : ℕ) → InPart old m s → m ≢ k → head_at also m ≡ head_at heads m
-  apart : (m s t : ℕ) → InPart old m s → InPart old k t → m ≢ k → node_at places t ≢ m
+  apart : (m s t : ℕ) → InPart old m s → InPart old k t → m ≢ k → node_at node_entries t ≢ m
 
-are_alone : (places : Places) (old : Notes) (heads : Heads) (k : ℕ) (members : List ℕ) (new : Notes) (also : Heads) → IsPlaced places old heads → AreMembers (by_slot places old) k members → AreScattered places old heads members new also → AreAlone places (by_slot places old) heads k (by_slot places new) also
-are_alone places old heads k members new also w list x =
-    let size : length places ≡ length new = w.size ∙ sym x.size in
-    let here : (s : ℕ) → InPart (by_slot places old) k s → Contains members (slot_at places (node_at places s)) = λ s h. listed places old heads k (node_at places s) members w list (slot_in places old heads k s w h) in
+are_alone : (node_entries : NodeEntries) (old : Notes) (heads : Heads) (k : ℕ) (members : List ℕ) (new : Notes) (also : Heads) → IsStanding node_entries old heads → AreMembers (by_slot node_entries old) k members → AreScattered node_entries old heads members new also → AreAlone node_entries (by_slot node_entries old) heads k (by_slot node_entries new) also
+are_alone node_entries old heads k members new also w list x =
+    let size : length node_entries ≡ length new = w.size ∙ sym x.size in
+    let here : (s : ℕ) → InPart (by_slot node_entries old) k s → Contains members (slot_at node_entries (node_at node_entries s)) = λ s h. listed node_entries old heads k (node_at node_entries s) members w list (slot_in node_entries old heads k s w h) in
     -- a part of another is led from outside
-    let outside : (m s : ℕ) → InPart (by_slot places old) m s → m ≢ k → in_part k (note_at old m) ≡ false = λ m s h other. not_part m k (note_at old m) (w.packed.parts m (node_at places s) (slot_in places old heads m s w h)).led other in
+    let outside : (m s : ℕ) → InPart (by_slot node_entries old) m s → m ≢ k → in_part k (note_at old m) ≡ false = λ m s h other. not_part m k (note_at old m) (w.packed.parts m (node_at node_entries s) (slot_in node_entries old heads m s w h)).led other in
     record {
-      size = slots_size places new ∙ sym (slots_size places old);
-      notes_alone = λ s h. slot_note places new s size ∙ x.notes_alone (node_at places s) (here s h);
-      heads_alone = λ s h. x.heads_alone (node_at places s) (here s h) ∙ ap (own_head (node_at places s)) (w.inverse.back s);
-      notes_kept = λ s off. slot_note places new s size ∙ x.notes_kept (node_at places s) (not_listed places old heads k (node_at places s) members w list (sym (ap (in_part k) (slot_note places old s w.size)) ∙ off)) ∙ sym (slot_note places old s w.size);
-      heads_kept = λ m s h other. x.heads_kept m (not_listed places old heads k m members w list (outside m s h other));
-      apart = λ m s t h g other e. false≢true (sym (outside m s h other) ∙ ap (λ u. in_part k (note_at old u)) (sym e) ∙ slot_in places old heads k t w g);
+      size = slots_size node_entries new ∙ sym (slots_size node_entries old);
+      notes_alone = λ s h. slot_note node_entries new s size ∙ x.notes_alone (node_at node_entries s) (here s h);
+      heads_alone = λ s h. x.heads_alone (node_at node_entries s) (here s h) ∙ ap (own_head (node_at node_entries s)) (w.inverse.back s);
+      notes_kept = λ s off. slot_note node_entries new s size ∙ x.notes_kept (node_at node_entries s) (not_listed node_entries old heads k (node_at node_entries s) members w list (sym (ap (in_part k) (slot_note node_entries old s w.size)) ∙ off)) ∙ sym (slot_note node_entries old s w.size);
+      heads_kept = λ m s h other. x.heads_kept m (not_listed node_entries old heads k m members w list (outside m s h other));
+      apart = λ m s t h g other e. false≢true (sym (outside m s h other) ∙ ap (λ u. in_part k (note_at old u)) (sym e) ∙ slot_in node_entries old heads k t w g);
     }
 
 -- whoever is in a part now is alone there, or was in that part
-alone_named : (places : Places) (old : Notes) (heads : Heads) (k : ℕ) (new : Notes) (also : Heads) → AreInverse places → AreNamed old heads → AreAlone places old heads k new also → AreNamed new also
-alone_named places old heads k new also w p x m s h = elim (part_case k (note_at old s)) [
+alone_named : (node_entries : NodeEntries) (old : Notes) (heads : Heads) (k : ℕ) (new : Notes) (also : Heads) → AreInverse node_entries → AreNamed old heads → AreAlone node_entries old heads k new also → AreNamed new also
+alone_named node_entries old heads k new also w p x m s h = elim (part_case k (note_at old s)) [
   | inl on ↦
-      let node : node_at places s ≡ m = one_part (node_at places s) m (note_at new s) (part_of_some (node_at places s) (note_at new s) (own_note (node_at places s)) (x.notes_alone s on) refl) h in
+      let node : node_at node_entries s ≡ m = one_part (node_at node_entries s) m (note_at new s) (part_of_some (node_at node_entries s) (note_at new s) (own_note (node_at node_entries s)) (x.notes_alone s on) refl) h in
       let name : name_of also m ≡ s = ap (name_of also) (sym node) ∙ ap (λ (y : Head). y.label.name) (x.heads_alone s on) in
       let only : (t : ℕ) → InPart new m t → s ≡ t = λ t g. elim (part_case k (note_at old t)) [
         | inl also_on ↦
-            let there : node_at places t ≡ m = one_part (node_at places t) m (note_at new t) (part_of_some (node_at places t) (note_at new t) (own_note (node_at places t)) (x.notes_alone t also_on) refl) g in
-            one_slot places s t w (node ∙ sym there)
+            let there : node_at node_entries t ≡ m = one_part (node_at node_entries t) m (note_at new t) (part_of_some (node_at node_entries t) (note_at new t) (own_note (node_at node_entries t)) (x.notes_alone t also_on) refl) g in
+            one_slot node_entries s t w (node ∙ sym there)
         | inr off ↦
             let was : InPart old m t = sym (ap (in_part m) (x.notes_kept t off)) ∙ g in
             absurd (x.apart m t s was on (λ e. false≢true (sym off ∙ ap (λ j. in_part j (note_at old t)) (sym e) ∙ was)) node)
@@ -260,21 +260,21 @@ alone_named places old heads k new also w p x m s h = elim (part_case k (note_at
       let low = p m s was in
       let name : name_of also m ≡ name_of heads m = ap (λ (y : Head). y.label.name) (x.heads_kept m s was other) in
       let back : (t : ℕ) → InPart new m t → InPart old m t = λ t g. elim (part_case k (note_at old t)) [
-        | inl on ↦ absurd (x.apart m s t was on other (one_part (node_at places t) m (note_at new t) (part_of_some (node_at places t) (note_at new t) (own_note (node_at places t)) (x.notes_alone t on) refl) g))
+        | inl on ↦ absurd (x.apart m s t was on other (one_part (node_at node_entries t) m (note_at new t) (part_of_some (node_at node_entries t) (note_at new t) (own_note (node_at node_entries t)) (x.notes_alone t on) refl) g))
         | inr away ↦ sym (ap (in_part m) (x.notes_kept t away)) ∙ g
       ] in
       let still : IsLowestIn new m (name_of heads m) = (ap (in_part m) (x.notes_kept (name_of heads m) (outside (name_of heads m) low.0)) ∙ low.0, λ t g. low.1 t (back t g)) in
       rw name still
 ]
 
-label_kept : (places : Places) (old : Notes) (heads : Heads) (k s : ℕ) (new : Notes) (also : Heads) → AreAlone places old heads k new also → in_part k (note_at old s) ≡ false → (o : Option Note) → note_at old s ≡ o → label_in also o ≡ label_in heads o
-label_kept places old heads k s new also x off None e = refl
-label_kept places old heads k s new also x off (Some n) e =
+label_kept : (node_entries : NodeEntries) (old : Notes) (heads : Heads) (k s : ℕ) (new : Notes) (also : Heads) → AreAlone node_entries old heads k new also → in_part k (note_at old s) ≡ false → (o : Option Note) → note_at old s ≡ o → label_in also o ≡ label_in heads o
+label_kept node_entries old heads k s new also x off None e = refl
+label_kept node_entries old heads k s new also x off (Some n) e =
     let here : InPart old n.part s = part_of_some n.part (note_at old s) n e refl in
     ap (λ (h : Head). Some h.label) (x.heads_kept n.part s here (λ q. false≢true (sym off ∙ ap (λ j. in_part j (note_at old s)) (sym q) ∙ here)))
 
-alone_as_scattered : (places : Places) (old : Notes) (heads : Heads) (name k v : ℕ) (new : Notes) (also : Heads) → AreNamed old heads → InPart old k v → name_of heads k ≡ name → AreAlone places old heads k new also → labels_of new also ≡ scattered_from 0 name (labels_of old heads)
-alone_as_scattered places old heads name k v new also p there named x =
+alone_as_scattered : (node_entries : NodeEntries) (old : Notes) (heads : Heads) (name k v : ℕ) (new : Notes) (also : Heads) → AreNamed old heads → InPart old k v → name_of heads k ≡ name → AreAlone node_entries old heads k new also → labels_of new also ≡ scattered_from 0 name (labels_of old heads)
+alone_as_scattered node_entries old heads name k v new also p there named x =
     same_labels (labels_of new also) (scattered_from 0 name (labels_of old heads))
     (length-map new (label_in also) ∙ x.size ∙ sym (length-map old (label_in heads)) ∙ sym (scattered_size 0 name (labels_of old heads)))
     (λ s.
@@ -283,37 +283,37 @@ alone_as_scattered places old heads name k v new also p there named x =
     ∙ (let same : 0 + s ≡ s = omega arith in ap (λ n. cond (in_part k (note_at old s)) (Some (own_label n)) (label_at (labels_of old heads) s)) same) in
     labels_at also new s ∙ elim (part_case k (note_at old s)) [
       | inl on ↦ ap (label_in also) (x.notes_alone s on) ∙ ap (λ (h : Head). Some h.label) (x.heads_alone s on) ∙ sym (right ∙ rw on refl)
-      | inr off ↦ ap (label_in also) (x.notes_kept s off) ∙ label_kept places old heads k s new also x off (note_at old s) refl ∙ sym (right ∙ rw off (labels_at heads old s))
+      | inr off ↦ ap (label_in also) (x.notes_kept s off) ∙ label_kept node_entries old heads k s new also x off (note_at old s) refl ∙ sym (right ∙ rw off (labels_at heads old s))
     ])
 
-pub scattered_placed : (places : Places) (old : Notes) (heads : Heads) (k : ℕ) (members : List ℕ) (new : Notes) (also : Heads) → IsPlaced places old heads → AreMembers (by_slot places old) k members → AreScattered places old heads members new also → IsPlaced places new also
-scattered_placed places old heads k members new also w list x = record {
-  packed = scattered_packed places old heads k members new also w list x;
+pub scattered_placed : (node_entries : NodeEntries) (old : Notes) (heads : Heads) (k : ℕ) (members : List ℕ) (new : Notes) (also : Heads) → IsStanding node_entries old heads → AreMembers (by_slot node_entries old) k members → AreScattered node_entries old heads members new also → IsStanding node_entries new also
+scattered_placed node_entries old heads k members new also w list x = record {
+  packed = scattered_packed node_entries old heads k members new also w list x;
   size = w.size ∙ sym x.size;
   inverse = w.inverse;
-  named = alone_named places (by_slot places old) heads k (by_slot places new) also w.inverse w.named (are_alone places old heads k members new also w list x);
+  named = alone_named node_entries (by_slot node_entries old) heads k (by_slot node_entries new) also w.inverse w.named (are_alone node_entries old heads k members new also w list x);
 }
 
-pub scattered_labels : (places : Places) (old : Notes) (heads : Heads) (name k : ℕ) (members : List ℕ) (new : Notes) (also : Heads) → IsPlaced places old heads → InPart old k k → name_of heads k ≡ name → AreMembers (by_slot places old) k members → AreScattered places old heads members new also
-    → labels_by places new also ≡ scattered_from 0 name (labels_by places old heads)
-scattered_labels places old heads name k members new also w led named list x =
-    alone_as_scattered places (by_slot places old) heads name k (slot_at places k) (by_slot places new) also w.named (node_in places old heads k k w led) named (are_alone places old heads k members new also w list x)
+pub scattered_labels : (node_entries : NodeEntries) (old : Notes) (heads : Heads) (name k : ℕ) (members : List ℕ) (new : Notes) (also : Heads) → IsStanding node_entries old heads → InPart old k k → name_of heads k ≡ name → AreMembers (by_slot node_entries old) k members → AreScattered node_entries old heads members new also
+    → labels_by node_entries new also ≡ scattered_from 0 name (labels_by node_entries old heads)
+scattered_labels node_entries old heads name k members new also w led named list x =
+    alone_as_scattered node_entries (by_slot node_entries old) heads name k (slot_at node_entries k) (by_slot node_entries new) also w.named (node_in node_entries old heads k k w led) named (are_alone node_entries old heads k members new also w list x)
 
 -- one member more
-pub scatter_more : (places : Places) (old : Notes) (heads : Heads) (members : List ℕ) (n : ℕ) (now : Notes) (also : Heads) → n < length members → get_or members n 0 < length old → length places ≡ length old → length heads ≡ length old → AreInverse places → AreScattered places old heads (take n members) now also
-    → AreScattered places old heads (take (n + 1) members) (slice_set now (node_at places (get_or members n 0)) (Some (own_note (node_at places (get_or members n 0))))) (slice_set also (node_at places (get_or members n 0)) (own_head (node_at places (get_or members n 0)) (get_or members n 0)))
-scatter_more places old heads members n now also lt short long sizes inverse w =
+pub scatter_more : (node_entries : NodeEntries) (old : Notes) (heads : Heads) (members : List ℕ) (n : ℕ) (now : Notes) (also : Heads) → n < length members → get_or members n 0 < length old → length node_entries ≡ length old → length heads ≡ length old → AreInverse node_entries → AreScattered node_entries old heads (take n members) now also
+    → AreScattered node_entries old heads (take (n + 1) members) (slice_set now (node_at node_entries (get_or members n 0)) (Some (own_note (node_at node_entries (get_or members n 0))))) (slice_set also (node_at node_entries (get_or members n 0)) (own_head (node_at node_entries (get_or members n 0)) (get_or members n 0)))
+scatter_more node_entries old heads members n now also lt short long sizes inverse w =
     let m : ℕ = get_or members n 0 in
-    let v : ℕ = node_at places m in
+    let v : ℕ = node_at node_entries m in
     let z = w.size in let y = w.heads_size in
-    let below = node_short places m inverse (omega (arith, short, long)) in
+    let below = node_short node_entries m inverse (omega (arith, short, long)) in
     let notes_there : v < length now = omega (arith, below, z, long) in
     let heads_there : v < length also = omega (arith, below, y, sizes, long) in
-    let own : slot_at places v ≡ m = inverse.back m in
-    let before : (k : ℕ) → k ≢ v → Contains (take n members ++ m ∷ []) (slot_at places k) → Contains (take n members) (slot_at places k) = λ k away h.
-    elim (Contains-push_cases (take n members) m (slot_at places k) h) [ inl g ↦ g | inr e ↦ absurd (away (sym (inverse.forth k) ∙ ap (node_at places) (sym e))) ] in
-    let last : (k : ℕ) → k ≡ v → Contains (take n members ++ m ∷ []) (slot_at places k) = λ k e.
-    let P : ℕ → Type 0 = λ u. Contains (take n members ++ m ∷ []) u in subst P (sym (ap (slot_at places) e ∙ own)) (Contains-push (take n members) m) in
+    let own : slot_at node_entries v ≡ m = inverse.back m in
+    let before : (k : ℕ) → k ≢ v → Contains (take n members ++ m ∷ []) (slot_at node_entries k) → Contains (take n members) (slot_at node_entries k) = λ k away h.
+    elim (Contains-push_cases (take n members) m (slot_at node_entries k) h) [ inl g ↦ g | inr e ↦ absurd (away (sym (inverse.forth k) ∙ ap (node_at node_entries) (sym e))) ] in
+    let last : (k : ℕ) → k ≡ v → Contains (take n members ++ m ∷ []) (slot_at node_entries k) = λ k e.
+    let P : ℕ → Type 0 = λ u. Contains (take n members ++ m ∷ []) u in subst P (sym (ap (slot_at node_entries) e ∙ own)) (Contains-push (take n members) m) in
     rw (take_more members n 0 lt) (record {
       size = length-set now v (Some (own_note v)) ∙ z;
       heads_size = length-set also v (own_head v m) ∙ y;
@@ -322,22 +322,22 @@ scatter_more places old heads members n now also lt short long sizes inverse w =
         | inr away ↦ get_or-set_other now v k (Some (own_note v)) None away ∙ w.notes_alone k (before k away h)
       ];
       heads_alone = λ k h. elim (cases_eq k v) [
-        | inl e ↦ ap (head_at (slice_set also v (own_head v m))) e ∙ get_or-set_same also v (own_head v m) no_head heads_there ∙ sym (ap (λ u. own_head u (slot_at places u)) e ∙ ap (own_head v) own)
+        | inl e ↦ ap (head_at (slice_set also v (own_head v m))) e ∙ get_or-set_same also v (own_head v m) no_head heads_there ∙ sym (ap (λ u. own_head u (slot_at node_entries u)) e ∙ ap (own_head v) own)
         | inr away ↦ get_or-set_other also v k (own_head v m) no_head away ∙ w.heads_alone k (before k away h)
       ];
-      notes_kept = λ k h. get_or-set_other now v k (Some (own_note v)) None (λ e. h (last k e)) ∙ w.notes_kept k (λ g. h (Contains-append_left (take n members) (m ∷ []) (slot_at places k) g));
-      heads_kept = λ k h. get_or-set_other also v k (own_head v m) no_head (λ e. h (last k e)) ∙ w.heads_kept k (λ g. h (Contains-append_left (take n members) (m ∷ []) (slot_at places k) g));
+      notes_kept = λ k h. get_or-set_other now v k (Some (own_note v)) None (λ e. h (last k e)) ∙ w.notes_kept k (λ g. h (Contains-append_left (take n members) (m ∷ []) (slot_at node_entries k) g));
+      heads_kept = λ k h. get_or-set_other also v k (own_head v m) no_head (λ e. h (last k e)) ∙ w.heads_kept k (λ g. h (Contains-append_left (take n members) (m ∷ []) (slot_at node_entries k) g));
     })
 
 -- the ends of links in the island are still there
-pub scattered_ends : (places : Places) (old : Notes) (heads : Heads) (k : ℕ) (members : List ℕ) (new : Notes) (also : Heads) (edges : Edges) → IsPlaced places old heads → InPart old k k → AreMembers (by_slot places old) k members → AreScattered places old heads members new also → Inside (labels_by places old heads) (name_of heads k) edges
-    → (a b : ℕ) → Contains edges (a, b) → IsSome (note_at (by_slot places new) a) × IsSome (note_at (by_slot places new) b)
-scattered_ends places old heads k members new also edges w led list x inside a b h =
+pub scattered_ends : (node_entries : NodeEntries) (old : Notes) (heads : Heads) (k : ℕ) (members : List ℕ) (new : Notes) (also : Heads) (edges : Edges) → IsStanding node_entries old heads → InPart old k k → AreMembers (by_slot node_entries old) k members → AreScattered node_entries old heads members new also → Inside (labels_by node_entries old heads) (name_of heads k) edges
+    → (a b : ℕ) → Contains edges (a, b) → IsSome (note_at (by_slot node_entries new) a) × IsSome (note_at (by_slot node_entries new) b)
+scattered_ends node_entries old heads k members new also edges w led list x inside a b h =
     let o = inside a b h in
     let P : Option Note → Type 0 = λ y. IsSome y in
-    let alone = are_alone places old heads k members new also w list x in
-    let there : (s : ℕ) → is_in (label_at (labels_by places old heads) s) (name_of heads k) ≡ true → IsSome (note_at (by_slot places new) s) = λ s i.
-    subst P (sym (alone.notes_alone s (sym (named_test (by_slot places old) heads (name_of heads k) k (slot_at places k) s w.named (node_in places old heads k k w led) refl) ∙ i))) refl in
+    let alone = are_alone node_entries old heads k members new also w list x in
+    let there : (s : ℕ) → is_in (label_at (labels_by node_entries old heads) s) (name_of heads k) ≡ true → IsSome (note_at (by_slot node_entries new) s) = λ s i.
+    subst P (sym (alone.notes_alone s (sym (named_test (by_slot node_entries old) heads (name_of heads k) k (slot_at node_entries k) s w.named (node_in node_entries old heads k k w led) refl) ∙ i))) refl in
     (there a o.0, there b o.1)
 
 -- a split of an island that isn't there is nothing

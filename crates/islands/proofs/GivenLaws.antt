@@ -6,8 +6,8 @@ use Rattle.std.proofs.lemmas.List.{length-set, length-map}
 use Rattle.islands.specs.declared.label.Label.{Label}
 use Rattle.islands.specs.Labels.{Labels, label_at, is_in, IsIn, own_label, relabel, relabelled, with_state, added, union_label, merged, merged_by}
 use Rattle.islands.specs.declared.parts.Note.{Note}
-use Rattle.islands.specs.Standing.{AreWidened, Places, node_at}
-use Rattle.islands.specs.Packed.{Heads, InPart, IsPlaced, Notes, in_part, label_in, labels_by, note_at}
+use Rattle.islands.specs.Standing.{AreWidened, NodeEntries, node_at}
+use Rattle.islands.specs.Packed.{Heads, InPart, IsStanding, Notes, in_part, label_in, labels_by, note_at}
 use Rattle.islands.specs.Given.{IsNamed, CanCome, labels_with, labels_with_any}
 use Rattle.islands.proofs.LabelLemmas.{added_here, added_other, relabel_at, in_case, in_is, in_some, same_by_name, past}
 use Rattle.islands.proofs.SlotLemmas.{same_labels}
@@ -128,21 +128,21 @@ blank_note zero s = refl
 blank_note (suc n) zero = refl
 blank_note (suc n) (suc s) = blank_note n s
 
-blank_of : (places : Places) (n : ℕ) (heads : Heads) → labels_by places (replicate n None) heads ≡ replicate (length places) None
+blank_of : (node_entries : NodeEntries) (n : ℕ) (heads : Heads) → labels_by node_entries (replicate n None) heads ≡ replicate (length node_entries) None
 blank_of [] n heads = refl
-blank_of (p ∷ places) n heads =
+blank_of (p ∷ node_entries) n heads =
     let front : label_in heads (note_at (replicate n None) p.node) ≡ None = ap (label_in heads) (blank_note n p.node) in
-    let rest : labels_by places (replicate n None) heads ≡ replicate (length places) None = blank_of places n heads in
+    let rest : labels_by node_entries (replicate n None) heads ≡ replicate (length node_entries) None = blank_of node_entries n heads in
     rw (front, rest) refl
 
 -- so many notes, and places for them
-wide_empty : (places now : Places) (n : ℕ) → places ≡ [] → AreWidened places n now → length now ≡ n
-wide_empty places now n none w = let z = w.size in let e : length places ≡ 0 = ap (λ (ps : Places). length ps) none in omega (arith, z, e)
+wide_empty : (node_entries now : NodeEntries) (n : ℕ) → node_entries ≡ [] → AreWidened node_entries n now → length now ≡ n
+wide_empty node_entries now n none w = let z = w.size in let e : length node_entries ≡ 0 = ap (λ (ps : NodeEntries). length ps) none in omega (arith, z, e)
 
-pub blank_labels : (places now : Places) (old new : Notes) (heads : Heads) (n v : ℕ) → places ≡ [] → AreWidened places n now → old ≡ [] → v ≡ 0 → new ≡ take n old ++ replicate (n - v) None → labels_by now new heads ≡ replicate n None
-blank_labels places now old new heads n v empty wide none nothing is =
+pub blank_labels : (node_entries now : NodeEntries) (old new : Notes) (heads : Heads) (n v : ℕ) → node_entries ≡ [] → AreWidened node_entries n now → old ≡ [] → v ≡ 0 → new ≡ take n old ++ replicate (n - v) None → labels_by now new heads ≡ replicate n None
+blank_labels node_entries now old new heads n v empty wide none nothing is =
     let fresh : new ≡ take n [] ++ replicate (n - 0) None = rw (none, nothing) at is in
-    ap (λ (ns : Notes). labels_by now ns heads) (fresh ∙ blank_slots n) ∙ blank_of now n heads ∙ ap (λ k. replicate {A = Option Label} k None) (wide_empty places now n empty wide)
+    ap (λ (ns : Notes). labels_by now ns heads) (fresh ∙ blank_slots n) ∙ blank_of now n heads ∙ ap (λ k. replicate {A = Option Label} k None) (wide_empty node_entries now n empty wide)
 
 -- no part has a node, so that nothing is to be shown of parts
 blank_in : (notes : Notes) (k s : ℕ) → note_at notes s ≡ None → InPart notes k s → ⊥
@@ -152,11 +152,11 @@ blank_size : (n : ℕ) → length (replicate {A = Option Note} n None) ≡ n
 blank_size zero = refl
 blank_size (suc n) = ap suc (blank_size n)
 
-pub blank_placed : (places now : Places) (old new : Notes) (heads : Heads) (n v : ℕ) → places ≡ [] → AreWidened places n now → old ≡ [] → v ≡ 0 → new ≡ take n old ++ replicate (n - v) None → length heads ≡ n → IsPlaced now new heads
-blank_placed places now old new heads n v empty wide none nothing is sizes =
+pub blank_placed : (node_entries now : NodeEntries) (old new : Notes) (heads : Heads) (n v : ℕ) → node_entries ≡ [] → AreWidened node_entries n now → old ≡ [] → v ≡ 0 → new ≡ take n old ++ replicate (n - v) None → length heads ≡ n → IsStanding now new heads
+blank_placed node_entries now old new heads n v empty wide none nothing is sizes =
     let fresh : new ≡ replicate n None = (let e : new ≡ take n [] ++ replicate (n - 0) None = rw (none, nothing) at is in e ∙ blank_slots n) in
     let size : length new ≡ n = ap (λ (ns : Notes). length ns) fresh ∙ blank_size n in
-    let long : length now ≡ length new = wide_empty places now n empty wide ∙ sym size in
+    let long : length now ≡ length new = wide_empty node_entries now n empty wide ∙ sym size in
     let off : (s : ℕ) → note_at new s ≡ None = λ s. ap (λ (ns : Notes). note_at ns s) fresh ∙ blank_note n s in
     record {
       packed = record { sizes = sizes ∙ sym size; parts = λ k s h. absurd (blank_in new k s (off s) h) };

@@ -8,8 +8,8 @@ use Rattle.islands.specs.declared.parts.Note.{Note}
 use Rattle.islands.specs.declared.label.Label.{Label}
 use Rattle.islands.specs.declared.label.IslandState.TheVariants.{Loose}
 use Rattle.islands.specs.Labels.{Labels, label_at, IsIn, added, with_state, loosened, loosened_by, merged}
-use Rattle.islands.specs.Packed.{Notes, note_at, Heads, head_at, part_in, name_of, label_in, labels_of, labels_by, by_slot, IsPlaced, IsKept}
-use Rattle.islands.specs.Standing.{Places}
+use Rattle.islands.specs.Packed.{Notes, note_at, Heads, head_at, part_in, name_of, label_in, labels_of, labels_by, by_slot, IsStanding, IsKept}
+use Rattle.islands.specs.Standing.{NodeEntries}
 use Rattle.islands.proofs.LabelLemmas.{in_is}
 use Rattle.islands.proofs.SplitLemmas.{still_labelled}
 use Rattle.islands.proofs.StandingLemmas.{slots_size}
@@ -18,25 +18,25 @@ use Rattle.islands.proofs.PartLemmas.{labels_at, label_of_part, in_of_part}
 labels_size : (notes : Notes) (heads : Heads) → length (labels_of notes heads) ≡ length notes
 labels_size notes heads = length-map notes (label_in heads)
 
-pub labels_by_size : (places : Places) (notes : Notes) (heads : Heads) → length (labels_by places notes heads) ≡ length places
-labels_by_size places notes heads = labels_size (by_slot places notes) heads ∙ slots_size places notes
+pub labels_by_size : (node_entries : NodeEntries) (notes : Notes) (heads : Heads) → length (labels_by node_entries notes heads) ≡ length node_entries
+labels_by_size node_entries notes heads = labels_size (by_slot node_entries notes) heads ∙ slots_size node_entries notes
 
 -- as many slots, and no less room
-pub kept_same : (places : Places) (old : Notes) (heads : Heads) (now : Places) (new : Notes) (also : Heads) (first one two three four five room : ℕ) → IsKept places old heads first one two room → IsPlaced now new also → length new ≡ length old → first ≤ three → one ≤ four → two ≤ five → IsKept now new also three four five room
-kept_same places old heads now new also first one two three four five room w p size least more rest = let f = w.few in let q = w.places_room in let n = w.notes_room in let h = w.heads_room in
-    record { placed = p; few = omega (arith, f, size); places_room = omega (arith, q, least); notes_room = omega (arith, n, more); heads_room = omega (arith, h, rest) }
+pub kept_same : (node_entries : NodeEntries) (old : Notes) (heads : Heads) (now : NodeEntries) (new : Notes) (also : Heads) (first one two three four five room : ℕ) → IsKept node_entries old heads first one two room → IsStanding now new also → length new ≡ length old → first ≤ three → one ≤ four → two ≤ five → IsKept now new also three four five room
+kept_same node_entries old heads now new also first one two three four five room w p size least more rest = let f = w.few in let q = w.node_entries_room in let n = w.notes_room in let h = w.heads_room in
+    record { standing = p; few = omega (arith, f, size); node_entries_room = omega (arith, q, least); notes_room = omega (arith, n, more); heads_room = omega (arith, h, rest) }
 
 added_few : (labels : Labels) (slot : ℕ) → slot < 2 ^ 32 → length labels ≤ 2 ^ 32 → length (added labels slot) ≤ 2 ^ 32
 added_few labels slot h k = grind (arith, common_steps)
 
-pub kept_added : (places : Places) (old : Notes) (heads : Heads) (now : Places) (new : Notes) (also : Heads) (first one two three four five room slot : ℕ) → IsKept places old heads first one two room → IsPlaced now new also → labels_by now new also ≡ added (labels_by places old heads) slot → slot < 2 ^ 32 → first ≤ three → one ≤ four → two ≤ five → IsKept now new also three four five room
-kept_added places old heads now new also first one two three four five room slot w p e lt least more rest =
-    let f = w.few in let q = w.places_room in let n = w.notes_room in let h = w.heads_room in
-    let before = labels_by_size places old heads in let after = labels_by_size now new also in
-    let old_size = w.placed.size in let new_size = p.size in
-    let few : length (added (labels_by places old heads) slot) ≤ 2 ^ 32 = added_few (labels_by places old heads) slot lt (omega (arith, f, before, old_size)) in
-    let same : length (labels_by now new also) ≡ length (added (labels_by places old heads) slot) = ap length e in
-    record { placed = p; few = omega (arith, few, same, after, new_size); places_room = omega (arith, q, least); notes_room = omega (arith, n, more); heads_room = omega (arith, h, rest) }
+pub kept_added : (node_entries : NodeEntries) (old : Notes) (heads : Heads) (now : NodeEntries) (new : Notes) (also : Heads) (first one two three four five room slot : ℕ) → IsKept node_entries old heads first one two room → IsStanding now new also → labels_by now new also ≡ added (labels_by node_entries old heads) slot → slot < 2 ^ 32 → first ≤ three → one ≤ four → two ≤ five → IsKept now new also three four five room
+kept_added node_entries old heads now new also first one two three four five room slot w p e lt least more rest =
+    let f = w.few in let q = w.node_entries_room in let n = w.notes_room in let h = w.heads_room in
+    let before = labels_by_size node_entries old heads in let after = labels_by_size now new also in
+    let old_size = w.standing.size in let new_size = p.size in
+    let few : length (added (labels_by node_entries old heads) slot) ≤ 2 ^ 32 = added_few (labels_by node_entries old heads) slot lt (omega (arith, f, before, old_size)) in
+    let same : length (labels_by now new also) ≡ length (added (labels_by node_entries old heads) slot) = ap length e in
+    record { standing = p; few = omega (arith, few, same, after, new_size); node_entries_room = omega (arith, q, least); notes_room = omega (arith, n, more); heads_room = omega (arith, h, rest) }
 
 -- ---- whether there is a mover
 

@@ -9,8 +9,8 @@ use Rattle.islands.specs.declared.parts.Head.{Head}
 use Rattle.islands.specs.declared.label.Label.{Label}
 use Rattle.islands.specs.declared.label.IslandState.TheVariants.{Loose}
 use Rattle.islands.specs.Labels.{Labels, label_at, is_in, relabel, relabelled, lowest_member, left_behind, left_alone, taken_out}
-use Rattle.islands.specs.Standing.{AreExchanged, AreInverse, Places, node_at, slot_at}
-use Rattle.islands.specs.Packed.{Notes, note_at, Heads, head_at, in_part, InPart, part_in, name_of, label_in, labels_of, by_slot, labels_by, AreNamed, IsLowestIn, IsPart, IsPacked, IsPlaced, IsDropped, dropped_head, labelled_head, HasNoneBelow, IsLeftBy}
+use Rattle.islands.specs.Standing.{AreExchanged, AreInverse, NodeEntries, node_at, slot_at}
+use Rattle.islands.specs.Packed.{Notes, note_at, Heads, head_at, in_part, InPart, part_in, name_of, label_in, labels_of, by_slot, labels_by, AreNamed, IsLowestIn, IsPart, IsPacked, IsStanding, IsDropped, dropped_head, labelled_head, HasNoneBelow, IsLeftBy}
 use Rattle.islands.proofs.LabelLemmas.{relabel_at}
 use Rattle.islands.proofs.SlotLemmas.{same_labels}
 use Rattle.islands.proofs.PartLemmas.{part_case, one_part, short, labels_at, label_of_part, in_name}
@@ -25,28 +25,28 @@ pub record IsGone (old : Notes) (slot : ℕ) (new : Notes) : Type 0 where
   pub gone : note_at new slot ≡ None
   pub others : (s : ℕ) → s ≢ slot → part_in (note_at new s) ≡ part_in (note_at old s)
 
-pub is_gone : (places now : Places) (old : Notes) (heads : Heads) (k slot : ℕ) (new : Notes) (also : Heads) → IsPlaced places old heads → InPart (by_slot places old) k slot
-    → AreExchanged places slot (slot_at places (head_at heads k).first) now → IsDropped old heads k new also → IsGone (by_slot places old) slot (by_slot now new)
-is_gone places now old heads k slot new also w there x d =
+pub is_gone : (node_entries now : NodeEntries) (old : Notes) (heads : Heads) (k slot : ℕ) (new : Notes) (also : Heads) → IsStanding node_entries old heads → InPart (by_slot node_entries old) k slot
+    → AreExchanged node_entries slot (slot_at node_entries (head_at heads k).first) now → IsDropped old heads k new also → IsGone (by_slot node_entries old) slot (by_slot now new)
+is_gone node_entries now old heads k slot new also w there x d =
     let f : ℕ = (head_at heads k).first in
-    let at : InPart old k (node_at places slot) = slot_in places old heads k slot w there in
-    let p : IsPart old heads k = w.packed.parts k (node_at places slot) at in
-    let front : ℕ = slot_at places f in
+    let at : InPart old k (node_at node_entries slot) = slot_in node_entries old heads k slot w there in
+    let p : IsPart old heads k = w.packed.parts k (node_at node_entries slot) at in
+    let front : ℕ = slot_at node_entries f in
     let here : node_at now slot ≡ f = x.first ∙ w.inverse.forth f in
     let news : length new ≡ length old = ap length d.notes_are ∙ length-set old f None in
     let size : length now ≡ length new = x.size ∙ w.size ∙ sym news in
     record {
-      size = slots_size now new ∙ x.size ∙ sym (slots_size places old);
+      size = slots_size now new ∙ x.size ∙ sym (slots_size node_entries old);
       gone = slot_note now new slot size ∙ ap (note_at new) here ∙ gone_note old heads k new also p d;
       others = λ s away.
           let off : node_at now s ≢ f = λ e. away (one_slot now s slot x.inverse (e ∙ sym here)) in
           ap part_in (slot_note now new s size ∙ stays old heads k new also (node_at now s) d off)
           ∙ (elim (cases_eq s front) [
-            | inl e ↦ ap (λ t. part_in (note_at old t)) (ap (node_at now) e ∙ x.second) ∙ part_of_in k (note_at old (node_at places slot)) at
-                ∙ sym (ap (λ t. part_in (note_at old (node_at places t))) e ∙ ap (λ t. part_in (note_at old t)) (w.inverse.forth f) ∙ part_of_in k (note_at old f) p.first)
+            | inl e ↦ ap (λ t. part_in (note_at old t)) (ap (node_at now) e ∙ x.second) ∙ part_of_in k (note_at old (node_at node_entries slot)) at
+                ∙ sym (ap (λ t. part_in (note_at old (node_at node_entries t))) e ∙ ap (λ t. part_in (note_at old t)) (w.inverse.forth f) ∙ part_of_in k (note_at old f) p.first)
             | inr far ↦ ap (λ t. part_in (note_at old t)) (x.others s away far)
           ])
-          ∙ ap part_in (sym (slot_note places old s w.size));
+          ∙ ap part_in (sym (slot_note node_entries old s w.size));
     }
 
 -- ---- the labels without the mover
@@ -176,21 +176,21 @@ dropped_label old heads k new also m lt d = ap (λ (hs : Heads). (head_at hs m).
 ]
 
 -- what is known once the mover's node has left its thread
-pub record HasLeft (places : Places) (old : Notes) (heads : Heads) (slot : ℕ) (k : ℕ) (now : Places) (new : Notes) (also : Heads) : Type 0 where
+pub record HasLeft (node_entries : NodeEntries) (old : Notes) (heads : Heads) (slot : ℕ) (k : ℕ) (now : NodeEntries) (new : Notes) (also : Heads) : Type 0 where
   pub packed : IsPacked new also
   pub size : length now ≡ length new
   pub notes_size : length new ≡ length old
   pub inverse : AreInverse now
-  pub gone : IsGone (by_slot places old) slot (by_slot now new)
-  pub there : InPart (by_slot places old) k slot
+  pub gone : IsGone (by_slot node_entries old) slot (by_slot now new)
+  pub there : InPart (by_slot node_entries old) k slot
   pub labels : (m : ℕ) → (head_at also m).label ≡ (head_at heads m).label
   pub led : 0 < (head_at also k).count → InPart new k k
   pub none : (head_at also k).count ≡ 0 → (s : ℕ) → InPart (by_slot now new) k s → ⊥
 
-pub has_left : (places now : Places) (old : Notes) (heads : Heads) (k slot : ℕ) (new : Notes) (also : Heads) → IsPlaced places old heads → InPart (by_slot places old) k slot
-    → AreExchanged places slot (slot_at places (head_at heads k).first) now → IsDropped old heads k new also → HasLeft places old heads slot k now new also
-has_left places now old heads k slot new also w there x d =
-    let led : InPart old k k = (w.packed.parts k (node_at places slot) (slot_in places old heads k slot w there)).led in
+pub has_left : (node_entries now : NodeEntries) (old : Notes) (heads : Heads) (k slot : ℕ) (new : Notes) (also : Heads) → IsStanding node_entries old heads → InPart (by_slot node_entries old) k slot
+    → AreExchanged node_entries slot (slot_at node_entries (head_at heads k).first) now → IsDropped old heads k new also → HasLeft node_entries old heads slot k now new also
+has_left node_entries now old heads k slot new also w there x d =
+    let led : InPart old k k = (w.packed.parts k (node_at node_entries slot) (slot_in node_entries old heads k slot w there)).led in
     let packed = dropped_packed old heads k new also w.packed led d in
     let news : length new ≡ length old = ap length d.notes_are ∙ length-set old (head_at heads k).first None in
     let size : length now ≡ length new = x.size ∙ w.size ∙ sym news in
@@ -199,7 +199,7 @@ has_left places now old heads k slot new also w there x d =
       size = size;
       notes_size = news;
       inverse = x.inverse;
-      gone = is_gone places now old heads k slot new also w there x d;
+      gone = is_gone node_entries now old heads k slot new also w there x d;
       there = there;
       labels = λ m. dropped_label old heads k new also m (led_short old heads k w.packed led) d;
       led = λ more. still_led old heads k new also w.packed led d more;
@@ -207,24 +207,24 @@ has_left places now old heads k slot new also w there x d =
     }
 
 -- the name of the part is that of the mover which left, or still stands
-pub left_by : (places : Places) (old : Notes) (heads : Heads) (slot k : ℕ) (now : Places) (new : Notes) (also : Heads) → AreNamed (by_slot places old) heads → HasLeft places old heads slot k now new also → IsLeftBy (by_slot now new) also k slot
-left_by places old heads slot k now new also p l =
+pub left_by : (node_entries : NodeEntries) (old : Notes) (heads : Heads) (slot k : ℕ) (now : NodeEntries) (new : Notes) (also : Heads) → AreNamed (by_slot node_entries old) heads → HasLeft node_entries old heads slot k now new also → IsLeftBy (by_slot now new) also k slot
+left_by node_entries old heads slot k now new also p l =
     let was = p k slot l.there in
     let name : name_of also k ≡ name_of heads k = ap (λ (x : Label). x.name) (l.labels k) in
     record {
       gone = λ t h e. false≢true (sym (ap (in_part k) (ap (note_at (by_slot now new)) e ∙ l.gone.gone)) ∙ h);
-      low = λ t h. let le = was.1 t (was_in (by_slot places old) slot k t (by_slot now new) l.gone h) in omega (arith, le, name);
+      low = λ t h. let le = was.1 t (was_in (by_slot node_entries old) slot k t (by_slot now new) l.gone h) in omega (arith, le, name);
       home = λ away. ap (λ n. in_part k (note_at (by_slot now new) n)) name
-          ∙ same_in k (note_at (by_slot now new) (name_of heads k)) (note_at (by_slot places old) (name_of heads k)) (l.gone.others (name_of heads k) (λ e. away (name ∙ e))) ∙ was.0;
+          ∙ same_in k (note_at (by_slot now new) (name_of heads k)) (note_at (by_slot node_entries old) (name_of heads k)) (l.gone.others (name_of heads k) (λ e. away (name ∙ e))) ∙ was.0;
     }
 
-pub record Leaves (places : Places) (old : Notes) (heads : Heads) (slot : ℕ) (now : Places) (new : Notes) (also : Heads) : Type 0 where
-  pub placed : IsPlaced now new also
-  pub labels : labels_by now new also ≡ taken_out (labels_by places old heads) slot
+pub record Leaves (node_entries : NodeEntries) (old : Notes) (heads : Heads) (slot : ℕ) (now : NodeEntries) (new : Notes) (also : Heads) : Type 0 where
+  pub standing : IsStanding now new also
+  pub labels : labels_by now new also ≡ taken_out (labels_by node_entries old heads) slot
 
-pub leaves_some : (places : Places) (old : Notes) (heads : Heads) (slot k : ℕ) (now : Places) (new : Notes) (also : Heads) (low : ℕ) → AreNamed (by_slot places old) heads → HasLeft places old heads slot k now new also → 0 < (head_at also k).count → IsLowestIn (by_slot now new) k low
-    → Leaves places old heads slot now new (slice_set also k (labelled_head also k (record { name = low; state = Loose })))
-leaves_some places old heads slot k now new also low p l more is =
+pub leaves_some : (node_entries : NodeEntries) (old : Notes) (heads : Heads) (slot k : ℕ) (now : NodeEntries) (new : Notes) (also : Heads) (low : ℕ) → AreNamed (by_slot node_entries old) heads → HasLeft node_entries old heads slot k now new also → 0 < (head_at also k).count → IsLowestIn (by_slot now new) k low
+    → Leaves node_entries old heads slot now new (slice_set also k (labelled_head also k (record { name = low; state = Loose })))
+leaves_some node_entries old heads slot k now new also low p l more is =
     let label : Label = record { name = low; state = Loose } in
     let led = l.led more in
     let lt = led_short new also k l.packed led in
@@ -233,26 +233,26 @@ leaves_some places old heads slot k now new also low p l more is =
       others = λ m away. ap (λ (h : Head). h.label) (head_kept also k m (labelled_head also k label) away) ∙ l.labels m;
     } in
     record {
-      placed = record {
+      standing = record {
         packed = labelled_packed new also k label l.packed led;
         size = l.size;
         inverse = l.inverse;
-        named = left_named (by_slot places old) heads k slot (by_slot now new) (slice_set also k (labelled_head also k label)) low p l.there l.gone is r;
+        named = left_named (by_slot node_entries old) heads k slot (by_slot now new) (slice_set also k (labelled_head also k label)) low p l.there l.gone is r;
       };
-      labels = left_labels (by_slot places old) heads k slot (by_slot now new) (slice_set also k (labelled_head also k label)) low p l.there l.gone is r;
+      labels = left_labels (by_slot node_entries old) heads k slot (by_slot now new) (slice_set also k (labelled_head also k label)) low p l.there l.gone is r;
     }
 
-pub leaves_none : (places : Places) (old : Notes) (heads : Heads) (slot k : ℕ) (now : Places) (new : Notes) (also : Heads) → AreNamed (by_slot places old) heads → HasLeft places old heads slot k now new also → (head_at also k).count ≡ 0 → Leaves places old heads slot now new also
-leaves_none places old heads slot k now new also p l e =
+pub leaves_none : (node_entries : NodeEntries) (old : Notes) (heads : Heads) (slot k : ℕ) (now : NodeEntries) (new : Notes) (also : Heads) → AreNamed (by_slot node_entries old) heads → HasLeft node_entries old heads slot k now new also → (head_at also k).count ≡ 0 → Leaves node_entries old heads slot now new also
+leaves_none node_entries old heads slot k now new also p l e =
     let r : IsRelabelled heads k (head_at heads k).label also = record { here = l.labels k; others = λ m away. l.labels m } in
     record {
-      placed = record {
+      standing = record {
         packed = l.packed;
         size = l.size;
         inverse = l.inverse;
-        named = gone_named (by_slot places old) heads k slot (by_slot now new) also p l.there l.gone (l.none e) r;
+        named = gone_named (by_slot node_entries old) heads k slot (by_slot now new) also p l.there l.gone (l.none e) r;
       };
-      labels = gone_labels (by_slot places old) heads k slot (by_slot now new) also p l.there l.gone (l.none e) r;
+      labels = gone_labels (by_slot node_entries old) heads k slot (by_slot now new) also p l.there l.gone (l.none e) r;
     }
 
 -- ---- the lowest of those that are left
@@ -263,5 +263,5 @@ none_below notes heads k slot l e t h = let le = l.low t h in let away = l.gone 
 pub dropped_size : (old : Notes) (heads : Heads) (k : ℕ) (new : Notes) (also : Heads) → IsDropped old heads k new also → length also ≡ length heads
 dropped_size old heads k new also d = ap length d.heads_are ∙ length-set heads k (dropped_head old heads k)
 
-pub first_short : (places : Places) (notes : Notes) (heads : Heads) (k : ℕ) → IsPlaced places notes heads → InPart notes k k → (head_at heads k).first < length places
-first_short places notes heads k w led = let lt = short notes k (head_at heads k).first (w.packed.parts k k led).first in let z = w.size in omega (arith, lt, z)
+pub first_short : (node_entries : NodeEntries) (notes : Notes) (heads : Heads) (k : ℕ) → IsStanding node_entries notes heads → InPart notes k k → (head_at heads k).first < length node_entries
+first_short node_entries notes heads k w led = let lt = short notes k (head_at heads k).first (w.packed.parts k k led).first in let z = w.size in omega (arith, lt, z)

@@ -10,8 +10,8 @@ use Rattle.std.proofs.lemmas.List.Sorted.{Contains-permutation, IsPermutation-sy
 use Rattle.std.proofs.lemmas.Map.Keys.{IsDistinct-push, IsDistinct-IsPermutation, IsStrictlyIncreasing-from_distinct}
 use Rattle.islands.specs.declared.parts.Note.{Note}
 use Rattle.islands.specs.Labels.{label_at, is_in, IsIn}
-use Rattle.islands.specs.Packed.{Notes, note_at, Heads, head_at, in_part, InPart, part_in, name_of, label_in, labels_of, labels_by, by_slot, AreNamed, IsPart, IsPacked, IsPlaced, IsNamedPart, AreMembers}
-use Rattle.islands.specs.Standing.{AreInverse, Places, node_at, slot_at}
+use Rattle.islands.specs.Packed.{Notes, note_at, Heads, head_at, in_part, InPart, part_in, name_of, label_in, labels_of, labels_by, by_slot, AreNamed, IsPart, IsPacked, IsStanding, IsNamedPart, AreMembers}
+use Rattle.islands.specs.Standing.{AreInverse, NodeEntries, node_at, slot_at}
 use Rattle.islands.proofs.JoinLemmas.{contains_head, contains_tail}
 use Rattle.islands.proofs.LabelLemmas.{in_case, in_is}
 use Rattle.islands.proofs.PartLemmas.{labels_at, label_of_part, named_partition, in_name, count_few}
@@ -20,8 +20,8 @@ use Rattle.islands.proofs.PlacedLemmas.{node_in}
 use Rattle.islands.proofs.ReadingLemmas.{Passed, GoesOn, none_passed, all_passed}
 
 -- the list has the members that were passed, by their slots
-pub record ArePassed (places : Places) (notes : Notes) (k : ℕ) (at : Option ℕ) (members : List ℕ) : Type 0 where
-  pub all : (s : ℕ) → Contains members s ↔ Passed notes k at (node_at places s)
+pub record ArePassed (node_entries : NodeEntries) (notes : Notes) (k : ℕ) (at : Option ℕ) (members : List ℕ) : Type 0 where
+  pub all : (s : ℕ) → Contains members s ↔ Passed notes k at (node_at node_entries s)
   pub apart : IsDistinct nat_eq members
 
 none_contained : (s : ℕ) → Contains [] s → ⊥
@@ -31,36 +31,36 @@ not_any : (y : ℕ) (xs : List ℕ) → (Contains xs y → ⊥) → list_any (na
 not_any y [] h = refl
 not_any y (x ∷ xs) h = rw (ne_eqb y x (λ e. let P : ℕ → Type 0 = λ v. Contains (x ∷ xs) v in h (subst P (sym e) (contains_head x xs)))) (not_any y xs (λ g. h (contains_tail x xs y g)))
 
-pub list_starts : (places : Places) (notes : Notes) (heads : Heads) (k : ℕ) → IsPart notes heads k → ArePassed places notes k (Some (head_at heads k).first) []
+pub list_starts : (node_entries : NodeEntries) (notes : Notes) (heads : Heads) (k : ℕ) → IsPart notes heads k → ArePassed node_entries notes k (Some (head_at heads k).first) []
 unfolding IsDistinct
-list_starts places notes heads k p = record {
-  all = λ s. (λ h. absurd (none_contained s h), λ h. absurd (none_passed notes heads k (node_at places s) p h));
+list_starts node_entries notes heads k p = record {
+  all = λ s. (λ h. absurd (none_contained s h), λ h. absurd (none_passed notes heads k (node_at node_entries s) p h));
   apart = tt;
 }
 
-pub list_goes : (places : Places) (notes : Notes) (k t : ℕ) (at later : Option ℕ) (members : List ℕ) → AreInverse places → GoesOn notes k t at later → ArePassed places notes k at members → ArePassed places notes k later (members ++ slot_at places t ∷ [])
-list_goes places notes k t at later members w on list =
+pub list_goes : (node_entries : NodeEntries) (notes : Notes) (k t : ℕ) (at later : Option ℕ) (members : List ℕ) → AreInverse node_entries → GoesOn notes k t at later → ArePassed node_entries notes k at members → ArePassed node_entries notes k later (members ++ slot_at node_entries t ∷ [])
+list_goes node_entries notes k t at later members w on list =
     let P : ℕ → Type 0 = λ v. Passed notes k later v in
     let Q : ℕ → Type 0 = λ v. Passed notes k at v in
     record {
       all = λ s. (
-        λ h. elim (Contains-push_cases members (slot_at places t) s h) [
-          | inl g ↦ on.still (node_at places s) ((list.all s).0 g)
-          | inr e ↦ subst P (sym (w.forth t) ∙ ap (node_at places) e) on.here
+        λ h. elim (Contains-push_cases members (slot_at node_entries t) s h) [
+          | inl g ↦ on.still (node_at node_entries s) ((list.all s).0 g)
+          | inr e ↦ subst P (sym (w.forth t) ∙ ap (node_at node_entries) e) on.here
         ],
-        λ h. elim (on.only (node_at places s) h) [
-          | inl e ↦ let R : ℕ → Type 0 = λ v. Contains (members ++ slot_at places t ∷ []) v in subst R (ap (slot_at places) (sym e) ∙ w.back s) (Contains-push members (slot_at places t))
-          | inr g ↦ Contains-append_left members (slot_at places t ∷ []) s ((list.all s).1 g)
+        λ h. elim (on.only (node_at node_entries s) h) [
+          | inl e ↦ let R : ℕ → Type 0 = λ v. Contains (members ++ slot_at node_entries t ∷ []) v in subst R (ap (slot_at node_entries) (sym e) ∙ w.back s) (Contains-push members (slot_at node_entries t))
+          | inr g ↦ Contains-append_left members (slot_at node_entries t ∷ []) s ((list.all s).1 g)
         ],
       );
-      apart = IsDistinct-push nat_eq_equiv members (slot_at places t) list.apart (not_any (slot_at places t) members (λ h. on.fresh (subst Q (w.forth t) ((list.all (slot_at places t)).0 h))));
+      apart = IsDistinct-push nat_eq_equiv members (slot_at node_entries t) list.apart (not_any (slot_at node_entries t) members (λ h. on.fresh (subst Q (w.forth t) ((list.all (slot_at node_entries t)).0 h))));
     }
 
-pub list_ends : (places : Places) (notes : Notes) (k : ℕ) (at : Option ℕ) (members : List ℕ) → at ≡ None → length places ≡ length notes → ArePassed places notes k at members → AreMembers (by_slot places notes) k members
-list_ends places notes k at members e size list = record {
+pub list_ends : (node_entries : NodeEntries) (notes : Notes) (k : ℕ) (at : Option ℕ) (members : List ℕ) → at ≡ None → length node_entries ≡ length notes → ArePassed node_entries notes k at members → AreMembers (by_slot node_entries notes) k members
+list_ends node_entries notes k at members e size list = record {
   all = λ s. (
-    λ h. ap (in_part k) (slot_note places notes s size) ∙ ((list.all s).0 h).0,
-    λ h. (list.all s).1 (all_passed notes k (node_at places s) at e (sym (ap (in_part k) (slot_note places notes s size)) ∙ h)),
+    λ h. ap (in_part k) (slot_note node_entries notes s size) ∙ ((list.all s).0 h).0,
+    λ h. (list.all s).1 (all_passed notes k (node_at node_entries s) at e (sym (ap (in_part k) (slot_note node_entries notes s size)) ∙ h)),
   );
   apart = list.apart;
 }
@@ -105,12 +105,12 @@ no_mover_at heads (Some n) name e = let some : Some n.part ≡ None = e in absur
 pub no_mover : (notes : Notes) (heads : Heads) (slot name : ℕ) → part_in (note_at notes slot) ≡ None → is_in (label_at (labels_of notes heads) slot) name ≡ false
 no_mover notes heads slot name e = ap (λ o. is_in o name) (labels_at heads notes slot) ∙ no_mover_at heads (note_at notes slot) name e
 
-pub nobody_listed : (places : Places) (notes : Notes) (heads : Heads) (name : ℕ) (members : List ℕ) → members ≡ [] → IsNamedPart places notes heads name None → (s : ℕ) → Contains members s ↔ IsIn (labels_by places notes heads) name s
-nobody_listed places notes heads name members e none s = (λ h. absurd (let P : List ℕ → Type 0 = λ xs. Contains xs s in none_contained s (subst P e h)), λ h. absurd (false≢true (sym (none s) ∙ h)))
+pub nobody_listed : (node_entries : NodeEntries) (notes : Notes) (heads : Heads) (name : ℕ) (members : List ℕ) → members ≡ [] → IsNamedPart node_entries notes heads name None → (s : ℕ) → Contains members s ↔ IsIn (labels_by node_entries notes heads) name s
+nobody_listed node_entries notes heads name members e none s = (λ h. absurd (let P : List ℕ → Type 0 = λ xs. Contains xs s in none_contained s (subst P e h)), λ h. absurd (false≢true (sym (none s) ∙ h)))
 
-pub all_listed : (places : Places) (notes : Notes) (heads : Heads) (name part : ℕ) (members : List ℕ) → IsPlaced places notes heads → IsNamedPart places notes heads name (Some part) → ((s : ℕ) → Contains members s ↔ InPart (by_slot places notes) part s) → (s : ℕ) → Contains members s ↔ IsIn (labels_by places notes heads) name s
-all_listed places notes heads name part members w named all s =
-    let test = named_test (by_slot places notes) heads name part (slot_at places part) s w.named (node_in places notes heads part part w named.0) named.1 in
+pub all_listed : (node_entries : NodeEntries) (notes : Notes) (heads : Heads) (name part : ℕ) (members : List ℕ) → IsStanding node_entries notes heads → IsNamedPart node_entries notes heads name (Some part) → ((s : ℕ) → Contains members s ↔ InPart (by_slot node_entries notes) part s) → (s : ℕ) → Contains members s ↔ IsIn (labels_by node_entries notes heads) name s
+all_listed node_entries notes heads name part members w named all s =
+    let test = named_test (by_slot node_entries notes) heads name part (slot_at node_entries part) s w.named (node_in node_entries notes heads part part w named.0) named.1 in
     (λ h. test ∙ (all s).0 h, λ h. (all s).1 (sym test ∙ h))
 
 pub none_twice : (members : List ℕ) → members ≡ [] → IsDistinct nat_eq members

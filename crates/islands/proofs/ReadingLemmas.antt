@@ -3,7 +3,7 @@ use Rattle.std.proofs.Common.{◌≡◌, ◌≢◌, ℕ, suc, ◌<◌, ◌≤◌
 use Rattle.std.specs.Prelude.{min}
 use Rattle.std.proofs.lemmas.Bool.{cases_lt, cases_eq}
 use Rattle.islands.specs.Packed.{Notes, note_at, Heads, head_at, in_part, InPart, rank_at, next_at, ahead, IsPart, IsLowestIn, by_slot}
-use Rattle.islands.specs.Standing.{AreInverse, Places, node_at, slot_at}
+use Rattle.islands.specs.Standing.{AreInverse, NodeEntries, node_at, slot_at}
 use Rattle.islands.proofs.PartLemmas.{goes_down}
 use Rattle.islands.proofs.StandingLemmas.{node_note, slot_note}
 
@@ -56,33 +56,33 @@ goes_on notes heads k t at later p h e f =
 -- ---- the lowest
 
 -- a member that is no higher than any that was passed, by their slots
-pub record IsLowestPassed (places : Places) (notes : Notes) (k : ℕ) (at : Option ℕ) (low : ℕ) : Type 0 where
-  pub here : InPart (by_slot places notes) k low
-  pub least : (t : ℕ) → Passed notes k at t → low ≤ slot_at places t
+pub record IsLowestPassed (node_entries : NodeEntries) (notes : Notes) (k : ℕ) (at : Option ℕ) (low : ℕ) : Type 0 where
+  pub here : InPart (by_slot node_entries notes) k low
+  pub least : (t : ℕ) → Passed notes k at t → low ≤ slot_at node_entries t
 
-pub lowest_starts : (places : Places) (notes : Notes) (heads : Heads) (k : ℕ) → IsPart notes heads k → length places ≡ length notes → AreInverse places → IsLowestPassed places notes k (Some (head_at heads k).first) (slot_at places k)
-lowest_starts places notes heads k p e w = record {
-  here = ap (in_part k) (node_note places notes k e w) ∙ p.led;
+pub lowest_starts : (node_entries : NodeEntries) (notes : Notes) (heads : Heads) (k : ℕ) → IsPart notes heads k → length node_entries ≡ length notes → AreInverse node_entries → IsLowestPassed node_entries notes k (Some (head_at heads k).first) (slot_at node_entries k)
+lowest_starts node_entries notes heads k p e w = record {
+  here = ap (in_part k) (node_note node_entries notes k e w) ∙ p.led;
   least = λ t h. absurd (none_passed notes heads k t p h);
 }
 
-pub lowest_goes : (places : Places) (notes : Notes) (k t : ℕ) (at later : Option ℕ) (low : ℕ) → length places ≡ length notes → AreInverse places → InPart notes k t → GoesOn notes k t at later → IsLowestPassed places notes k at low → IsLowestPassed places notes k later (min low (slot_at places t))
-lowest_goes places notes k t at later low e w here on is = elim (cases_lt low (slot_at places t)) [
-  | inl lt ↦ let least : min low (slot_at places t) ≡ low = omega (arith, lt) in rw least (record {
+pub lowest_goes : (node_entries : NodeEntries) (notes : Notes) (k t : ℕ) (at later : Option ℕ) (low : ℕ) → length node_entries ≡ length notes → AreInverse node_entries → InPart notes k t → GoesOn notes k t at later → IsLowestPassed node_entries notes k at low → IsLowestPassed node_entries notes k later (min low (slot_at node_entries t))
+lowest_goes node_entries notes k t at later low e w here on is = elim (cases_lt low (slot_at node_entries t)) [
+  | inl lt ↦ let least : min low (slot_at node_entries t) ≡ low = omega (arith, lt) in rw least (record {
     here = is.here;
-    least = λ s h. elim (on.only s h) [ inl same ↦ let q : slot_at places s ≡ slot_at places t = ap (slot_at places) same in omega (arith, q, lt) | inr g ↦ is.least s g ];
+    least = λ s h. elim (on.only s h) [ inl same ↦ let q : slot_at node_entries s ≡ slot_at node_entries t = ap (slot_at node_entries) same in omega (arith, q, lt) | inr g ↦ is.least s g ];
   })
-  | inr le ↦ let least : min low (slot_at places t) ≡ slot_at places t = omega (arith, le) in rw least (record {
-    here = ap (in_part k) (node_note places notes t e w) ∙ here;
-    least = λ s h. elim (on.only s h) [ inl same ↦ let q : slot_at places s ≡ slot_at places t = ap (slot_at places) same in omega (arith, q) | inr g ↦ let m = is.least s g in omega (arith, m, le) ];
+  | inr le ↦ let least : min low (slot_at node_entries t) ≡ slot_at node_entries t = omega (arith, le) in rw least (record {
+    here = ap (in_part k) (node_note node_entries notes t e w) ∙ here;
+    least = λ s h. elim (on.only s h) [ inl same ↦ let q : slot_at node_entries s ≡ slot_at node_entries t = ap (slot_at node_entries) same in omega (arith, q) | inr g ↦ let m = is.least s g in omega (arith, m, le) ];
   })
 ]
 
-pub lowest_ends : (places : Places) (notes : Notes) (k : ℕ) (at : Option ℕ) (low : ℕ) → at ≡ None → length places ≡ length notes → AreInverse places → IsLowestPassed places notes k at low → IsLowestIn (by_slot places notes) k low
-lowest_ends places notes k at low e size w is = (
+pub lowest_ends : (node_entries : NodeEntries) (notes : Notes) (k : ℕ) (at : Option ℕ) (low : ℕ) → at ≡ None → length node_entries ≡ length notes → AreInverse node_entries → IsLowestPassed node_entries notes k at low → IsLowestIn (by_slot node_entries notes) k low
+lowest_ends node_entries notes k at low e size w is = (
   is.here,
   λ s h.
-      let le = is.least (node_at places s) (all_passed notes k (node_at places s) at e (sym (ap (in_part k) (slot_note places notes s size)) ∙ h)) in
+      let le = is.least (node_at node_entries s) (all_passed notes k (node_at node_entries s) at e (sym (ap (in_part k) (slot_note node_entries notes s size)) ∙ h)) in
       let back = w.back s in
       omega (arith, le, back),
 )

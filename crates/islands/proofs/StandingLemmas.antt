@@ -4,8 +4,8 @@ use Rattle.std.proofs.lemmas.Grind.{common_steps}
 use Rattle.std.proofs.lemmas.Bool.{cases_lt, cases_eq, eqb-true, false≢true}
 use Rattle.std.proofs.lemmas.List.{length-set, length-map}
 use Rattle.islands.specs.declared.parts.Note.{Note}
-use Rattle.islands.specs.declared.places.Place.{Place}
-use Rattle.islands.specs.Standing.{Places, AreExchanged, AreInverse, AreWidened, IsPut, node_at, own_place, slot_at}
+use Rattle.islands.specs.declared.thread_nodes.NodeEntry.{NodeEntry}
+use Rattle.islands.specs.Standing.{NodeEntries, AreExchanged, AreInverse, AreWidened, IsPut, node_at, own_node_entry, slot_at}
 use Rattle.islands.specs.Packed.{Notes, Heads, by_slot, head_at, in_part, label_in, note_at, part_in}
 use Rattle.islands.proofs.PartLemmas.{note_past}
 
@@ -16,63 +16,63 @@ past_end [] i d h = refl
 past_end (x ∷ xs) zero d h = absurd (omega arith)
 past_end (x ∷ xs) (suc i) d h = past_end xs i d (omega arith)
 
-pub node_past : (places : Places) (s : ℕ) → length places ≤ s → node_at places s ≡ s
-node_past places s h = ap (λ (p : Place). p.node) (past_end places s (own_place s) h)
+pub node_past : (node_entries : NodeEntries) (s : ℕ) → length node_entries ≤ s → node_at node_entries s ≡ s
+node_past node_entries s h = ap (λ (p : NodeEntry). p.node) (past_end node_entries s (own_node_entry s) h)
 
-pub slot_past : (places : Places) (k : ℕ) → length places ≤ k → slot_at places k ≡ k
-slot_past places k h = ap (λ (p : Place). p.slot) (past_end places k (own_place k) h)
+pub slot_past : (node_entries : NodeEntries) (k : ℕ) → length node_entries ≤ k → slot_at node_entries k ≡ k
+slot_past node_entries k h = ap (λ (p : NodeEntry). p.slot) (past_end node_entries k (own_node_entry k) h)
 
 -- a slot that isn't past the end stands at a node that isn't
-pub node_short : (places : Places) (s : ℕ) → AreInverse places → s < length places → node_at places s < length places
-node_short places s w lt = elim (cases_lt (node_at places s) (length places)) [
+pub node_short : (node_entries : NodeEntries) (s : ℕ) → AreInverse node_entries → s < length node_entries → node_at node_entries s < length node_entries
+node_short node_entries s w lt = elim (cases_lt (node_at node_entries s) (length node_entries)) [
   | inl h ↦ h
-  | inr h ↦ let e : node_at places s ≡ s = sym (slot_past places (node_at places s) h) ∙ w.back s in absurd (omega (arith, h, lt, e))
+  | inr h ↦ let e : node_at node_entries s ≡ s = sym (slot_past node_entries (node_at node_entries s) h) ∙ w.back s in absurd (omega (arith, h, lt, e))
 ]
 
-pub one_slot : (places : Places) (s t : ℕ) → AreInverse places → node_at places s ≡ node_at places t → s ≡ t
-one_slot places s t w e = sym (w.back s) ∙ ap (slot_at places) e ∙ w.back t
+pub one_slot : (node_entries : NodeEntries) (s t : ℕ) → AreInverse node_entries → node_at node_entries s ≡ node_at node_entries t → s ≡ t
+one_slot node_entries s t w e = sym (w.back s) ∙ ap (slot_at node_entries) e ∙ w.back t
 
 -- ---- a slot is put at a node
 
-set_here : (places : Places) (i : ℕ) (p d : Place) → i < length places → get_or (slice_set places i p) i d ≡ p
-set_here places i p d lt = get_or-set_same places i p d lt
+set_here : (node_entries : NodeEntries) (i : ℕ) (p d : NodeEntry) → i < length node_entries → get_or (slice_set node_entries i p) i d ≡ p
+set_here node_entries i p d lt = get_or-set_same node_entries i p d lt
 
-abbrev pub with_node : Places → ℕ → ℕ → Places
-with_node places slot node = slice_set places slot (record { node = node; slot = slot_at places slot })
+abbrev pub with_node : NodeEntries → ℕ → ℕ → NodeEntries
+with_node node_entries slot node = slice_set node_entries slot (record { node = node; slot = slot_at node_entries slot })
 
-abbrev pub with_slot : Places → ℕ → ℕ → Places
-with_slot places node slot = slice_set places node (record { node = node_at places node; slot = slot })
+abbrev pub with_slot : NodeEntries → ℕ → ℕ → NodeEntries
+with_slot node_entries node slot = slice_set node_entries node (record { node = node_at node_entries node; slot = slot })
 
-slot_stays : (old : Places) (slot node k : ℕ) → slot < length old → slot_at (with_node old slot node) k ≡ slot_at old k
+slot_stays : (old : NodeEntries) (slot node k : ℕ) → slot < length old → slot_at (with_node old slot node) k ≡ slot_at old k
 slot_stays old slot node k lt = elim (cases_eq k slot) [
-  | inl e ↦ rw e (ap (λ (p : Place). p.slot) (set_here old slot (record { node = node; slot = slot_at old slot }) (own_place slot) lt))
-  | inr away ↦ ap (λ (p : Place). p.slot) (get_or-set_other old slot k (record { node = node; slot = slot_at old slot }) (own_place k) away)
+  | inl e ↦ rw e (ap (λ (p : NodeEntry). p.slot) (set_here old slot (record { node = node; slot = slot_at old slot }) (own_node_entry slot) lt))
+  | inr away ↦ ap (λ (p : NodeEntry). p.slot) (get_or-set_other old slot k (record { node = node; slot = slot_at old slot }) (own_node_entry k) away)
 ]
 
-node_stays : (old : Places) (node slot s : ℕ) → node < length old → node_at (with_slot old node slot) s ≡ node_at old s
+node_stays : (old : NodeEntries) (node slot s : ℕ) → node < length old → node_at (with_slot old node slot) s ≡ node_at old s
 node_stays old node slot s lt = elim (cases_eq s node) [
-  | inl e ↦ rw e (ap (λ (p : Place). p.node) (set_here old node (record { node = node_at old node; slot = slot }) (own_place node) lt))
-  | inr away ↦ ap (λ (p : Place). p.node) (get_or-set_other old node s (record { node = node_at old node; slot = slot }) (own_place s) away)
+  | inl e ↦ rw e (ap (λ (p : NodeEntry). p.node) (set_here old node (record { node = node_at old node; slot = slot }) (own_node_entry node) lt))
+  | inr away ↦ ap (λ (p : NodeEntry). p.node) (get_or-set_other old node s (record { node = node_at old node; slot = slot }) (own_node_entry s) away)
 ]
 
-pub is_put : (old : Places) (slot node : ℕ) (now new : Places) → slot < length old → node < length old → now ≡ with_node old slot node → new ≡ with_slot now node slot → IsPut old slot node new
+pub is_put : (old : NodeEntries) (slot node : ℕ) (now new : NodeEntries) → slot < length old → node < length old → now ≡ with_node old slot node → new ≡ with_slot now node slot → IsPut old slot node new
 is_put old slot node now new short there first then =
     let size : length now ≡ length old = ap length first ∙ length-set old slot (record { node = node; slot = slot_at old slot }) in
     let lt : node < length now = omega (arith, there, size) in
-    let nodes : (s : ℕ) → node_at new s ≡ node_at now s = λ s. ap (λ (ps : Places). node_at ps s) then ∙ node_stays now node slot s lt in
+    let nodes : (s : ℕ) → node_at new s ≡ node_at now s = λ s. ap (λ (ps : NodeEntries). node_at ps s) then ∙ node_stays now node slot s lt in
     record {
       size = ap length then ∙ length-set now node (record { node = node_at now node; slot = slot }) ∙ size;
-      node_here = nodes slot ∙ ap (λ (ps : Places). node_at ps slot) first ∙ ap (λ (p : Place). p.node) (set_here old slot (record { node = node; slot = slot_at old slot }) (own_place slot) short);
-      nodes = λ s away. nodes s ∙ ap (λ (ps : Places). node_at ps s) first ∙ ap (λ (p : Place). p.node) (get_or-set_other old slot s (record { node = node; slot = slot_at old slot }) (own_place s) away);
-      slot_here = ap (λ (ps : Places). slot_at ps node) then ∙ ap (λ (p : Place). p.slot) (set_here now node (record { node = node_at now node; slot = slot }) (own_place node) lt);
-      slots = λ k away. ap (λ (ps : Places). slot_at ps k) then ∙ ap (λ (p : Place). p.slot) (get_or-set_other now node k (record { node = node_at now node; slot = slot }) (own_place k) away)
-          ∙ ap (λ (ps : Places). slot_at ps k) first ∙ slot_stays old slot node k short;
+      node_here = nodes slot ∙ ap (λ (ps : NodeEntries). node_at ps slot) first ∙ ap (λ (p : NodeEntry). p.node) (set_here old slot (record { node = node; slot = slot_at old slot }) (own_node_entry slot) short);
+      nodes = λ s away. nodes s ∙ ap (λ (ps : NodeEntries). node_at ps s) first ∙ ap (λ (p : NodeEntry). p.node) (get_or-set_other old slot s (record { node = node; slot = slot_at old slot }) (own_node_entry s) away);
+      slot_here = ap (λ (ps : NodeEntries). slot_at ps node) then ∙ ap (λ (p : NodeEntry). p.slot) (set_here now node (record { node = node_at now node; slot = slot }) (own_node_entry node) lt);
+      slots = λ k away. ap (λ (ps : NodeEntries). slot_at ps k) then ∙ ap (λ (p : NodeEntry). p.slot) (get_or-set_other now node k (record { node = node_at now node; slot = slot }) (own_node_entry k) away)
+          ∙ ap (λ (ps : NodeEntries). slot_at ps k) first ∙ slot_stays old slot node k short;
     }
 
 -- ---- two slots change places
 
 -- where a slot stands after two were put where the other stood
-record ArePut (old : Places) (a b : ℕ) (new : Places) : Type 0 where
+record ArePut (old : NodeEntries) (a b : ℕ) (new : NodeEntries) : Type 0 where
   first : node_at new a ≡ node_at old b
   second : node_at new b ≡ node_at old a
   others : (s : ℕ) → s ≢ a → s ≢ b → node_at new s ≡ node_at old s
@@ -80,7 +80,7 @@ record ArePut (old : Places) (a b : ℕ) (new : Places) : Type 0 where
   slot_second : slot_at new (node_at old a) ≡ b
   slot_others : (k : ℕ) → k ≢ node_at old a → k ≢ node_at old b → slot_at new k ≡ slot_at old k
 
-both_put : (old : Places) (a b : ℕ) (now new : Places) → AreInverse old → IsPut old a (node_at old b) now → IsPut now b (node_at old a) new → ArePut old a b new
+both_put : (old : NodeEntries) (a b : ℕ) (now new : NodeEntries) → AreInverse old → IsPut old a (node_at old b) now → IsPut now b (node_at old a) new → ArePut old a b new
 both_put old a b now new w p q = record {
   first = elim (cases_eq a b) [
     | inl e ↦ ap (node_at new) e ∙ q.node_here ∙ ap (node_at old) e
@@ -96,7 +96,7 @@ both_put old a b now new w p q = record {
   slot_others = λ k far away. q.slots k far ∙ p.slots k away;
 }
 
-put_inverse : (old : Places) (a b : ℕ) (new : Places) → AreInverse old → ArePut old a b new → AreInverse new
+put_inverse : (old : NodeEntries) (a b : ℕ) (new : NodeEntries) → AreInverse old → ArePut old a b new → AreInverse new
 put_inverse old a b new w p = record {
   back = λ s. elim (cases_eq s a) [
     | inl e ↦ rw e (ap (slot_at new) p.first ∙ p.slot_first)
@@ -116,7 +116,7 @@ put_inverse old a b new w p = record {
   ];
 }
 
-pub are_exchanged : (old : Places) (a b : ℕ) (now new : Places) → AreInverse old → IsPut old a (node_at old b) now → IsPut now b (node_at old a) new → AreExchanged old a b new
+pub are_exchanged : (old : NodeEntries) (a b : ℕ) (now new : NodeEntries) → AreInverse old → IsPut old a (node_at old b) now → IsPut now b (node_at old a) new → AreExchanged old a b new
 are_exchanged old a b now new w p q =
     let put = both_put old a b now new w p q in
     record { size = q.size ∙ p.size; inverse = put_inverse old a b new w put; first = put.first; second = put.second; others = put.others }
@@ -124,47 +124,47 @@ are_exchanged old a b now new w p q =
 -- ---- more slots
 
 -- the list has so many slots, and each stands where it stood
-pub record AreSoMany (old : Places) (n : ℕ) (now : Places) : Type 0 where
+pub record AreSoMany (old : NodeEntries) (n : ℕ) (now : NodeEntries) : Type 0 where
   pub size : length now ≡ n
   pub nodes : (s : ℕ) → node_at now s ≡ node_at old s
   pub slots : (k : ℕ) → slot_at now k ≡ slot_at old k
 
-one_more : (now new : Places) (n : ℕ) → length now ≡ n → length new ≡ length (now ++ own_place n ∷ []) → length new ≡ n + 1
+one_more : (now new : NodeEntries) (n : ℕ) → length now ≡ n → length new ≡ length (now ++ own_node_entry n ∷ []) → length new ≡ n + 1
 one_more now new n z long = grind (arith, common_steps)
 
-pub many_widened : (old now : Places) (n m : ℕ) → AreSoMany old m now → m ≡ length old + (n - length old) → AreWidened old n now
+pub many_widened : (old now : NodeEntries) (n m : ℕ) → AreSoMany old m now → m ≡ length old + (n - length old) → AreWidened old n now
 many_widened old now n m w e = record { size = w.size ∙ e; nodes = w.nodes; slots = w.slots }
 
-pub widened_inverse : (old : Places) (n : ℕ) (new : Places) → AreWidened old n new → AreInverse old → AreInverse new
+pub widened_inverse : (old : NodeEntries) (n : ℕ) (new : NodeEntries) → AreWidened old n new → AreInverse old → AreInverse new
 widened_inverse old n new e w = record {
   back = λ s. e.slots (node_at new s) ∙ ap (slot_at old) (e.nodes s) ∙ w.back s;
   forth = λ k. e.nodes (slot_at new k) ∙ ap (node_at old) (e.slots k) ∙ w.forth k;
 }
 
-pub own_inverse : (n : ℕ) (new : Places) → AreWidened [] n new → AreInverse new
+pub own_inverse : (n : ℕ) (new : NodeEntries) → AreWidened [] n new → AreInverse new
 own_inverse n new e = widened_inverse [] n new e (record { back = λ s. refl; forth = λ k. refl })
 
 -- ---- the notes by slot
 
-pub slots_size : (places : Places) (notes : Notes) → length (by_slot places notes) ≡ length places
-slots_size places notes = length-map places (λ (p : Place). note_at notes p.node)
+pub slots_size : (node_entries : NodeEntries) (notes : Notes) → length (by_slot node_entries notes) ≡ length node_entries
+slots_size node_entries notes = length-map node_entries (λ (p : NodeEntry). note_at notes p.node)
 
-slot_note_in : (places : Places) (notes : Notes) (s : ℕ) (d : Place) → s < length places → note_at (by_slot places notes) s ≡ note_at notes (get_or places s d).node
+slot_note_in : (node_entries : NodeEntries) (notes : Notes) (s : ℕ) (d : NodeEntry) → s < length node_entries → note_at (by_slot node_entries notes) s ≡ note_at notes (get_or node_entries s d).node
 slot_note_in [] notes s d lt = absurd (omega arith)
-slot_note_in (p ∷ places) notes zero d lt = refl
-slot_note_in (p ∷ places) notes (suc s) d lt = slot_note_in places notes s d (omega arith)
+slot_note_in (p ∷ node_entries) notes zero d lt = refl
+slot_note_in (p ∷ node_entries) notes (suc s) d lt = slot_note_in node_entries notes s d (omega arith)
 
-pub slot_note : (places : Places) (notes : Notes) (s : ℕ) → length places ≡ length notes → note_at (by_slot places notes) s ≡ note_at notes (node_at places s)
-slot_note places notes s e = elim (cases_lt s (length places)) [
-  | inl lt ↦ slot_note_in places notes s (own_place s) lt
+pub slot_note : (node_entries : NodeEntries) (notes : Notes) (s : ℕ) → length node_entries ≡ length notes → note_at (by_slot node_entries notes) s ≡ note_at notes (node_at node_entries s)
+slot_note node_entries notes s e = elim (cases_lt s (length node_entries)) [
+  | inl lt ↦ slot_note_in node_entries notes s (own_node_entry s) lt
   | inr le ↦
-      let z = slots_size places notes in
-      note_past (by_slot places notes) s (omega (arith, z, le)) ∙ sym (ap (note_at notes) (node_past places s le) ∙ note_past notes s (omega (arith, e, le)))
+      let z = slots_size node_entries notes in
+      note_past (by_slot node_entries notes) s (omega (arith, z, le)) ∙ sym (ap (note_at notes) (node_past node_entries s le) ∙ note_past notes s (omega (arith, e, le)))
 ]
 
 -- the note of the slot that stands at a node
-pub node_note : (places : Places) (notes : Notes) (k : ℕ) → length places ≡ length notes → AreInverse places → note_at (by_slot places notes) (slot_at places k) ≡ note_at notes k
-node_note places notes k e w = slot_note places notes (slot_at places k) e ∙ ap (note_at notes) (w.forth k)
+pub node_note : (node_entries : NodeEntries) (notes : Notes) (k : ℕ) → length node_entries ≡ length notes → AreInverse node_entries → note_at (by_slot node_entries notes) (slot_at node_entries k) ≡ note_at notes k
+node_note node_entries notes k e w = slot_note node_entries notes (slot_at node_entries k) e ∙ ap (note_at notes) (w.forth k)
 
 -- ---- notes of one part
 

@@ -5,8 +5,8 @@ use Rattle.std.proofs.lemmas.List.{length-map}
 use Rattle.islands.specs.declared.parts.Head.{Head}
 use Rattle.islands.specs.declared.parts.Note.{Note}
 use Rattle.islands.specs.Labels.{Labels, label_at, padded}
-use Rattle.islands.specs.Standing.{AreWidened, Places, node_at}
-use Rattle.islands.specs.Packed.{AreNamed, Heads, InPart, IsKept, IsLowestIn, IsPacked, IsPlaced, Notes, by_slot, filled, head_at, in_part, label_in, labels_by, labels_of, name_of, no_head, note_at}
+use Rattle.islands.specs.Standing.{AreWidened, NodeEntries, node_at}
+use Rattle.islands.specs.Packed.{AreNamed, Heads, InPart, IsKept, IsLowestIn, IsPacked, IsStanding, Notes, by_slot, filled, head_at, in_part, label_in, labels_by, labels_of, name_of, no_head, note_at}
 use Rattle.islands.proofs.PartLemmas.{labels_at, part_stays}
 use Rattle.islands.proofs.SlotLemmas.{same_labels}
 use Rattle.islands.proofs.StandingLemmas.{slot_note, slots_size, widened_inverse}
@@ -46,12 +46,12 @@ wide_label : (heads : Heads) (n : ℕ) (o : Option Note) → label_in (filled no
 wide_label heads n None = refl
 wide_label heads n (Some m) = ap (λ (h : Head). Some h.label) (wide_head heads n m.part)
 
-wide_size : {X : Type 0} (places : Places) (xs : List X) (n : ℕ) (d : X) (now : Places) → length places ≡ length xs → AreWidened places n now → length now ≡ length (filled d xs n)
-wide_size places xs n d now e w = let z = w.size in grind (arith, common_steps, z, e)
+wide_size : {X : Type 0} (node_entries : NodeEntries) (xs : List X) (n : ℕ) (d : X) (now : NodeEntries) → length node_entries ≡ length xs → AreWidened node_entries n now → length now ≡ length (filled d xs n)
+wide_size node_entries xs n d now e w = let z = w.size in grind (arith, common_steps, z, e)
 
 -- the notes by slot are as they were
-wide_slot : (places : Places) (notes : Notes) (n : ℕ) (now : Places) (s : ℕ) → length places ≡ length notes → AreWidened places n now → note_at (by_slot now (filled None notes n)) s ≡ note_at (by_slot places notes) s
-wide_slot places notes n now s e w = slot_note now (filled None notes n) s (wide_size places notes n None now e w) ∙ wide_note notes n (node_at now s) ∙ ap (note_at notes) (w.nodes s) ∙ sym (slot_note places notes s e)
+wide_slot : (node_entries : NodeEntries) (notes : Notes) (n : ℕ) (now : NodeEntries) (s : ℕ) → length node_entries ≡ length notes → AreWidened node_entries n now → note_at (by_slot now (filled None notes n)) s ≡ note_at (by_slot node_entries notes) s
+wide_slot node_entries notes n now s e w = slot_note now (filled None notes n) s (wide_size node_entries notes n None now e w) ∙ wide_note notes n (node_at now s) ∙ ap (note_at notes) (w.nodes s) ∙ sym (slot_note node_entries notes s e)
 
 wide_named : (old new : Notes) (heads also : Heads) → AreNamed old heads → ((s : ℕ) → note_at new s ≡ note_at old s) → ((k : ℕ) → head_at also k ≡ head_at heads k) → AreNamed new also
 wide_named old new heads also p notes heads_stay m s h =
@@ -61,46 +61,46 @@ wide_named old new heads also p notes heads_stay m s h =
     let low : IsLowestIn new m (name_of heads m) = (ap (in_part m) (notes (name_of heads m)) ∙ was.0, λ t g. was.1 t (back t g)) in
     rw name low
 
-pub wide_placed : (places : Places) (notes : Notes) (heads : Heads) (n : ℕ) (now : Places) → IsPlaced places notes heads → AreWidened places n now → IsPlaced now (filled None notes n) (filled no_head heads n)
-wide_placed places notes heads n now w x = record {
+pub wide_placed : (node_entries : NodeEntries) (notes : Notes) (heads : Heads) (n : ℕ) (now : NodeEntries) → IsStanding node_entries notes heads → AreWidened node_entries n now → IsStanding now (filled None notes n) (filled no_head heads n)
+wide_placed node_entries notes heads n now w x = record {
   packed = wide_packed notes heads n w.packed;
-  size = wide_size places notes n None now w.size x;
-  inverse = widened_inverse places n now x w.inverse;
-  named = wide_named (by_slot places notes) (by_slot now (filled None notes n)) heads (filled no_head heads n) w.named (λ s. wide_slot places notes n now s w.size x) (wide_head heads n);
+  size = wide_size node_entries notes n None now w.size x;
+  inverse = widened_inverse node_entries n now x w.inverse;
+  named = wide_named (by_slot node_entries notes) (by_slot now (filled None notes n)) heads (filled no_head heads n) w.named (λ s. wide_slot node_entries notes n now s w.size x) (wide_head heads n);
 }
 
-padded_size : (labels : Labels) (places : Places) (n : ℕ) (now : Places) → length labels ≡ length places → AreWidened places n now → length now ≡ length (padded labels n)
-padded_size labels places n now e w = let z = w.size in grind (arith, common_steps, z, e)
+padded_size : (labels : Labels) (node_entries : NodeEntries) (n : ℕ) (now : NodeEntries) → length labels ≡ length node_entries → AreWidened node_entries n now → length now ≡ length (padded labels n)
+padded_size labels node_entries n now e w = let z = w.size in grind (arith, common_steps, z, e)
 
-pub wide_labels : (places : Places) (notes : Notes) (heads : Heads) (n : ℕ) (now : Places) → IsPlaced places notes heads → AreWidened places n now → labels_by now (filled None notes n) (filled no_head heads n) ≡ padded (labels_by places notes heads) n
-wide_labels places notes heads n now w x =
+pub wide_labels : (node_entries : NodeEntries) (notes : Notes) (heads : Heads) (n : ℕ) (now : NodeEntries) → IsStanding node_entries notes heads → AreWidened node_entries n now → labels_by now (filled None notes n) (filled no_head heads n) ≡ padded (labels_by node_entries notes heads) n
+wide_labels node_entries notes heads n now w x =
     let also : Heads = filled no_head heads n in
     let new : Notes = by_slot now (filled None notes n) in
-    let old : Notes = by_slot places notes in
+    let old : Notes = by_slot node_entries notes in
     same_labels (labels_of new also) (padded (labels_of old heads) n)
-    (length-map new (label_in also) ∙ slots_size now (filled None notes n) ∙ padded_size (labels_of old heads) places n now (length-map old (label_in heads) ∙ slots_size places notes) x)
-    (λ s. labels_at also new s ∙ ap (label_in also) (wide_slot places notes n now s w.size x) ∙ wide_label heads n (note_at old s) ∙ sym (wide_at (labels_of old heads) n s ∙ labels_at heads old s))
+    (length-map new (label_in also) ∙ slots_size now (filled None notes n) ∙ padded_size (labels_of old heads) node_entries n now (length-map old (label_in heads) ∙ slots_size node_entries notes) x)
+    (λ s. labels_at also new s ∙ ap (label_in also) (wide_slot node_entries notes n now s w.size x) ∙ wide_label heads n (note_at old s) ∙ sym (wide_at (labels_of old heads) n s ∙ labels_at heads old s))
 
 padded_long : (labels : Labels) (n : ℕ) → n ≤ length (padded labels n)
 padded_long labels n = grind (arith, common_steps)
 
-pub wide_fresh : (places : Places) (notes : Notes) (heads : Heads) (n slot : ℕ) (now : Places) (new : Notes) (also : Heads) → labels_by now new also ≡ padded (labels_by places notes heads) n → note_at (by_slot places notes) slot ≡ None → note_at (by_slot now new) slot ≡ None
-wide_fresh places notes heads n slot now new also e fresh =
-    no_note (by_slot now new) also slot (ap (λ (ls : Labels). label_at ls slot) e ∙ wide_at (labels_by places notes heads) n slot ∙ labels_at heads (by_slot places notes) slot ∙ ap (label_in heads) fresh)
+pub wide_fresh : (node_entries : NodeEntries) (notes : Notes) (heads : Heads) (n slot : ℕ) (now : NodeEntries) (new : Notes) (also : Heads) → labels_by now new also ≡ padded (labels_by node_entries notes heads) n → note_at (by_slot node_entries notes) slot ≡ None → note_at (by_slot now new) slot ≡ None
+wide_fresh node_entries notes heads n slot now new also e fresh =
+    no_note (by_slot now new) also slot (ap (λ (ls : Labels). label_at ls slot) e ∙ wide_at (labels_by node_entries notes heads) n slot ∙ labels_at heads (by_slot node_entries notes) slot ∙ ap (label_in heads) fresh)
 
 wide_few : (labels : Labels) (n : ℕ) → n ≤ 2 ^ 32 → length labels ≤ 2 ^ 32 → length (padded labels n) ≤ 2 ^ 32
 wide_few labels n h k = grind (arith, common_steps)
 
-pub kept_wide : (places : Places) (old : Notes) (heads : Heads) (now : Places) (new : Notes) (also : Heads) (before_first one two three four five room n : ℕ) → IsKept places old heads before_first one two room → IsPlaced now new also → labels_by now new also ≡ padded (labels_by places old heads) n → n ≤ 2 ^ 32 → before_first ≤ three → one ≤ four → two ≤ five → IsKept now new also three four five room
-kept_wide places old heads now new also before_first one two three four five room n w p e lt first more rest =
+pub kept_wide : (node_entries : NodeEntries) (old : Notes) (heads : Heads) (now : NodeEntries) (new : Notes) (also : Heads) (before_first one two three four five room n : ℕ) → IsKept node_entries old heads before_first one two room → IsStanding now new also → labels_by now new also ≡ padded (labels_by node_entries old heads) n → n ≤ 2 ^ 32 → before_first ≤ three → one ≤ four → two ≤ five → IsKept now new also three four five room
+kept_wide node_entries old heads now new also before_first one two three four five room n w p e lt first more rest =
     let f = w.few in
-    let q = w.places_room in
+    let q = w.node_entries_room in
     let a = w.notes_room in
     let b = w.heads_room in
-    let before = labels_by_size places old heads in
-    let old_size = w.placed.size in
+    let before = labels_by_size node_entries old heads in
+    let old_size = w.standing.size in
     let after = labels_by_size now new also in
     let new_size = p.size in
-    let few : length (padded (labels_by places old heads) n) ≤ 2 ^ 32 = wide_few (labels_by places old heads) n lt (omega (arith, f, before, old_size)) in
-    let same : length (labels_by now new also) ≡ length (padded (labels_by places old heads) n) = ap (λ (ls : Labels). length ls) e in
-    record { placed = p; few = omega (arith, few, same, after, new_size); places_room = omega (arith, q, first); notes_room = omega (arith, a, more); heads_room = omega (arith, b, rest) }
+    let few : length (padded (labels_by node_entries old heads) n) ≤ 2 ^ 32 = wide_few (labels_by node_entries old heads) n lt (omega (arith, f, before, old_size)) in
+    let same : length (labels_by now new also) ≡ length (padded (labels_by node_entries old heads) n) = ap (λ (ls : Labels). length ls) e in
+    record { standing = p; few = omega (arith, few, same, after, new_size); node_entries_room = omega (arith, q, first); notes_room = omega (arith, a, more); heads_room = omega (arith, b, rest) }

@@ -4,9 +4,9 @@ use Rattle.std.specs.List.{slice_index_or, IsDistinct}
 use Rattle.islands.specs.declared.parts.Note.{Note}
 use Rattle.islands.specs.declared.parts.Head.{Head}
 use Rattle.islands.specs.declared.label.Label.{Label}
-use Rattle.islands.specs.declared.places.Place.{Place}
+use Rattle.islands.specs.declared.thread_nodes.NodeEntry.{NodeEntry}
 use Rattle.islands.specs.Labels.{Labels, label_at, is_in, own_label}
-use Rattle.islands.specs.Standing.{AreInverse, Places, slot_at}
+use Rattle.islands.specs.Standing.{AreInverse, NodeEntries, slot_at}
 
 -- by node the note of the mover there, if there is one
 abbrev pub Notes : Type 0
@@ -73,12 +73,12 @@ abbrev pub labels_of : Notes → Heads → Labels
 labels_of notes heads = map (label_in heads) notes
 
 -- the notes by slot
-abbrev pub by_slot : Places → Notes → Notes
-by_slot places notes = map (λ (p : Place). note_at notes p.node) places
+abbrev pub by_slot : NodeEntries → Notes → Notes
+by_slot node_entries notes = map (λ (p : NodeEntry). note_at notes p.node) node_entries
 
 -- the labels by slot, of notes by node
-abbrev pub labels_by : Places → Notes → Heads → Labels
-labels_by places notes heads = labels_of (by_slot places notes) heads
+abbrev pub labels_by : NodeEntries → Notes → Heads → Labels
+labels_by node_entries notes heads = labels_of (by_slot node_entries notes) heads
 
 -- ---- what holds
 
@@ -118,16 +118,16 @@ abbrev pub AreNamed : Notes → Heads → Type 0
 AreNamed notes heads = (k s : ℕ) → InPart notes k s → IsLowestIn notes k (name_of heads k)
 
 -- the threads are as above, the slots stand along them, and each part is named by its lowest slot
-pub record IsPlaced (places : Places) (notes : Notes) (heads : Heads) : Type 0 where
+pub record IsStanding (node_entries : NodeEntries) (notes : Notes) (heads : Heads) : Type 0 where
   pub packed : IsPacked notes heads
-  pub size : length places ≡ length notes
-  pub inverse : AreInverse places
-  pub named : AreNamed (by_slot places notes) heads
+  pub size : length node_entries ≡ length notes
+  pub inverse : AreInverse node_entries
+  pub named : AreNamed (by_slot node_entries notes) heads
 
 -- the part is the island of this name, or there is no such island
-abbrev pub IsNamedPart : Places → Notes → Heads → ℕ → Option ℕ → Type 0
-IsNamedPart places notes heads name None = (s : ℕ) → is_in (label_at (labels_by places notes heads) s) name ≡ false
-IsNamedPart places notes heads name (Some part) = InPart notes part part × (name_of heads part ≡ name)
+abbrev pub IsNamedPart : NodeEntries → Notes → Heads → ℕ → Option ℕ → Type 0
+IsNamedPart node_entries notes heads name None = (s : ℕ) → is_in (label_at (labels_by node_entries notes heads) s) name ≡ false
+IsNamedPart node_entries notes heads name (Some part) = InPart notes part part × (name_of heads part ≡ name)
 
 -- the members of a part, each once, where the notes are by slot
 pub record AreMembers (notes : Notes) (part : ℕ) (members : List ℕ) : Type 0 where
@@ -135,10 +135,10 @@ pub record AreMembers (notes : Notes) (part : ℕ) (members : List ℕ) : Type 0
   pub apart : IsDistinct nat_eq members
 
 -- What the type keeps, beside the room in its lists.
-pub record IsKept (places : Places) (notes : Notes) (heads : Heads) (places_capacity notes_capacity heads_capacity room : ℕ) : Type 0 where
-  pub placed : IsPlaced places notes heads
+pub record IsKept (node_entries : NodeEntries) (notes : Notes) (heads : Heads) (node_entries_capacity notes_capacity heads_capacity room : ℕ) : Type 0 where
+  pub standing : IsStanding node_entries notes heads
   pub few : length notes ≤ 2 ^ 32
-  pub places_room : room ≤ places_capacity
+  pub node_entries_room : room ≤ node_entries_capacity
   pub notes_room : room ≤ notes_capacity
   pub heads_room : room ≤ heads_capacity
 
@@ -204,10 +204,10 @@ filled item items n = items ++ replicate (n - length items) item
 -- ---- a part is scattered
 
 -- the notes and heads once each of the members, which are slots, is a part of its own
-pub record AreScattered (places : Places) (old : Notes) (heads : Heads) (members : List ℕ) (new : Notes) (also : Heads) : Type 0 where
+pub record AreScattered (node_entries : NodeEntries) (old : Notes) (heads : Heads) (members : List ℕ) (new : Notes) (also : Heads) : Type 0 where
   pub size : length new ≡ length old
   pub heads_size : length also ≡ length heads
-  pub notes_alone : (k : ℕ) → Contains members (slot_at places k) → note_at new k ≡ Some (own_note k)
-  pub heads_alone : (k : ℕ) → Contains members (slot_at places k) → head_at also k ≡ own_head k (slot_at places k)
-  pub notes_kept : (k : ℕ) → (Contains members (slot_at places k) → ⊥) → note_at new k ≡ note_at old k
-  pub heads_kept : (k : ℕ) → (Contains members (slot_at places k) → ⊥) → head_at also k ≡ head_at heads k
+  pub notes_alone : (k : ℕ) → Contains members (slot_at node_entries k) → note_at new k ≡ Some (own_note k)
+  pub heads_alone : (k : ℕ) → Contains members (slot_at node_entries k) → head_at also k ≡ own_head k (slot_at node_entries k)
+  pub notes_kept : (k : ℕ) → (Contains members (slot_at node_entries k) → ⊥) → note_at new k ≡ note_at old k
+  pub heads_kept : (k : ℕ) → (Contains members (slot_at node_entries k) → ⊥) → head_at also k ≡ head_at heads k

@@ -1,28 +1,28 @@
 -- Where the slots stand: each at a node of its own. Nodes are numbered as slots are, and past the end each slot stands at the node of its own number.
 use Rattle.std.specs.Prelude.{◌≡◌, ◌≢◌, ℕ, ◌+◌, ◌-◌, List, length}
 use Rattle.std.specs.List.{slice_index_or}
-use Rattle.islands.specs.declared.places.Place.{Place}
+use Rattle.islands.specs.declared.thread_nodes.NodeEntry.{NodeEntry}
 
 -- by slot the node where it stands, and by node the slot that stands there
-abbrev pub Places : Type 0
-Places = List Place
+abbrev pub NodeEntries : Type 0
+NodeEntries = List NodeEntry
 
-abbrev pub own_place : ℕ → Place
-own_place number = record { node = number; slot = number }
+abbrev pub own_node_entry : ℕ → NodeEntry
+own_node_entry number = record { node = number; slot = number }
 
-abbrev pub node_at : Places → ℕ → ℕ
-node_at places slot = (slice_index_or places slot (own_place slot)).node
+abbrev pub node_at : NodeEntries → ℕ → ℕ
+node_at node_entries slot = (slice_index_or node_entries slot (own_node_entry slot)).node
 
-abbrev pub slot_at : Places → ℕ → ℕ
-slot_at places node = (slice_index_or places node (own_place node)).slot
+abbrev pub slot_at : NodeEntries → ℕ → ℕ
+slot_at node_entries node = (slice_index_or node_entries node (own_node_entry node)).slot
 
 -- one says what the other says
-pub record AreInverse (places : Places) : Type 0 where
-  pub back : (s : ℕ) → slot_at places (node_at places s) ≡ s
-  pub forth : (k : ℕ) → node_at places (slot_at places k) ≡ k
+pub record AreInverse (node_entries : NodeEntries) : Type 0 where
+  pub back : (s : ℕ) → slot_at node_entries (node_at node_entries s) ≡ s
+  pub forth : (k : ℕ) → node_at node_entries (slot_at node_entries k) ≡ k
 
 -- the slot stands at the node now, and neither list says anything else that is new
-pub record IsPut (old : Places) (slot node : ℕ) (new : Places) : Type 0 where
+pub record IsPut (old : NodeEntries) (slot node : ℕ) (new : NodeEntries) : Type 0 where
   pub size : length new ≡ length old
   pub node_here : node_at new slot ≡ node
   pub nodes : (s : ℕ) → s ≢ slot → node_at new s ≡ node_at old s
@@ -30,7 +30,7 @@ pub record IsPut (old : Places) (slot node : ℕ) (new : Places) : Type 0 where
   pub slots : (k : ℕ) → k ≢ node → slot_at new k ≡ slot_at old k
 
 -- two slots have changed places
-pub record AreExchanged (old : Places) (a b : ℕ) (new : Places) : Type 0 where
+pub record AreExchanged (old : NodeEntries) (a b : ℕ) (new : NodeEntries) : Type 0 where
   pub size : length new ≡ length old
   pub inverse : AreInverse new
   pub first : node_at new a ≡ node_at old b
@@ -38,7 +38,7 @@ pub record AreExchanged (old : Places) (a b : ℕ) (new : Places) : Type 0 where
   pub others : (s : ℕ) → s ≢ a → s ≢ b → node_at new s ≡ node_at old s
 
 -- at least n slots, and each stands where it stood
-pub record AreWidened (old : Places) (n : ℕ) (new : Places) : Type 0 where
+pub record AreWidened (old : NodeEntries) (n : ℕ) (new : NodeEntries) : Type 0 where
   pub size : length new ≡ length old + (n - length old)
   pub nodes : (s : ℕ) → node_at new s ≡ node_at old s
   pub slots : (k : ℕ) → slot_at new k ≡ slot_at old k

@@ -15,10 +15,10 @@ use crate::label::{IslandState, Label};
 use crate::leaving::leave;
 use crate::listing::{fill_members, members_of};
 use crate::parts::{Head, Note, label_in, part_at, set_state};
-use crate::places::Place;
 use crate::room::reserve_in_all;
 use crate::scratch::SplitScratch;
 use crate::splitting::split_island;
+use crate::thread_nodes::NodeEntry;
 use fixed_geom::Refusal;
 use std::alloc::Global;
 use std::marker::Model;
@@ -28,7 +28,7 @@ use std::marker::Model;
 #[derive(Drop)]
 pub struct Islands {
     // By slot the node where it stands, and back.
-    places: Vec<Place>,
+    node_entries: Vec<NodeEntry>,
     // By node what is kept of the mover there, and of the part that is led from there.
     notes: Vec<Option<Note>>,
     heads: Vec<Head>,
@@ -42,9 +42,9 @@ impl Model for Islands {
 
     ghost Value = { Grouped };
 
-    ghost view = { λ a. record { labels = labels_by a.places.items a.notes.items a.heads.items; room = a.room } };
+    ghost view = { λ a. record { labels = labels_by a.node_entries.items a.notes.items a.heads.items; room = a.room } };
 
-    ghost invariant = { λ a. IsKept a.places.items a.notes.items a.heads.items (vec_capacity a.places) (vec_capacity a.notes) (vec_capacity a.heads) a.room };
+    ghost invariant = { λ a. IsKept a.node_entries.items a.notes.items a.heads.items (vec_capacity a.node_entries) (vec_capacity a.notes) (vec_capacity a.heads) a.room };
 }
 
 impl Islands {
@@ -54,7 +54,7 @@ impl Islands {
         ensures room { result.room ≡ 0 }
     {
         Islands {
-            places: Vec::new(alloc),
+            node_entries: Vec::new(alloc),
             notes: Vec::new(alloc),
             heads: Vec::new(alloc),
             room: 0,
@@ -69,7 +69,7 @@ impl Islands {
     {
         let alloc = *self.notes.allocator();
         Ok(Islands {
-            places: Vec::from_slice(alloc, self.places.as_slice())?,
+            node_entries: Vec::from_slice(alloc, self.node_entries.as_slice())?,
             notes: Vec::from_slice(alloc, self.notes.as_slice())?,
             heads: Vec::from_slice(alloc, self.heads.as_slice())?,
             room: 0,
@@ -84,7 +84,7 @@ impl Islands {
         ensures refused { OnErr result (self.new ≡ self.old) }
         ensures memory_only { IsOkUnless result Refusal.NoMemory }
     {
-        reserve_in_all(&mut self.places, slots)?;
+        reserve_in_all(&mut self.node_entries, slots)?;
         reserve_in_all(&mut self.notes, slots)?;
         reserve_in_all(&mut self.heads, slots)?;
         self.room = self.room.max(slots);
@@ -98,7 +98,12 @@ impl Islands {
         ensures labels { self.new.labels ≡ added self.old.labels slot }
         ensures room { self.new.room ≡ self.old.room }
     {
-        add_part(&mut self.places, &mut self.notes, &mut self.heads, slot);
+        add_part(
+            &mut self.node_entries,
+            &mut self.notes,
+            &mut self.heads,
+            slot,
+        );
     }
 
     /// Lets the slots that have a label, or none, go up to this one at least.
@@ -108,7 +113,7 @@ impl Islands {
         ensures room { self.new.room ≡ self.old.room }
     {
         widen_lists(
-            &mut self.places,
+            &mut self.node_entries,
             &mut self.notes,
             &mut self.heads,
             slot as usize + 1,
@@ -123,7 +128,7 @@ impl Islands {
         ensures labels { self.new.labels ≡ merged self.old.labels a b }
         ensures room { self.new.room ≡ self.old.room }
     {
-        merge_movers(&self.places, &mut self.notes, &mut self.heads, a, b);
+        merge_movers(&self.node_entries, &mut self.notes, &mut self.heads, a, b);
     }
 
     /// Makes the island of a mover loose: it has lost a link.
@@ -132,7 +137,7 @@ impl Islands {
         ensures labels { self.new.labels ≡ loosened self.old.labels slot }
         ensures room { self.new.room ≡ self.old.room }
     {
-        let part = part_at(&self.places, &self.notes, slot);
+        let part = part_at(&self.node_entries, &self.notes, slot);
         set_state(&self.notes, &mut self.heads, part, IslandState::Loose);
     }
 
@@ -143,7 +148,12 @@ impl Islands {
         ensures labels { self.new.labels ≡ taken_out self.old.labels slot }
         ensures room { self.new.room ≡ self.old.room }
     {
-        leave(&mut self.places, &mut self.notes, &mut self.heads, slot);
+        leave(
+            &mut self.node_entries,
+            &mut self.notes,
+            &mut self.heads,
+            slot,
+        );
     }
 
     /// Puts an island to rest.
@@ -153,7 +163,7 @@ impl Islands {
         ensures labels { self.new.labels ≡ rested self.old.labels name }
         ensures room { self.new.room ≡ self.old.room }
     {
-        let part = part_at(&self.places, &self.notes, name);
+        let part = part_at(&self.node_entries, &self.notes, name);
         set_state(&self.notes, &mut self.heads, part, IslandState::Asleep);
     }
 
@@ -164,7 +174,7 @@ impl Islands {
         ensures labels { self.new.labels ≡ woken self.old.labels name }
         ensures room { self.new.room ≡ self.old.room }
     {
-        let part = part_at(&self.places, &self.notes, name);
+        let part = part_at(&self.node_entries, &self.notes, name);
         set_state(&self.notes, &mut self.heads, part, IslandState::Whole);
     }
 
@@ -181,7 +191,7 @@ impl Islands {
         ensures scratch_links { scratch.new.links ≡ scratch.old.links }
     {
         split_island(
-            &self.places,
+            &self.node_entries,
             &mut self.notes,
             &mut self.heads,
             name,
@@ -203,7 +213,7 @@ impl Islands {
         ensures value { result ≡ label_at self.now.labels slot }
         ensures partition { IsPartition self.now.labels }
     {
-        label_in(&self.places, &self.notes, &self.heads, slot)
+        label_in(&self.node_entries, &self.notes, &self.heads, slot)
     }
 
     /// The name of a mover's island, which is its lowest slot; `None` where there is no mover.
@@ -239,7 +249,7 @@ impl Islands {
         ensures memory_only { IsOkUnless result Refusal.NoMemory }
     {
         let alloc = *self.notes.allocator();
-        members_of(alloc, &self.places, &self.notes, &self.heads, name)
+        members_of(alloc, &self.node_entries, &self.notes, &self.heads, name)
     }
 
     /// Lists the movers of an island, in no order that is promised; none where there is no such island. There is room for
@@ -250,7 +260,7 @@ impl Islands {
         ensures once { IsDistinct nat_eq members.new.items }
         ensures capacity { vec_capacity members.old ≤ vec_capacity members.new }
     {
-        fill_members(&self.places, &self.notes, &self.heads, name, members);
+        fill_members(&self.node_entries, &self.notes, &self.heads, name, members);
     }
 
     /// By slot the label of the mover's island. Refused 1 where memory is wanting.

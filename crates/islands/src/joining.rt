@@ -2,12 +2,12 @@
 
 ghost use Rattle.std.specs.Prelude.{◌≡◌, ◌≢◌, ◌+◌, ◌<◌, ◌≤◌, ◌^◌, vec_capacity, slice_set, length, IsSome};
 ghost use Rattle.islands.specs.Labels.{union_label, relabelled, merged};
-ghost use Rattle.islands.specs.Standing.{Places};
-ghost use Rattle.islands.specs.Packed.{IsPacked, IsPlaced, InPart, by_slot, note_at, head_at, labels_by, name_of, AreJoined, joined_head, moved_note};
+ghost use Rattle.islands.specs.Standing.{NodeEntries};
+ghost use Rattle.islands.specs.Packed.{IsPacked, IsStanding, InPart, by_slot, note_at, head_at, labels_by, name_of, AreJoined, joined_head, moved_note};
 
 use crate::label::{Label, union};
 use crate::parts::{Head, Note, part_at, set_label};
-use crate::places::Place;
+use crate::thread_nodes::NodeEntry;
 
 fn moved_note(note: Note, to: u32, count: u64, first: u32) -> Note
     requires { note.rank + count < 2 ^ 64 }
@@ -81,8 +81,8 @@ pub(crate) fn merge_parts(notes: &mut Vec<Option<Note>>, heads: &mut Vec<Head>, 
     requires first { InPart notes.old.items x x }
     requires second { InPart notes.old.items y y }
     requires few { length notes.old.items ≤ 2 ^ 32 }
-    ensures placed { (places : Places) → IsPlaced places notes.old.items heads.old.items → IsPlaced places notes.new.items heads.new.items }
-    ensures labels { (places : Places) → IsPlaced places notes.old.items heads.old.items → labels_by places notes.new.items heads.new.items ≡ relabelled (name_of heads.old.items x) (name_of heads.old.items y) (union_label (head_at heads.old.items x).label (head_at heads.old.items y).label) (labels_by places notes.old.items heads.old.items) }
+    ensures standing { (node_entries : NodeEntries) → IsStanding node_entries notes.old.items heads.old.items → IsStanding node_entries notes.new.items heads.new.items }
+    ensures labels { (node_entries : NodeEntries) → IsStanding node_entries notes.old.items heads.old.items → labels_by node_entries notes.new.items heads.new.items ≡ relabelled (name_of heads.old.items x) (name_of heads.old.items y) (union_label (head_at heads.old.items x).label (head_at heads.old.items y).label) (labels_by node_entries notes.old.items heads.old.items) }
     ensures size { length notes.new.items ≡ length notes.old.items }
     ensures capacity { vec_capacity notes.old ≤ vec_capacity notes.new }
     ensures heads_capacity { vec_capacity heads.old ≤ vec_capacity heads.new }
@@ -99,23 +99,23 @@ pub(crate) fn merge_parts(notes: &mut Vec<Option<Note>>, heads: &mut Vec<Head>, 
 
 /// Makes the islands of two movers one, under the lesser name, and loose if either was. It is awake then.
 pub(crate) fn merge_movers(
-    places: &[Place],
+    node_entries: &[NodeEntry],
     notes: &mut Vec<Option<Note>>,
     heads: &mut Vec<Head>,
     a: u32,
     b: u32,
 )
-    requires placed { IsPlaced places.now notes.old.items heads.old.items }
-    requires first { IsSome (note_at (by_slot places.now notes.old.items) a) }
-    requires second { IsSome (note_at (by_slot places.now notes.old.items) b) }
+    requires standing { IsStanding node_entries.now notes.old.items heads.old.items }
+    requires first { IsSome (note_at (by_slot node_entries.now notes.old.items) a) }
+    requires second { IsSome (note_at (by_slot node_entries.now notes.old.items) b) }
     requires few { length notes.old.items ≤ 2 ^ 32 }
-    ensures placed { IsPlaced places.now notes.new.items heads.new.items }
-    ensures labels { labels_by places.now notes.new.items heads.new.items ≡ merged (labels_by places.now notes.old.items heads.old.items) a b }
+    ensures standing { IsStanding node_entries.now notes.new.items heads.new.items }
+    ensures labels { labels_by node_entries.now notes.new.items heads.new.items ≡ merged (labels_by node_entries.now notes.old.items heads.old.items) a b }
     ensures size { length notes.new.items ≡ length notes.old.items }
     ensures capacity { vec_capacity notes.old ≤ vec_capacity notes.new }
     ensures heads_capacity { vec_capacity heads.old ≤ vec_capacity heads.new }
 {
-    let x = part_at(places, notes, a);
-    let y = part_at(places, notes, b);
+    let x = part_at(node_entries, notes, a);
+    let y = part_at(node_entries, notes, b);
     merge_parts(notes, heads, x, y);
 }

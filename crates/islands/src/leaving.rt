@@ -4,23 +4,23 @@
 ghost use Rattle.std.specs.Prelude.{◌≡◌, ◌≤◌, ◌<◌, ◌+◌, ◌^◌, vec_capacity, IsSome, IfSome, length};
 ghost use Rattle.islands.specs.Labels.{taken_out};
 ghost use Rattle.islands.specs.Standing.{AreExchanged, AreInverse, slot_at};
-ghost use Rattle.islands.specs.Packed.{IsPacked, IsPlaced, InPart, by_slot, note_at, head_at, labels_by, name_of, IsFirstFrom, HasNoneBelow, IsLowestIn, IsLeftBy, IsDropped};
+ghost use Rattle.islands.specs.Packed.{IsPacked, IsStanding, InPart, by_slot, note_at, head_at, labels_by, name_of, IsFirstFrom, HasNoneBelow, IsLowestIn, IsLeftBy, IsDropped};
 
 use crate::label::{IslandState, Label};
 use crate::parts::{Head, Note, name_of, part_at, part_of, set_label};
-use crate::places::{Place, exchange, slot_of};
+use crate::thread_nodes::{NodeEntry, exchange, slot_of};
 
 /// Lets a mover change places with the one at the front of its thread.
-fn come_first(places: &mut Vec<Place>, heads: &[Head], part: u32, slot: u32)
-    requires inverse { AreInverse places.old.items }
+fn come_first(node_entries: &mut Vec<NodeEntry>, heads: &[Head], part: u32, slot: u32)
+    requires inverse { AreInverse node_entries.old.items }
     requires part { part < length heads.now }
-    requires there { slot < length places.old.items }
-    requires first { (head_at heads.now part).first < length places.old.items }
-    ensures exchanged { AreExchanged places.old.items slot (slot_at places.old.items (head_at heads.now part).first) places.new.items }
-    ensures capacity { vec_capacity places.old ≤ vec_capacity places.new }
+    requires there { slot < length node_entries.old.items }
+    requires first { (head_at heads.now part).first < length node_entries.old.items }
+    ensures exchanged { AreExchanged node_entries.old.items slot (slot_at node_entries.old.items (head_at heads.now part).first) node_entries.new.items }
+    ensures capacity { vec_capacity node_entries.old ≤ vec_capacity node_entries.new }
 {
-    let front = slot_of(places, heads[part as usize].first);
-    exchange(places, slot, front);
+    let front = slot_of(node_entries, heads[part as usize].first);
+    exchange(node_entries, slot, front);
 }
 
 /// Takes the first node from the thread of a part.
@@ -43,18 +43,18 @@ fn drop_first(notes: &mut Vec<Option<Note>>, heads: &mut Vec<Head>, part: u32)
 
 /// The first slot of these whose mover is in the part; `None` where there is none.
 fn next_member(
-    places: &[Place],
+    node_entries: &[NodeEntry],
     notes: &[Option<Note>],
     part: u32,
     from: usize,
     to: usize,
 ) -> Option<u32>
-    requires sizes { length places.now ≡ length notes.now }
+    requires sizes { length node_entries.now ≡ length notes.now }
     requires few { to ≤ 2 ^ 32 }
-    ensures found { IfSome result (λ slot. IsFirstFrom (by_slot places.now notes.now) part from slot) }
+    ensures found { IfSome result (λ slot. IsFirstFrom (by_slot node_entries.now notes.now) part from slot) }
 {
     for slot in from..to {
-        if part_of(places, notes, slot as u32) == Some(part) {
+        if part_of(node_entries, notes, slot as u32) == Some(part) {
             return Some(slot as u32);
         }
     }
@@ -62,17 +62,22 @@ fn next_member(
 }
 
 /// The lowest member of a part, looked for along its thread.
-fn lowest_along(places: &[Place], notes: &[Option<Note>], heads: &[Head], part: u32) -> u32
+fn lowest_along(
+    node_entries: &[NodeEntry],
+    notes: &[Option<Note>],
+    heads: &[Head],
+    part: u32,
+) -> u32
     requires packed { IsPacked notes.now heads.now }
     requires part { InPart notes.now part part }
-    requires sizes { length places.now ≡ length notes.now }
-    requires inverse { AreInverse places.now }
-    ensures lowest { IsLowestIn (by_slot places.now notes.now) part result }
+    requires sizes { length node_entries.now ≡ length notes.now }
+    requires inverse { AreInverse node_entries.now }
+    ensures lowest { IsLowestIn (by_slot node_entries.now notes.now) part result }
 {
-    let mut low = slot_of(places, part);
+    let mut low = slot_of(node_entries, part);
     let mut at = Some(heads[part as usize].first);
     while let Some(node) = at {
-        low = low.min(slot_of(places, node));
+        low = low.min(slot_of(node_entries, node));
         at = notes[node as usize].unwrap().next;
     }
     low
@@ -81,7 +86,7 @@ fn lowest_along(places: &[Place], notes: &[Option<Note>], heads: &[Head], part: 
 /// The lowest member of a part that has none below the slot. The slots that follow are tried first, as many as there
 /// are members, so that it costs by the fewer of the two.
 fn lowest_from(
-    places: &[Place],
+    node_entries: &[NodeEntry],
     notes: &[Option<Note>],
     heads: &[Head],
     part: u32,
@@ -89,23 +94,25 @@ fn lowest_from(
 ) -> u32
     requires packed { IsPacked notes.now heads.now }
     requires part { InPart notes.now part part }
-    requires sizes { length places.now ≡ length notes.now }
-    requires inverse { AreInverse places.now }
-    requires few { length places.now ≤ 2 ^ 32 }
+    requires sizes { length node_entries.now ≡ length notes.now }
+    requires inverse { AreInverse node_entries.now }
+    requires few { length node_entries.now ≤ 2 ^ 32 }
     requires slot { slot ≤ 2 ^ 32 }
-    requires none { HasNoneBelow (by_slot places.now notes.now) part slot }
-    ensures lowest { IsLowestIn (by_slot places.now notes.now) part result }
+    requires none { HasNoneBelow (by_slot node_entries.now notes.now) part slot }
+    ensures lowest { IsLowestIn (by_slot node_entries.now notes.now) part result }
 {
-    let to = places.len().min(slot + heads[part as usize].count as usize);
-    match next_member(places, notes, part, slot, to) {
+    let to = node_entries
+        .len()
+        .min(slot + heads[part as usize].count as usize);
+    match next_member(node_entries, notes, part, slot, to) {
         Some(low) => low,
-        None => lowest_along(places, notes, heads, part),
+        None => lowest_along(node_entries, notes, heads, part),
     }
 }
 
 /// The lowest member of a part that the mover in the slot has left.
 fn lowest_left(
-    places: &[Place],
+    node_entries: &[NodeEntry],
     notes: &[Option<Note>],
     heads: &[Head],
     part: u32,
@@ -113,15 +120,15 @@ fn lowest_left(
 ) -> u32
     requires packed { IsPacked notes.now heads.now }
     requires part { InPart notes.now part part }
-    requires sizes { length places.now ≡ length notes.now }
-    requires inverse { AreInverse places.now }
-    requires few { length places.now ≤ 2 ^ 32 }
-    requires left { IsLeftBy (by_slot places.now notes.now) heads.now part slot }
-    ensures lowest { IsLowestIn (by_slot places.now notes.now) part result }
+    requires sizes { length node_entries.now ≡ length notes.now }
+    requires inverse { AreInverse node_entries.now }
+    requires few { length node_entries.now ≤ 2 ^ 32 }
+    requires left { IsLeftBy (by_slot node_entries.now notes.now) heads.now part slot }
+    ensures lowest { IsLowestIn (by_slot node_entries.now notes.now) part result }
 {
     let name = name_of(heads, part);
     if name == slot {
-        lowest_from(places, notes, heads, part, slot as usize + 1)
+        lowest_from(node_entries, notes, heads, part, slot as usize + 1)
     } else {
         name
     }
@@ -129,26 +136,26 @@ fn lowest_left(
 
 /// Takes a mover out of its part. Those that it leaves behind are loose, under their lowest slot.
 pub(crate) fn leave(
-    places: &mut Vec<Place>,
+    node_entries: &mut Vec<NodeEntry>,
     notes: &mut Vec<Option<Note>>,
     heads: &mut Vec<Head>,
     slot: u32,
 )
-    requires placed { IsPlaced places.old.items notes.old.items heads.old.items }
-    requires mover { IsSome (note_at (by_slot places.old.items notes.old.items) slot) }
+    requires standing { IsStanding node_entries.old.items notes.old.items heads.old.items }
+    requires mover { IsSome (note_at (by_slot node_entries.old.items notes.old.items) slot) }
     requires few { length notes.old.items ≤ 2 ^ 32 }
-    ensures placed { IsPlaced places.new.items notes.new.items heads.new.items }
-    ensures labels { labels_by places.new.items notes.new.items heads.new.items ≡ taken_out (labels_by places.old.items notes.old.items heads.old.items) slot }
+    ensures standing { IsStanding node_entries.new.items notes.new.items heads.new.items }
+    ensures labels { labels_by node_entries.new.items notes.new.items heads.new.items ≡ taken_out (labels_by node_entries.old.items notes.old.items heads.old.items) slot }
     ensures size { length notes.new.items ≡ length notes.old.items }
-    ensures places_capacity { vec_capacity places.old ≤ vec_capacity places.new }
+    ensures node_entries_capacity { vec_capacity node_entries.old ≤ vec_capacity node_entries.new }
     ensures capacity { vec_capacity notes.old ≤ vec_capacity notes.new }
     ensures heads_capacity { vec_capacity heads.old ≤ vec_capacity heads.new }
 {
-    let part = part_at(places, notes, slot);
-    come_first(places, heads, part, slot);
+    let part = part_at(node_entries, notes, slot);
+    come_first(node_entries, heads, part, slot);
     drop_first(notes, heads, part);
     if heads[part as usize].count > 0 {
-        let name = lowest_left(places, notes, heads, part, slot);
+        let name = lowest_left(node_entries, notes, heads, part, slot);
         set_label(
             heads,
             part,

@@ -16,11 +16,11 @@ mod leaving;
 mod listing;
 mod merging;
 mod parts;
-mod places;
 mod room;
 mod scattering;
 mod scratch;
 mod splitting;
+mod thread_nodes;
 
 pub use islands::Islands;
 pub use label::{IslandState, Label, sleeping_name};

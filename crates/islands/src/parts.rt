@@ -2,11 +2,11 @@
 
 ghost use Rattle.std.specs.Prelude.{◌≡◌, ℕ, ◌<◌, ◌≤◌, Some, IsSome, vec_capacity, slice_set, length};
 ghost use Rattle.islands.specs.Labels.{label_at, own_label, with_state};
-ghost use Rattle.islands.specs.Standing.{Places};
-ghost use Rattle.islands.specs.Packed.{IsPacked, IsPlaced, IsNamedPart, InPart, by_slot, note_at, part_in, own_note, own_head, no_head, labels_by, name_of, labelled_head};
+ghost use Rattle.islands.specs.Standing.{NodeEntries};
+ghost use Rattle.islands.specs.Packed.{IsPacked, IsStanding, IsNamedPart, InPart, by_slot, note_at, part_in, own_note, own_head, no_head, labels_by, name_of, labelled_head};
 
 use crate::label::{IslandState, Label};
-use crate::places::{Place, node_of};
+use crate::thread_nodes::{NodeEntry, node_of};
 
 /// What is kept of a mover.
 #[derive(Clone, Copy, Debug, PartialEq, Eq)]
@@ -73,15 +73,15 @@ fn own_label(slot: u32) -> Label
 
 /// The label of the mover in a slot; `None` where there is no mover.
 pub(crate) fn label_in(
-    places: &[Place],
+    node_entries: &[NodeEntry],
     notes: &[Option<Note>],
     heads: &[Head],
     slot: u32,
 ) -> Option<Label>
-    requires placed { IsPlaced places.now notes.now heads.now }
-    ensures label { result ≡ label_at (labels_by places.now notes.now heads.now) slot }
+    requires standing { IsStanding node_entries.now notes.now heads.now }
+    ensures label { result ≡ label_at (labels_by node_entries.now notes.now heads.now) slot }
 {
-    match part_of(places, notes, slot) {
+    match part_of(node_entries, notes, slot) {
         None => None,
         Some(part) => Some(heads[part as usize].label),
     }
@@ -97,33 +97,33 @@ fn part_in(notes: &[Option<Note>], node: u32) -> Option<u32>
 }
 
 /// The part of the mover in a slot; `None` where there is no mover.
-pub(crate) fn part_of(places: &[Place], notes: &[Option<Note>], slot: u32) -> Option<u32>
-    requires sizes { length places.now ≡ length notes.now }
-    ensures part { result ≡ part_in (note_at (by_slot places.now notes.now) slot) }
+pub(crate) fn part_of(node_entries: &[NodeEntry], notes: &[Option<Note>], slot: u32) -> Option<u32>
+    requires sizes { length node_entries.now ≡ length notes.now }
+    ensures part { result ≡ part_in (note_at (by_slot node_entries.now notes.now) slot) }
 {
-    part_in(notes, node_of(places, slot))
+    part_in(notes, node_of(node_entries, slot))
 }
 
 /// The part of the mover in a slot, which is there.
-pub(crate) fn part_at(places: &[Place], notes: &[Option<Note>], slot: u32) -> u32
-    requires sizes { length places.now ≡ length notes.now }
-    requires mover { IsSome (note_at (by_slot places.now notes.now) slot) }
-    ensures { part_in (note_at (by_slot places.now notes.now) slot) ≡ Some result }
+pub(crate) fn part_at(node_entries: &[NodeEntry], notes: &[Option<Note>], slot: u32) -> u32
+    requires sizes { length node_entries.now ≡ length notes.now }
+    requires mover { IsSome (note_at (by_slot node_entries.now notes.now) slot) }
+    ensures { part_in (note_at (by_slot node_entries.now notes.now) slot) ≡ Some result }
 {
-    notes[node_of(places, slot) as usize].unwrap().part
+    notes[node_of(node_entries, slot) as usize].unwrap().part
 }
 
 /// The part that is the island of this name; `None` where there is no such island.
 pub(crate) fn part_named(
-    places: &[Place],
+    node_entries: &[NodeEntry],
     notes: &[Option<Note>],
     heads: &[Head],
     name: u32,
 ) -> Option<u32>
-    requires placed { IsPlaced places.now notes.now heads.now }
-    ensures named { IsNamedPart places.now notes.now heads.now name result }
+    requires standing { IsStanding node_entries.now notes.now heads.now }
+    ensures named { IsNamedPart node_entries.now notes.now heads.now name result }
 {
-    match part_of(places, notes, name) {
+    match part_of(node_entries, notes, name) {
         Some(part) if name_of(heads, part) == name => Some(part),
         _ => None,
     }
@@ -160,8 +160,8 @@ pub(crate) fn set_state(
 )
     requires packed { IsPacked notes.now heads.old.items }
     requires part { InPart notes.now part part }
-    ensures placed { (places : Places) → IsPlaced places notes.now heads.old.items → IsPlaced places notes.now heads.new.items }
-    ensures labels { (places : Places) → IsPlaced places notes.now heads.old.items → labels_by places notes.now heads.new.items ≡ with_state (name_of heads.old.items part) state (labels_by places notes.now heads.old.items) }
+    ensures standing { (node_entries : NodeEntries) → IsStanding node_entries notes.now heads.old.items → IsStanding node_entries notes.now heads.new.items }
+    ensures labels { (node_entries : NodeEntries) → IsStanding node_entries notes.now heads.old.items → labels_by node_entries notes.now heads.new.items ≡ with_state (name_of heads.old.items part) state (labels_by node_entries notes.now heads.old.items) }
     ensures capacity { vec_capacity heads.old ≤ vec_capacity heads.new }
 {
     let name = name_of(heads, part);

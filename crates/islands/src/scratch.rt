@@ -4,14 +4,14 @@ ghost use Rattle.std.specs.Prelude.{◌≡◌, ◌≤◌, ◌^◌, length, vec_c
 ghost use Rattle.std.specs.Result.{IsOkUnless};
 ghost use Rattle.islands.specs.Labels.{split_by};
 ghost use Rattle.islands.specs.Partition.{Inside};
-ghost use Rattle.islands.specs.Packed.{IsPlaced, InPart, name_of, labels_by};
+ghost use Rattle.islands.specs.Packed.{IsStanding, InPart, name_of, labels_by};
 
 use crate::listing::list_members;
 use crate::merging::merge_all;
 use crate::parts::{Head, Note};
-use crate::places::Place;
 use crate::room::reserve_in_all;
 use crate::scattering::scatter;
+use crate::thread_nodes::NodeEntry;
 use fixed_geom::Refusal;
 use std::alloc::Global;
 use std::marker::Model;
@@ -67,28 +67,28 @@ impl SplitScratch {
     /// Replaces a part by its connected components over the links that are given, none of them loose.
     pub(crate) fn split(
         &mut self,
-        places: &[Place],
+        node_entries: &[NodeEntry],
         notes: &mut Vec<Option<Note>>,
         heads: &mut Vec<Head>,
         part: u32,
         edges: &[(u32, u32)],
     )
-        requires placed { IsPlaced places.now notes.old.items heads.old.items }
+        requires standing { IsStanding node_entries.now notes.old.items heads.old.items }
         requires few { length notes.old.items ≤ 2 ^ 32 }
         requires part { InPart notes.old.items part part }
-        requires inside { Inside (labels_by places.now notes.old.items heads.old.items) (name_of heads.old.items part) edges.now }
+        requires inside { Inside (labels_by node_entries.now notes.old.items heads.old.items) (name_of heads.old.items part) edges.now }
         requires slots { length notes.old.items ≤ self.old.slots }
         requires links { length edges.now ≤ self.old.links }
-        ensures placed { IsPlaced places.now notes.new.items heads.new.items }
-        ensures labels { labels_by places.now notes.new.items heads.new.items ≡ split_by (labels_by places.now notes.old.items heads.old.items) (name_of heads.old.items part) edges.now }
+        ensures standing { IsStanding node_entries.now notes.new.items heads.new.items }
+        ensures labels { labels_by node_entries.now notes.new.items heads.new.items ≡ split_by (labels_by node_entries.now notes.old.items heads.old.items) (name_of heads.old.items part) edges.now }
         ensures size { length notes.new.items ≡ length notes.old.items }
         ensures capacity { vec_capacity notes.old ≤ vec_capacity notes.new }
         ensures heads_capacity { vec_capacity heads.old ≤ vec_capacity heads.new }
         ensures slots { self.new.slots ≡ self.old.slots }
         ensures links { self.new.links ≡ self.old.links }
     {
-        list_members(places, notes, heads, part, &mut self.members);
-        scatter(places, notes, heads, &self.members);
-        merge_all(places, notes, heads, edges);
+        list_members(node_entries, notes, heads, part, &mut self.members);
+        scatter(node_entries, notes, heads, &self.members);
+        merge_all(node_entries, notes, heads, edges);
     }
 }

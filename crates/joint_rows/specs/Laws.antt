@@ -14,9 +14,9 @@ abbrev pub row_of : JointBodies → Ends → SolvedJoint → JointAfter
 row_of bodies start s = record { row = rows.joint_row bodies start s.joint; ends = s.ends }
 
 -- a turn of the joint's row leaves the row of what the definition leaves of the joint, and the same bodies
-abbrev pub TurnsAlike : (Ends → Joint → Ends → SolvedJoint) → (JointRow → Ends → JointAfter) → Type 0
-TurnsAlike f g = (bodies : JointBodies) (start e : Ends) (j : Joint) → g (rows.joint_row bodies start j) e ≡ row_of bodies start (f start j e)
+abbrev pub VisitsAlike : (Ends → Joint → Ends → SolvedJoint) → (JointRow → Ends → JointAfter) → Type 0
+VisitsAlike f g = (bodies : JointBodies) (start e : Ends) (j : Joint) → g (rows.joint_row bodies start j) e ≡ row_of bodies start (f start j e)
 
 pub record RowsAreJoints : Type 0 where
-  pub warm : TurnsAlike joints.joint_warmed rows.joint_warmed
-  pub solve : TurnsAlike joints.joint_solved rows.joint_solved
+  pub warm : VisitsAlike joints.joint_warmed rows.joint_warmed
+  pub solve : VisitsAlike joints.joint_solved rows.joint_solved

@@ -4,7 +4,7 @@ use Rattle.momenta.specs.declared.state.BodyState.{BodyState}
 use Rattle.momenta.specs.declared.state.Ends.{Ends}
 use Rattle.momenta.specs.declared.line_64.MomentaPair64.{MomentaPair64}
 use Rattle.momenta.specs.declared.line_64.Exerted64.{Exerted64}
-use Rattle.momenta.specs.Impulses.{AreStates, AreSameBodies, IsMomentumKept}
+use Rattle.momenta.specs.ImpulseBounds.{AreStates, AreSameBodies, IsMomentumKept}
 use Rattle.momenta.specs.Line64.{FitsIn64, HasRoom64, both_ends, ends_with}
 use Rattle.joint_rows.specs.declared.limits.TheConstants.{MAX_JOINT_IMPULSE}
 use Rattle.joint_rows.specs.declared.row.JointRow.{JointRow}

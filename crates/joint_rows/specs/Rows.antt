@@ -2,7 +2,8 @@
 use Rattle.std.specs.Prelude.{◌≤◌, ℤ, neg_ℤ, ◌+ℤ◌, unsigned_abs}
 use Rattle.momenta.specs.declared.state.Ends.{Ends}
 use Rattle.momenta.specs.declared.line.Exerted.{Exerted}
-use Rattle.momenta.specs.Impulses.{IsLine, solved_impulse, warmed}
+use Rattle.momenta.specs.Impulses.{solved_impulse, warmed}
+use Rattle.momenta.specs.ImpulseBounds.{IsLine}
 use Rattle.joint_rows.specs.declared.limits.TheConstants.{MAX_JOINT_IMPULSE, MAX_STRETCH}
 use Rattle.joint_rows.specs.declared.joint.Joint.{Joint}
 use Rattle.joint_rows.specs.declared.row.JointBodies.{JointBodies}

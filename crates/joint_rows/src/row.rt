@@ -3,7 +3,8 @@
 ghost use Rattle.std.specs.Prelude.{◌≡◌, ◌^◌, ◌≤◌, ◌+◌, ◌⊎◌, true, pos, ◌≤ℤ◌, unsigned_abs};
 ghost use Rattle.fixed_geom.specs.Facings.{IsFacing};
 ghost use Rattle.fixed_geom.specs.Vectors.{IsWithin, span};
-ghost use Rattle.momenta.specs.Impulses.{AreStates, IsLine, IsState, line_along};
+ghost use Rattle.momenta.specs.Impulses.{line_along};
+ghost use Rattle.momenta.specs.ImpulseBounds.{AreStates, IsLine, IsState};
 ghost use Rattle.joint_rows.specs.Joints.{IsJoint, arm, anchor_of, direction_along, gap, is_zero};
 ghost use Rattle.joint_rows.specs.Rows.{IsJointRow, joint_row};
 

@@ -1,7 +1,8 @@
 //! The impulses of a joint in 64 bits, on copies of what they change: what `solve` does, where there is room.
 
 ghost use Rattle.std.specs.Prelude.{◌≡◌, ◌^◌, ◌<◌, ◌≤◌, true, neg_ℤ, unsigned_abs, IfSome, is_some};
-ghost use Rattle.momenta.specs.Impulses.{AreStates, IsState, solved_impulse, warmed};
+ghost use Rattle.momenta.specs.Impulses.{solved_impulse, warmed};
+ghost use Rattle.momenta.specs.ImpulseBounds.{AreStates, IsState};
 ghost use Rattle.momenta.specs.Line64.{IsImpulse, LeaveRoom64, both_ends, ends_with};
 ghost use Rattle.joint_rows.specs.Joints.{joint_bias};
 ghost use Rattle.joint_rows.specs.Rows.{IsJointRow, joint_solved, joint_warmed, stretch_now};

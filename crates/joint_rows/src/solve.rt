@@ -4,7 +4,8 @@ ghost use Rattle.std.specs.Prelude.{◌≡◌, ◌^◌, ◌≤◌, true, pos, ne
 ghost use Rattle.fixed_geom.specs.Numbers.{rdiv};
 ghost use Rattle.fixed_geom.specs.Vectors.{IsWithin, dot, minus, unit_length};
 ghost use Rattle.momenta.specs.declared.state.Ends.{Ends};
-ghost use Rattle.momenta.specs.Impulses.{AreStates, AreSameBodies, IsMomentumKept, IsState, between, parting, travelled};
+ghost use Rattle.momenta.specs.Impulses.{between, parting, travelled};
+ghost use Rattle.momenta.specs.ImpulseBounds.{AreStates, AreSameBodies, IsMomentumKept, IsState};
 ghost use Rattle.joint_rows.specs.Joints.{joint_bias};
 ghost use Rattle.joint_rows.specs.Rows.{IsJointRow, joint_solved, joint_warmed, stretch_now};
 

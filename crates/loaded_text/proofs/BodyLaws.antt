@@ -12,12 +12,16 @@ use Rattle.serde_json.specs.Data.{Data, Items, boolean, depth, string}
 use Rattle.serde_json.specs.Find.{get}
 use Rattle.serde_json.specs.View.{items_of}
 use Rattle.world_file_base.specs.Asks.{no_asks}
-use Rattle.world_file_base.specs.Reading.{items_in, list_asks, truth_asks, truth_in, unsigned_asks, unsigned_in}
-use Rattle.world_file_base.specs.SavedBodies.{body_asks, body_in, keys_asks, kind_asks, kind_in, kind_name, mass_asks, mass_in, membership_in, motion_asks, motion_in, numbers_asks, sleeping_under, whole_body_asks}
-use Rattle.world_file_base.specs.SavedShapes.{defs_in, fats_in, shapes_asks}
+use Rattle.world_file_base.specs.Reading.{items_in, truth_in, unsigned_in}
+use Rattle.world_file_base.specs.AskedValues.{list_asks, truth_asks, unsigned_asks}
+use Rattle.world_file_base.specs.SavedBodies.{body_in, kind_in, kind_name, mass_in, membership_in, motion_in, sleeping_under}
+use Rattle.world_file_base.specs.AskedBodies.{body_asks, keys_asks, kind_asks, mass_asks, motion_asks, numbers_asks, whole_body_asks}
+use Rattle.world_file_base.specs.SavedShapes.{defs_in, fats_in}
+use Rattle.world_file_base.specs.AskedShapes.{shapes_asks}
 use Rattle.world_file_base.specs.Written.{Member, decimal_of, integer, list_data, natural, natural_or_null, vector_of}
 use Rattle.world_file_base.specs.declared.saved.Membership.{Membership}
 use Rattle.world_file.proofs.BackNumbers.{unsigned_back}
+use Rattle.world_file.proofs.BackBodies.{truth_back, mass_back, HasCourseKeys, back_at, kind_back}
 use Rattle.loaded_text.specs.Bodies.{BodyHolds, IsFront, front_members, made, membership_of}
 use Rattle.loaded_text.specs.Shapes.{ShapesHold, no_shapes}
 use Rattle.loaded_text.specs.Stands.{MembersStand, key_text}
@@ -25,8 +29,7 @@ use Rattle.loaded_text.specs.declared.bodies.LoadedBody.{LoadedBody}
 use Rattle.loaded_text.specs.declared.body_members.Front.{Front}
 use Rattle.loaded_text.specs.declared.body_members.Last.{Last}
 use Rattle.loaded_text.specs.declared.saved_shapes.LoadedShapes.{LoadedShapes}
-use Rattle.loaded_text.proofs.Back.{truth_back}
-use Rattle.loaded_text.proofs.BodyKeys.{HasCourse, HasKeys, at_key, body_ascends, body_data, body_members, front_by, has_course_of, has_keys_of, kind_read, mass_read, membership_read, motion_read}
+use Rattle.loaded_text.proofs.BodyKeys.{HasKeys, body_ascends, body_data, body_members, front_by, has_course_of, has_keys_of, membership_read, motion_read}
 use Rattle.loaded_text.proofs.Joined.{member_then, members_then, object_stands}
 use Rattle.loaded_text.proofs.Parts.{or_null_depth}
 
@@ -44,19 +47,19 @@ record IsBodyRead (most : ℕ) (d : Data) (loaded : LoadedBody) : Type 0 where
   body : body_in most d ≡ loaded.body
   asks : body_asks most d no_asks ≡ no_asks
 
-body_read : (most : ℕ) (f : Front) (s : LoadedShapes) (last : Last) (items : List Data) (d : Data) → HasKeys d f last.kind items last.timer → HasCourse last.kind d → AreParts f s last → last.timer ≤ most
+body_read : (most : ℕ) (f : Front) (s : LoadedShapes) (last : Last) (items : List Data) (d : Data) → HasKeys d f last.kind items last.timer → HasCourseKeys last.kind d → AreParts f s last → last.timer ≤ most
     → s.shapes ≡ defs_in (items_of items) → s.fats ≡ fats_in (items_of items) → shapes_asks (items_of items) no_asks ≡ no_asks → IsBodyRead most d (made f s last)
 unfolding body_in body_asks keys_asks numbers_asks
 body_read most f s last items d keys course h timed defs_are fats_are fine =
-    let kind = kind_read last.kind d keys.kind_is h.course course in
+    let kind = kind_back last.kind d keys.kind_is h.course course in
     let m : MassData = record { mass = f.mass; inertia = f.inertia } in
-    let mass = mass_read last.kind m d h.mass keys.mass keys.inertia in
+    let mass = mass_back last.kind m d h.mass keys.mass keys.inertia in
     let heavy : mass_in (kind_in d) d ≡ m = ap (λ (k : Kind). mass_in k d) kind.value ∙ mass.value in
     let motion = motion_read f last.kind items last.timer d keys h.front h.still in
     let moves : motion_in (mass_in (kind_in d) d).inertia d ≡ (made f s last).body.motion = ap (λ (m : MassData). motion_in m.inertia d) heavy ∙ motion.value in
     let membership = membership_read f last.kind items last.timer d keys h.front in
-    let enabled = at_key truth_in truth_asks (get (codes "enabled") d) (boolean f.enabled) f.enabled keys.enabled (truth_back f.enabled) in
-    let timer = at_key (unsigned_in most) (unsigned_asks most) (get (codes "timer") d) (natural last.timer) last.timer keys.timer_is (unsigned_back most last.timer timed) in
+    let enabled = back_at truth_in truth_asks (get (codes "enabled") d) (boolean f.enabled) f.enabled keys.enabled (truth_back f.enabled) in
+    let timer = back_at (unsigned_in most) (unsigned_asks most) (get (codes "timer") d) (natural last.timer) last.timer keys.timer_is (unsigned_back most last.timer timed) in
     let there : items_in (get (codes "shapes") d) ≡ items_of items = ap (λ (o : Option Data). items_in o) keys.shapes_are in
     let asleep : sleeping_under (membership_in d) ≡ sleeping_under (membership_of f) = ap (λ (m : Membership). sleeping_under m) membership.value in
     let defs : defs_in (items_in (get (codes "shapes") d)) ≡ s.shapes = ap (λ (ds : Items). defs_in ds) there ∙ sym defs_are in

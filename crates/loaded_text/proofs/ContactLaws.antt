@@ -12,16 +12,18 @@ use Rattle.serde_json.specs.Events.{items_len}
 use Rattle.serde_json.specs.View.{items_of}
 use Rattle.serde_json.specs.Written.{comma_if}
 use Rattle.world_file_base.specs.Asks.{no_asks}
-use Rattle.world_file_base.specs.SavedContacts.{contact_asks, contact_in, contacts_asks, contacts_in, last_candidate, no_points, point_asks, point_in, points_asks, shape_id_of, with_point, with_points}
+use Rattle.world_file_base.specs.SavedContacts.{contact_in, contacts_in, last_candidate, no_points, point_in, shape_id_of, with_point, with_points}
+use Rattle.world_file_base.specs.AskedContacts.{contact_asks, contacts_asks, point_asks, points_asks}
 use Rattle.world_file_base.specs.Written.{Member, integer, list_data, natural, natural_or_null, vector_of}
 use Rattle.world_file_base.specs.declared.reader.Reader.{Reader}
 use Rattle.world_file_base.specs.declared.saved.SavedContact.{SavedContact}
 use Rattle.world_file_base.specs.declared.version.Version.TheVariants.{Second}
 use Rattle.world_file.proofs.BackNumbers.{unsigned_back, within_back}
+use Rattle.world_file.proofs.BackParts.{push_asked, shape_id_back, size_asked, size_back}
 use Rattle.loaded_text.specs.Contacts.{ContactsHold, PointsHold}
 use Rattle.loaded_text.specs.Stands.{Holds, Stands, key_text}
 use Rattle.loaded_text.specs.declared.points.Points.{Points}
-use Rattle.loaded_text.proofs.Back.{colour_or_none, push_asked, shape_id_back, signed_any, size_asked, size_back}
+use Rattle.loaded_text.proofs.Back.{colour_or_none, signed_any}
 use Rattle.loaded_text.proofs.ShapeLaws.{at_most}
 use Rattle.loaded_text.proofs.Joined.{item_more, list_stands, member_then, no_item, no_member, object_stands}
 use Rattle.loaded_text.proofs.Lists.{ItemsSoFar, added_more, asked_more, list_ends, list_shallow, none_so_far, one_more}

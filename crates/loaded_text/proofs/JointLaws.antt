@@ -2,8 +2,8 @@
 use Rattle.std.proofs.Common.{◌≡◌, ℕ, ◌+◌, ◌^◌, ◌<◌, ◌≤◌, ◌==◌, ◌++◌, ◌∷◌, [], Bool, false, true, not, List, Option, Some, None, IfSome, codes, ℤ, pos, neg_ℤ, ◌≤ℤ◌, unsigned_abs, refl, sym, ap, ◌∙◌, arith, append-nil}
 use Rattle.std.proofs.lemmas.Int.{ints}
 use Rattle.body_handles.specs.declared.handle.Handle.{Handle}
-use Rattle.body_handles.specs.declared.places.Place.{Place}
-use Rattle.body_handles.specs.declared.places.TheConstants.{MAX_SLOTS, WORN_OUT}
+use Rattle.body_handles.specs.declared.slot_table.SlotEntry.{SlotEntry}
+use Rattle.body_handles.specs.declared.slot_table.TheConstants.{MAX_SLOTS, WORN_OUT}
 use Rattle.fixed_geom.specs.Vectors.{IsWithin}
 use Rattle.graph_colours.specs.declared.limits.TheConstants.{COLOURS}
 use Rattle.joint_rows.specs.declared.joint.Joint.{Joint}
@@ -14,8 +14,9 @@ use Rattle.serde_json.specs.Events.{items_len}
 use Rattle.serde_json.specs.View.{items_of}
 use Rattle.serde_json.specs.Written.{comma_if}
 use Rattle.world_file_base.specs.Asks.{no_asks}
-use Rattle.world_file_base.specs.SavedJoints.{joint_asks, joint_in}
-use Rattle.world_file_base.specs.SavedSlots.{joint_key, joint_slot_asks, joints_asks, joints_in, place_in, places_in, slot_joint}
+use Rattle.world_file_base.specs.SavedJoints.{joint_in}
+use Rattle.world_file_base.specs.SavedSlots.{joint_key, joints_in, slot_entry_in, slot_entries_in, slot_joint}
+use Rattle.world_file_base.specs.AskedSlots.{joint_slot_asks, joints_asks, joint_asks}
 use Rattle.world_file_base.specs.Written.{Member, id_of, integer, natural, natural_or_null, vector_of}
 use Rattle.world_file_base.specs.declared.reader.Reader.{Reader}
 use Rattle.world_file_base.specs.declared.saved.SavedJoint.{SavedJoint}
@@ -29,7 +30,7 @@ use Rattle.loaded_text.proofs.Back.{colour_or_none}
 use Rattle.loaded_text.proofs.ShapeLaws.{at_most}
 use Rattle.loaded_text.proofs.Joined.{member_then, no_member, object_stands}
 use Rattle.loaded_text.proofs.Lists.{ItemsSoFar, added_more, asked_more, items_count, list_ends, list_shallow, none_so_far, one_more}
-use Rattle.loaded_text.proofs.SlotLaws.{free_members, free_stands, place_read}
+use Rattle.loaded_text.proofs.SlotLaws.{free_members, free_stands, entry_read}
 
 -- ---- a joint
 
@@ -139,17 +140,17 @@ never : (g : ℕ) → false ≡ true → g < WORN_OUT
 never g e = cc
 
 pub free_holds : (generation : ℕ) (a b c d : List ℕ) → 1 ≤ generation → generation ≤ WORN_OUT → a ≡ 123 ∷ b → Stands (key_text false (codes "generation")) (natural generation) b c → c ≡ 125 ∷ d
-    → JointSlotHolds (record { place = record { generation = generation; live = false }; joint = None }) a d
+    → JointSlotHolds (record { entry = record { generation = generation; live = false }; joint = None }) a d
 free_holds generation a b c d low high begun number close =
     let v : Data = object (in_order (free_members generation)) in
-    let place = place_read joint_key v (record { generation = generation; live = false }) refl refl refl low high (never generation) in
+    let entry = entry_read joint_key v (record { generation = generation; live = false }) refl refl refl low high (never generation) in
     record {
       value = v;
       stands = free_stands generation a b c d begun number close;
       shallow = omega arith;
-      place = place.value;
+      entry = entry.value;
       joint = refl;
-      asks = place.asks no_asks;
+      asks = entry.asks no_asks;
     }
 
 abbrev taken_members : ℕ → Data → List Member
@@ -160,25 +161,25 @@ taken_depth generation joint low = omega (arith, low)
 
 pub taken_holds : (joint : SavedJoint) (generation : ℕ) (a b c d e : List ℕ) → 1 ≤ generation → generation < WORN_OUT
     → a ≡ 123 ∷ b → Stands (key_text false (codes "generation")) (natural generation) b c → Holds (key_text true (codes "joint")) (joint_in Second) (joint_asks Second) 2 joint c d → d ≡ 125 ∷ e
-    → JointSlotHolds (record { place = record { generation = generation; live = true }; joint = Some joint }) a e
+    → JointSlotHolds (record { entry = record { generation = generation; live = true }; joint = Some joint }) a e
 taken_holds joint generation a b c d e low high begun number held close =
     let v : Data = object (in_order (taken_members generation held.value)) in
-    let place = place_read joint_key v (record { generation = generation; live = true }) refl refl refl low (omega (arith, high)) (λ live. high) in
+    let entry = entry_read joint_key v (record { generation = generation; live = true }) refl refl refl low (omega (arith, high)) (λ live. high) in
     record {
       value = v;
       stands = object_stands [] (taken_members generation held.value) a a b d e refl begun
           (member_then false _ (codes "generation") (natural generation) _ b c d refl number (member_then true _ (codes "joint") held.value [] c d d refl held.stands (no_member true d))) close refl;
       shallow = taken_depth generation held.value held.shallow;
-      place = place.value;
+      entry = entry.value;
       joint = ap (λ (x : SavedJoint). Some x) held.is;
-      asks = ap (λ r. joint_asks Second held.value r) (place.asks no_asks) ∙ held.asks;
+      asks = ap (λ r. joint_asks Second held.value r) (entry.asks no_asks) ∙ held.asks;
     }
 
 -- ---- lists of slots
 
-places_more : (ds : List Data) (d : Data) → places_in joint_key (items_of (ds ++ (d ∷ []))) ≡ places_in joint_key (items_of ds) ++ (place_in joint_key d ∷ [])
-places_more [] d = refl
-places_more (e ∷ ds) d = ap (λ l. place_in joint_key e ∷ l) (places_more ds d)
+entries_more : (ds : List Data) (d : Data) → slot_entries_in joint_key (items_of (ds ++ (d ∷ []))) ≡ slot_entries_in joint_key (items_of ds) ++ (slot_entry_in joint_key d ∷ [])
+entries_more [] d = refl
+entries_more (e ∷ ds) d = ap (λ l. slot_entry_in joint_key e ∷ l) (entries_more ds d)
 
 joints_more : (ds : List Data) (d : Data) → joints_in Second (items_of (ds ++ (d ∷ []))) ≡ joints_in Second (items_of ds) ++ (slot_joint Second d ∷ [])
 joints_more [] d = refl
@@ -192,22 +193,22 @@ asks_more (e ∷ ds) d r = asks_more ds d (joint_slot_asks Second e r)
 pub record JointsSoFar (n : ℕ) (old now : SavedJoints) (text rest : List ℕ) : Type 0 where
   pub items : List Data
   pub so_far : ItemsSoFar 3 n items text rest
-  pub places : now.places.items ≡ old.places.items ++ places_in joint_key (items_of items)
+  pub slot_entries : now.slot_entries.items ≡ old.slot_entries.items ++ slot_entries_in joint_key (items_of items)
   pub joints : now.joints.items ≡ old.joints.items ++ joints_in Second (items_of items)
   pub asks : joints_asks Second (items_of items) no_asks ≡ no_asks
 
 pub no_joint_yet : (old : SavedJoints) (a : List ℕ) → JointsSoFar 0 old old a a
-no_joint_yet old a = record { items = []; so_far = none_so_far 3 a; places = sym (append-nil old.places.items); joints = sym (append-nil old.joints.items); asks = refl }
+no_joint_yet old a = record { items = []; so_far = none_so_far 3 a; slot_entries = sym (append-nil old.slot_entries.items); joints = sym (append-nil old.joints.items); asks = refl }
 
 pub joint_more : (n : ℕ) (old now next : SavedJoints) (slot : JointSlot) (a b c e : List ℕ) → JointsSoFar n old now a b → b ≡ comma_if (not (n == 0)) ++ c → JointSlotHolds slot c e
-    → next.places.items ≡ now.places.items ++ (slot.place ∷ []) → next.joints.items ≡ now.joints.items ++ (slot.joint ∷ []) → JointsSoFar (n + 1) old next a e
-joint_more n old now next slot a b c e before comma h place joint =
+    → next.slot_entries.items ≡ now.slot_entries.items ++ (slot.entry ∷ []) → next.joints.items ≡ now.joints.items ++ (slot.joint ∷ []) → JointsSoFar (n + 1) old next a e
+joint_more n old now next slot a b c e before comma h entry joint =
     let ds = before.items in
     let d = h.value in
     record {
       items = ds ++ (d ∷ []);
       so_far = one_more 3 n ds d a b c e before.so_far comma h.stands h.shallow;
-      places = added_more old.places.items now.places.items next.places.items (places_in joint_key (items_of ds)) (places_in joint_key (items_of (ds ++ (d ∷ [])))) slot.place before.places place (places_more ds d ∙ ap (λ (p : Place). places_in joint_key (items_of ds) ++ (p ∷ [])) h.place);
+      slot_entries = added_more old.slot_entries.items now.slot_entries.items next.slot_entries.items (slot_entries_in joint_key (items_of ds)) (slot_entries_in joint_key (items_of (ds ++ (d ∷ [])))) slot.entry before.slot_entries entry (entries_more ds d ∙ ap (λ (p : SlotEntry). slot_entries_in joint_key (items_of ds) ++ (p ∷ [])) h.entry);
       joints = added_more old.joints.items now.joints.items next.joints.items (joints_in Second (items_of ds)) (joints_in Second (items_of (ds ++ (d ∷ [])))) slot.joint before.joints joint (joints_more ds d ∙ ap (λ (o : Option SavedJoint). joints_in Second (items_of ds) ++ (o ∷ [])) h.joint);
       asks = asked_more (joints_asks Second (items_of ds)) (joint_slot_asks Second d) (joints_asks Second (items_of (ds ++ (d ∷ [])))) no_asks before.asks h.asks (asks_more ds d no_asks);
     }
@@ -220,7 +221,7 @@ joints_end lead n old now a b c d e few before begun found close =
       stands = list_ends lead 3 n found.items a b c d e before begun found.so_far close;
       shallow = list_shallow 3 n found.items c d found.so_far;
       few = omega (arith, size, few);
-      places = found.places;
+      slot_entries = found.slot_entries;
       joints = found.joints;
       asks = found.asks;
     }

@@ -10,7 +10,8 @@ use Rattle.shapes.specs.declared.shape.Shape.{Shape}
 use Rattle.shapes.specs.declared.shape.Shape.TheVariants.{Circle, Capsule, Segment}
 use Rattle.world_file_base.specs.Asks.{no_asks}
 use Rattle.world_file_base.specs.Reading.{greatest_group, least_group}
-use Rattle.world_file_base.specs.SavedShapes.{defs_in, fats_in, form_asks, form_in, most_bits, most_corner, shape_asks, shape_in, shapes_asks}
+use Rattle.world_file_base.specs.SavedShapes.{defs_in, fats_in, form_in, most_bits, most_corner, shape_in}
+use Rattle.world_file_base.specs.AskedShapes.{form_asks, shape_asks, shapes_asks}
 use Rattle.world_file_base.specs.Written.{Member, corners_of, ends_of, integer, natural, vector_of}
 use Rattle.world_file_base.specs.declared.reader.Reader.{Reader}
 use Rattle.world_file_base.specs.declared.saved_shapes.SavedShape.{SavedShape}

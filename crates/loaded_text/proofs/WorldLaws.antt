@@ -2,8 +2,8 @@
 use Rattle.std.proofs.Common.{◌≡◌, ℕ, ◌*◌, ◌≤◌, ◌++◌, ◌∷◌, [], false, true, nat_le, List, length, Option, Some, None, codes, unsigned_abs, refl, sym, ap, ap₂, ◌∙◌, subst, arith, append-nil, le-leb}
 use Rattle.std.specs.Prelude.{Result, Ok, Err, IfErr, IfOk, MatchResult, OnOk}
 use Rattle.std.proofs.lemmas.Fmt.{decimal_digit}
-use Rattle.body_handles.specs.declared.places.Place.{Place}
-use Rattle.body_handles.specs.declared.places.TheConstants.{MAX_SLOTS}
+use Rattle.body_handles.specs.declared.slot_table.SlotEntry.{SlotEntry}
+use Rattle.body_handles.specs.declared.slot_table.TheConstants.{MAX_SLOTS}
 use Rattle.fixed_geom.specs.Vectors.{IsWithin}
 use Rattle.fixed_geom.specs.declared.vectors.Vec2.{Vec2}
 use Rattle.impulse_ledger.specs.declared.totals.Total.{Total}
@@ -17,9 +17,12 @@ use Rattle.serde_json.specs.Events.{items_len}
 use Rattle.serde_json.specs.View.{items_of}
 use Rattle.serde_json.specs.Written.{compact_text}
 use Rattle.world_file_base.specs.Asks.{asked, no_asks}
-use Rattle.world_file_base.specs.Reading.{unsigned_asks, unsigned_in, vector_within_asks}
-use Rattle.world_file_base.specs.SavedContacts.{contacts_asks, contacts_in}
-use Rattle.world_file_base.specs.SavedSlots.{bodies_asks, bodies_in, body_key, joint_key, joints_asks, joints_in, memberships_in, places_in, slots_asks}
+use Rattle.world_file_base.specs.Reading.{unsigned_in}
+use Rattle.world_file_base.specs.AskedValues.{unsigned_asks, vector_within_asks}
+use Rattle.world_file_base.specs.SavedContacts.{contacts_in}
+use Rattle.world_file_base.specs.AskedContacts.{contacts_asks}
+use Rattle.world_file_base.specs.SavedSlots.{bodies_in, body_key, joint_key, joints_in, memberships_in, slot_entries_in}
+use Rattle.world_file_base.specs.AskedSlots.{bodies_asks, joints_asks, slots_asks}
 use Rattle.world_file_base.specs.SavedTotals.{total_data, totals_data}
 use Rattle.world_file_base.specs.Versions.{most_slots}
 use Rattle.world_file_base.specs.Written.{Member, list_data, natural, vector_of}
@@ -31,15 +34,14 @@ use Rattle.world_file_base.specs.declared.version.Version.TheVariants.{Second}
 use Rattle.world_file.specs.Clauses.{first_unfit}
 use Rattle.world_file.proofs.FirstBroken.{found_unfit}
 use Rattle.world_file_base.specs.declared.clause.Clause.{Clause}
-use Rattle.world_file.specs.Answers.{IsBrokenBy}
 use Rattle.world_file.specs.Files.{plain_of}
-use Rattle.world_file.specs.Fitting.{fitting_asks}
 use Rattle.world_file.specs.Parts.{parts_of}
-use Rattle.world_file.specs.Saved.{calls_in, heads_asks, most_calls, most_ticks, parts_asks, saved_in, slow_ticks, steps_in}
+use Rattle.world_file.specs.Saved.{calls_in, most_calls, most_ticks, saved_in, slow_ticks, steps_in}
+use Rattle.world_file.specs.AskedParts.{heads_asks, parts_asks, fitting_asks, IsBrokenBy}
 use Rattle.world_file.specs.declared.saved_world.Saved as declared
 use Rattle.world_file.proofs.BackNumbers.{asked_true, unsigned_back, within_back}
 use Rattle.world_file.proofs.BackParts.{AreSmallTotals, totals_back}
-use Rattle.world_file.proofs.FewLemmas.{length-memberships, length-places}
+use Rattle.world_file.proofs.FewLemmas.{length-memberships, length-slot_entries}
 use Rattle.world_file.proofs.ReadParts.{IsSmallTotal}
 use Rattle.world_file.proofs.ReadingLaws.{read_ok, refused_as}
 use Rattle.loaded_text.specs.Bodies.{BodiesHold, are_timed}
@@ -113,7 +115,7 @@ world_depth bodies calls contacts gravity joints totals steps low also more = om
 -- what is known of the parts of a world
 pub record AreRead (s : declared.Saved) (bodies contacts joints : List Data) : Type 0 where
   pub added : List (Option Body)
-  pub places : s.bodies.places.items ≡ places_in body_key (items_of bodies)
+  pub slot_entries : s.bodies.slot_entries.items ≡ slot_entries_in body_key (items_of bodies)
   pub bodies_are : s.bodies.bodies.items ≡ added
   pub memberships : s.bodies.memberships.items ≡ memberships_in (items_of bodies)
   pub timed : (most : ℕ) → are_timed most added ≡ true → bodies_in most (items_of bodies) ≡ added
@@ -121,7 +123,7 @@ pub record AreRead (s : declared.Saved) (bodies contacts joints : List Data) : T
   pub few : items_len (items_of bodies) ≤ MAX_SLOTS
   pub contacts_are : s.contacts.items ≡ contacts_in Second (items_of contacts)
   pub contact_asks : contacts_asks Second (items_of contacts) no_asks ≡ no_asks
-  pub joint_places : s.joints.places.items ≡ places_in joint_key (items_of joints)
+  pub joint_entries : s.joints.slot_entries.items ≡ slot_entries_in joint_key (items_of joints)
   pub joints_are : s.joints.joints.items ≡ joints_in Second (items_of joints)
   pub joint_asks : joints_asks Second (items_of joints) no_asks ≡ no_asks
   pub few_joints : items_len (items_of joints) ≤ MAX_SLOTS
@@ -145,9 +147,9 @@ parts_read s bodies contacts joints h heads =
     let slow = slow_is s bodies contacts joints heads in
     let timed = h.timed (s.steps * most_ticks) (are_in_time s bodies contacts joints h heads) in
     let found : bodies_in (slow_ticks (world_data bodies s.calls contacts s.gravity joints s.totals s.steps)) (items_of bodies) ≡ s.bodies.bodies.items = ap (λ (k : ℕ). bodies_in k (items_of bodies)) slow ∙ timed ∙ sym h.bodies_are in
-    let places = sym h.places in
+    let slot_entries = sym h.slot_entries in
     let memberships = sym h.memberships in
-    let joint_places = sym h.joint_places in
+    let joint_entries = sym h.joint_entries in
     let joint_list = sym h.joints_are in
     let contact_list = sym h.contacts_are in
     let totals = totals_back s.totals (small_totals s.totals h.totals) in
@@ -155,10 +157,10 @@ parts_read s bodies contacts joints h heads =
     let steps = steps_are s bodies contacts joints heads.calls heads.steps in
     let calls = calls_is s bodies contacts joints heads.calls in
     λ i. record {
-      places = places i;
+      slot_entries = slot_entries i;
       bodies = found i;
       memberships = memberships i;
-      joint_places = joint_places i;
+      joint_entries = joint_entries i;
       joints = joint_list i;
       contacts = contact_list i;
       totals = totals.value i;
@@ -216,7 +218,7 @@ world_stands old s a b c d e f g h i k empty begun bodies call contacts gravity 
     let js = joints.items in
     let read : AreRead s bs cs js = record {
       added = bodies.added;
-      places = nothing_before old.bodies.places.items s.bodies.places.items (places_in body_key (items_of bs)) empty.places bodies.places;
+      slot_entries = nothing_before old.bodies.slot_entries.items s.bodies.slot_entries.items (slot_entries_in body_key (items_of bs)) empty.slot_entries bodies.slot_entries;
       bodies_are = nothing_before old.bodies.bodies.items s.bodies.bodies.items bodies.added empty.bodies bodies.bodies;
       memberships = nothing_before old.bodies.memberships.items s.bodies.memberships.items (memberships_in (items_of bs)) empty.memberships bodies.memberships;
       timed = bodies.timed;
@@ -224,7 +226,7 @@ world_stands old s a b c d e f g h i k empty begun bodies call contacts gravity 
       few = bodies.few;
       contacts_are = nothing_before old.contacts.items s.contacts.items (contacts_in Second (items_of cs)) empty.contacts contacts.contacts;
       contact_asks = contacts.asks;
-      joint_places = nothing_before old.joints.places.items s.joints.places.items (places_in joint_key (items_of js)) empty.joint_places joints.places;
+      joint_entries = nothing_before old.joints.slot_entries.items s.joints.slot_entries.items (slot_entries_in joint_key (items_of js)) empty.joint_entries joints.slot_entries;
       joints_are = nothing_before old.joints.joints.items s.joints.joints.items (joints_in Second (items_of js)) empty.joints joints.joints;
       joint_asks = joints.asks;
       few_joints = joints.few;
@@ -241,7 +243,7 @@ world_stands old s a b c d e f g h i k empty begun bodies call contacts gravity 
     (member_then true _ (codes "step") (natural s.steps) _ h i (125 ∷ k) refl step
     (member_then true _ (codes "version") (natural 2) [] i (125 ∷ k) (125 ∷ k) refl (version_stands i k last) (no_member true (125 ∷ k))))))))) in
     let own : length s.bodies.memberships.items ≡ items_len (items_of bs) = ap (λ (l : List Membership). length l) read.memberships ∙ length-memberships (items_of bs) in
-    let places : length s.joints.places.items ≡ items_len (items_of js) = ap (λ (l : List Place). length l) read.joint_places ∙ length-places joint_key (items_of js) in
+    let slot_entries : length s.joints.slot_entries.items ≡ items_len (items_of js) = ap (λ (l : List SlotEntry). length l) read.joint_entries ∙ length-slot_entries joint_key (items_of js) in
     let few = bodies.few in
     let few_joints = joints.few in
     record {
@@ -249,7 +251,7 @@ world_stands old s a b c d e f g h i k empty begun bodies call contacts gravity 
       stands = object_stands [] (world_members bs s.calls cs s.gravity js s.totals s.steps) a a b (125 ∷ k) k refl begun members refl refl;
       shallow = world_depth bs s.calls cs s.gravity js s.totals s.steps bodies.shallow contacts.shallow joints.shallow;
       few = omega (arith, own, few);
-      few_joints = omega (arith, places, few_joints);
+      few_joints = omega (arith, slot_entries, few_joints);
       parts = λ heads. parts_read s bs cs js read heads;
       asks = λ heads. parts_pass s bs cs js read heads;
     }

@@ -1,7 +1,7 @@
 -- Bodies at the front of a text, and their slots.
 use Rattle.std.specs.Prelude.{◌≡◌, ℕ, ◌≤◌, ◌^◌, ◌-◌, ◌++◌, ◌∷◌, Bool, true, List, [], Option, Some, None, IfSome, codes, nat_le, unsigned_abs}
 use Rattle.std.specs.List.{list_all}
-use Rattle.body_handles.specs.declared.places.TheConstants.{MAX_SLOTS}
+use Rattle.body_handles.specs.declared.slot_table.TheConstants.{MAX_SLOTS}
 use Rattle.fixed_geom.specs.Facings.{IsFacing}
 use Rattle.fixed_geom.specs.Vectors.{IsWithin}
 use Rattle.fixed_geom.specs.declared.limits.TheConstants.{MAX_POSITION}
@@ -16,8 +16,10 @@ use Rattle.serde_json.specs.Data.{Data, boolean, depth, string}
 use Rattle.serde_json.specs.Events.{items_len}
 use Rattle.serde_json.specs.View.{items_of}
 use Rattle.world_file_base.specs.Asks.{no_asks}
-use Rattle.world_file_base.specs.SavedBodies.{body_asks, body_in, kind_name, membership_in, sleeping_under}
-use Rattle.world_file_base.specs.SavedSlots.{bodies_asks, bodies_in, body_key, body_slot_asks, memberships_in, place_in, places_in, slot_body, slot_membership}
+use Rattle.world_file_base.specs.SavedBodies.{body_in, kind_name, membership_in, sleeping_under}
+use Rattle.world_file_base.specs.AskedBodies.{body_asks}
+use Rattle.world_file_base.specs.SavedSlots.{bodies_in, body_key, memberships_in, slot_entry_in, slot_entries_in, slot_body, slot_membership}
+use Rattle.world_file_base.specs.AskedSlots.{bodies_asks, body_slot_asks}
 use Rattle.world_file_base.specs.Written.{Member, decimal_of, integer, list_data, natural_or_null, vector_of}
 use Rattle.world_file_base.specs.declared.saved.Membership.{Membership}
 use Rattle.world_file_base.specs.declared.saved.SavedBodies.{SavedBodies}
@@ -108,7 +110,7 @@ pub record BodySlotHolds (s : BodySlot) (text rest : List ℕ) : Type 0 where
   pub value : Data
   pub stands : Stands [] value text rest
   pub shallow : depth value ≤ 6
-  pub place : place_in body_key value ≡ s.place
+  pub entry : slot_entry_in body_key value ≡ s.entry
   pub membership : slot_membership value ≡ s.membership
   pub body : (most : ℕ) → is_timed most s.body ≡ true → slot_body most value ≡ s.body
   pub asks : (most : ℕ) → is_timed most s.body ≡ true → body_slot_asks most value no_asks ≡ no_asks
@@ -120,7 +122,7 @@ pub record BodiesHold (lead : List ℕ) (old new : SavedBodies) (text rest : Lis
   pub stands : Stands lead (list_data items) text rest
   pub shallow : depth (list_data items) ≤ 7
   pub few : items_len (items_of items) ≤ MAX_SLOTS
-  pub places : new.places.items ≡ old.places.items ++ places_in body_key (items_of items)
+  pub slot_entries : new.slot_entries.items ≡ old.slot_entries.items ++ slot_entries_in body_key (items_of items)
   pub bodies : new.bodies.items ≡ old.bodies.items ++ added
   pub memberships : new.memberships.items ≡ old.memberships.items ++ memberships_in (items_of items)
   pub timed : (most : ℕ) → are_timed most added ≡ true → bodies_in most (items_of items) ≡ added

@@ -4,7 +4,8 @@ use Rattle.serde_json.specs.Data.{Data, depth}
 use Rattle.serde_json.specs.Events.{items_len}
 use Rattle.serde_json.specs.View.{items_of}
 use Rattle.world_file_base.specs.Asks.{no_asks}
-use Rattle.world_file_base.specs.SavedContacts.{contacts_asks, contacts_in, no_points, points_asks, with_points}
+use Rattle.world_file_base.specs.SavedContacts.{contacts_in, no_points, with_points}
+use Rattle.world_file_base.specs.AskedContacts.{contacts_asks, points_asks}
 use Rattle.world_file_base.specs.Written.{list_data}
 use Rattle.world_file_base.specs.declared.saved.SavedContact.{SavedContact}
 use Rattle.world_file_base.specs.declared.version.Version.TheVariants.{Second}

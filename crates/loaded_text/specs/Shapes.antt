@@ -7,7 +7,8 @@ use Rattle.serde_json.specs.View.{items_of}
 use Rattle.world_file_base.specs.Asks.{no_asks}
 use Rattle.shapes.specs.Shapes.{is_between}
 use Rattle.world_file_base.specs.Reading.{greatest_group, least_group}
-use Rattle.world_file_base.specs.SavedShapes.{defs_in, fats_in, shapes_asks}
+use Rattle.world_file_base.specs.SavedShapes.{defs_in, fats_in}
+use Rattle.world_file_base.specs.AskedShapes.{shapes_asks}
 use Rattle.world_file_base.specs.Written.{Member, corners_of, integer, list_data, natural}
 use Rattle.loaded_text.specs.Stands.{Stands}
 use Rattle.loaded_text.specs.declared.forms.Surround.{Surround}

@@ -9,17 +9,18 @@ use Rattle.world_file_base.specs.declared.clause.Broken.{Broken}
 use Rattle.world_file.specs.Answers.{IsRefusedBy}
 use Rattle.world_file.specs.Files.{read_of}
 use Rattle.world_file.specs.Parts.{parts_of}
-use Rattle.world_file.specs.Saved.{most_calls, most_ticks, parts_asks, saved_in}
+use Rattle.world_file.specs.Saved.{most_calls, most_ticks, saved_in}
+use Rattle.world_file.specs.AskedParts.{parts_asks}
 use Rattle.world_file.specs.declared.saved_world.Saved.{Saved}
 use Rattle.loaded_text.specs.Bodies.{are_timed}
 use Rattle.loaded_text.specs.Stands.{Stands}
 
 -- nothing was read of a saved world
 pub record IsEmpty (s : Saved) : Type 0 where
-  pub places : s.bodies.places.items ≡ []
+  pub slot_entries : s.bodies.slot_entries.items ≡ []
   pub bodies : s.bodies.bodies.items ≡ []
   pub memberships : s.bodies.memberships.items ≡ []
-  pub joint_places : s.joints.places.items ≡ []
+  pub joint_entries : s.joints.slot_entries.items ≡ []
   pub joints : s.joints.joints.items ≡ []
   pub contacts : s.contacts.items ≡ []
 
@@ -35,7 +36,7 @@ pub record WorldStands (s : Saved) (text rest : List ℕ) : Type 0 where
   pub stands : Stands [] value text rest
   pub shallow : depth value ≤ 8
   pub few : length s.bodies.memberships.items ≤ 2 ^ 32
-  pub few_joints : length s.joints.places.items ≤ 2 ^ 32
+  pub few_joints : length s.joints.slot_entries.items ≤ 2 ^ 32
   pub parts : AreHeads s → saved_in value ≡ parts_of s
   pub asks : AreHeads s → parts_asks value no_asks ≡ no_asks
 
@@ -44,7 +45,7 @@ pub record IsSavedText (text : List ℕ) (s : Saved) : Type 0 where
   pub value : Data
   pub text_is : read text ≡ Some value
   pub few : length s.bodies.memberships.items ≤ 2 ^ 32
-  pub few_joints : length s.joints.places.items ≤ 2 ^ 32
+  pub few_joints : length s.joints.slot_entries.items ≤ 2 ^ 32
   pub parts : saved_in value ≡ parts_of s
   pub asks : parts_asks value no_asks ≡ no_asks
 

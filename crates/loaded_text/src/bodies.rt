@@ -3,38 +3,22 @@
 ghost use Rattle.std.specs.Prelude.{◌≡◌, IfSome, IsTrue, pos, unsigned_abs};
 ghost use Rattle.plain_world.specs.Bodies.{IsMassOf};
 ghost use Rattle.world_file_base.specs.Asks.{no_asks};
-ghost use Rattle.world_file_base.specs.SavedBodies.{sleeping_under, whole_body_asks};
+ghost use Rattle.world_file_base.specs.AskedBodies.{whole_body_asks};
 ghost use Rattle.loaded_text.specs.Bodies.{BodyHolds, made, membership_of};
 
 use crate::body_members::{Front, Last, read_front, read_last};
 use crate::saved_shapes::{LoadedShapes, read_shapes};
-use momenta::{MAX_INERTIA, MAX_MASS, MassData, Motion};
-use plain_world::{Body, Kind};
+use momenta::{MassData, Motion};
+use plain_world::{Body, is_mass_allowed};
 use printed_json::Text;
 use std::alloc::Global;
-use world_file_base::{Membership, Reader, ask_body};
+use world_file_base::{Membership, Reader, ask_body, sleeping_under};
 
 /// A body and what it says of its island.
 #[derive(Drop)]
 pub(crate) struct LoadedBody {
     pub(crate) body: Body,
     pub(crate) membership: Membership,
-}
-
-/// Whether a body of this kind may have this mass.
-fn is_mass_of(kind: Kind, mass: MassData) -> bool
-    ensures { IsTrue result → IsMassOf kind mass }
-{
-    match kind {
-        Kind::Static => mass.mass == 0 && mass.inertia == 0,
-        Kind::Kinematic(_) => mass.mass == 0 && mass.inertia == 0,
-        Kind::Dynamic => {
-            1 <= mass.mass
-                && mass.mass <= MAX_MASS
-                && 0 <= mass.inertia
-                && mass.inertia <= MAX_INERTIA
-        }
-    }
 }
 
 /// Whether a body with this inertia may have this angular momentum.
@@ -51,17 +35,6 @@ fn membership_of(front: &Front) -> Membership
         island: front.island,
         loose: front.loose,
         asleep: front.asleep,
-    }
-}
-
-/// The name under which a body sleeps, if it does.
-fn sleeping_under(membership: Membership) -> Option<u32>
-    ensures { result ≡ sleeping_under membership }
-{
-    if membership.asleep {
-        membership.island
-    } else {
-        None
     }
 }
 
@@ -109,7 +82,7 @@ fn does_body_fit(loaded: &LoadedBody) -> bool
     ensures whole { IsTrue result → whole_body_asks loaded.now.body loaded.now.membership no_asks ≡ no_asks }
 {
     let body = &loaded.body;
-    is_mass_of(body.kind, body.mass)
+    is_mass_allowed(body.kind, body.mass)
         && may_turn(body.mass.inertia, body.motion.l)
         && is_whole_fitting(loaded)
 }

@@ -5,7 +5,7 @@ ghost use Rattle.loaded_text.specs.Bodies.{BodiesHold, BodySlotHolds, are_timed,
 
 use crate::bodies::read_body;
 use crate::leaves::read_generation;
-use body_handles::{MAX_SLOTS, Place, WORN_OUT};
+use body_handles::{MAX_SLOTS, SlotEntry, WORN_OUT};
 use plain_world::Body;
 use printed_json::Text;
 use std::alloc::Global;
@@ -14,7 +14,7 @@ use world_file_base::{Membership, NO_MEMBERSHIP, SavedBodies};
 /// A slot, and what is in it.
 #[derive(Drop)]
 struct BodySlot {
-    place: Place,
+    entry: SlotEntry,
     body: Option<Body>,
     membership: Membership,
 }
@@ -27,7 +27,7 @@ fn read_free(text: &mut Text) -> Option<BodySlot>
     let generation = read_generation(text, b"\"generation\":")?;
     text.expect(b"}")?;
     Some(BodySlot {
-        place: Place {
+        entry: SlotEntry {
             generation,
             live: false,
         },
@@ -48,7 +48,7 @@ fn read_taken(text: &mut Text, alloc: Global) -> Option<BodySlot>
         return None;
     }
     Some(BodySlot {
-        place: Place {
+        entry: SlotEntry {
             generation,
             live: true,
         },
@@ -69,11 +69,11 @@ fn read_slot(text: &mut Text, alloc: Global) -> Option<BodySlot>
 }
 
 fn keep_slot(bodies: &mut SavedBodies, slot: BodySlot) -> Option<()>
-    ensures places { IfSome result (λ _. bodies.new.places.items ≡ bodies.old.places.items ++ slot.place ∷ []) }
+    ensures slot_entries { IfSome result (λ _. bodies.new.slot_entries.items ≡ bodies.old.slot_entries.items ++ slot.entry ∷ []) }
     ensures bodies { IfSome result (λ _. bodies.new.bodies.items ≡ bodies.old.bodies.items ++ slot.body ∷ []) }
     ensures memberships { IfSome result (λ _. bodies.new.memberships.items ≡ bodies.old.memberships.items ++ slot.membership ∷ []) }
 {
-    bodies.places.push(slot.place).ok()?;
+    bodies.slot_entries.push(slot.entry).ok()?;
     bodies.bodies.push(slot.body).ok()?;
     bodies.memberships.push(slot.membership).ok()
 }

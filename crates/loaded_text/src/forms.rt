@@ -1,7 +1,8 @@
 //! A shape by its form.
 
 ghost use Rattle.std.specs.Prelude.{◌≡◌, [], true, IfSome};
-ghost use Rattle.world_file_base.specs.SavedShapes.{shape_asks, shape_in};
+ghost use Rattle.world_file_base.specs.SavedShapes.{shape_in};
+ghost use Rattle.world_file_base.specs.AskedShapes.{shape_asks};
 ghost use Rattle.loaded_text.specs.Shapes.{IsSurround, surround_members};
 ghost use Rattle.loaded_text.specs.Stands.{Holds, MembersStand};
 

@@ -6,10 +6,8 @@ ghost use Rattle.world_file.specs.Saved.{most_calls, most_ticks};
 
 use crate::body_slots::are_timed;
 use plain_world::Body;
-use world_rules::{MAX_CALLS, MAX_TICKS};
-
-/// How many ticks a step has at most.
-const MOST_TICKS: u64 = MAX_TICKS as u64;
+use world_file::MOST_TICKS;
+use world_rules::MAX_CALLS;
 
 /// Whether a world that accepted so many calls, so many of them steps, may have these bodies.
 pub(crate) fn are_heads_fitting(calls: u64, steps: u64, bodies: &[Option<Body>]) -> bool

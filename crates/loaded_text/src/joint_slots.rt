@@ -5,14 +5,14 @@ ghost use Rattle.loaded_text.specs.Joints.{JointSlotHolds, JointsHold};
 
 use crate::joints::read_joint;
 use crate::leaves::read_generation;
-use body_handles::{MAX_SLOTS, Place, WORN_OUT};
+use body_handles::{MAX_SLOTS, SlotEntry, WORN_OUT};
 use printed_json::Text;
 use world_file_base::{SavedJoint, SavedJoints};
 
 /// A slot, and what is in it.
 #[derive(Clone, Copy)]
 struct JointSlot {
-    place: Place,
+    entry: SlotEntry,
     joint: Option<SavedJoint>,
 }
 
@@ -24,7 +24,7 @@ fn read_free(text: &mut Text) -> Option<JointSlot>
     let generation = read_generation(text, b"\"generation\":")?;
     text.expect(b"}")?;
     Some(JointSlot {
-        place: Place {
+        entry: SlotEntry {
             generation,
             live: false,
         },
@@ -44,7 +44,7 @@ fn read_taken(text: &mut Text) -> Option<JointSlot>
         return None;
     }
     Some(JointSlot {
-        place: Place {
+        entry: SlotEntry {
             generation,
             live: true,
         },
@@ -64,10 +64,10 @@ fn read_slot(text: &mut Text) -> Option<JointSlot>
 }
 
 fn keep_slot(joints: &mut SavedJoints, slot: JointSlot) -> Option<()>
-    ensures places { IfSome result (λ _. joints.new.places.items ≡ joints.old.places.items ++ slot.place ∷ []) }
+    ensures slot_entries { IfSome result (λ _. joints.new.slot_entries.items ≡ joints.old.slot_entries.items ++ slot.entry ∷ []) }
     ensures joints { IfSome result (λ _. joints.new.joints.items ≡ joints.old.joints.items ++ slot.joint ∷ []) }
 {
-    joints.places.push(slot.place).ok()?;
+    joints.slot_entries.push(slot.entry).ok()?;
     joints.joints.push(slot.joint).ok()
 }
 

@@ -1,7 +1,8 @@
 //! A joint.
 
 ghost use Rattle.std.specs.Prelude.{◌≡◌, IfSome};
-ghost use Rattle.world_file_base.specs.SavedJoints.{joint_asks, joint_in};
+ghost use Rattle.world_file_base.specs.SavedJoints.{joint_in};
+ghost use Rattle.world_file_base.specs.AskedSlots.{joint_asks};
 ghost use Rattle.world_file_base.specs.declared.version.Version.TheVariants.{Second};
 ghost use Rattle.loaded_text.specs.Stands.{Holds};
 

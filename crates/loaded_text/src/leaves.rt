@@ -6,7 +6,7 @@ ghost use Rattle.printed_json.specs.Leads.{IsSigned};
 ghost use Rattle.shapes.specs.Shapes.{is_between};
 ghost use Rattle.world_file_base.specs.Reading.{greatest_group, least_group};
 ghost use Rattle.world_file_base.specs.Written.{decimal_of, integer, natural, natural_or_null};
-ghost use Rattle.body_handles.specs.declared.places.TheConstants.{WORN_OUT};
+ghost use Rattle.body_handles.specs.declared.slot_table.TheConstants.{WORN_OUT};
 ghost use Rattle.graph_colours.specs.declared.limits.TheConstants.{COLOURS};
 ghost use Rattle.loaded_text.specs.Stands.{Stands};
 

@@ -2,7 +2,8 @@
 
 ghost use Rattle.std.specs.Prelude.{◌≡◌, [], IfSome};
 ghost use Rattle.contacts_base.specs.Limits.{IsPackable};
-ghost use Rattle.world_file_base.specs.SavedContacts.{point_asks, point_in};
+ghost use Rattle.world_file_base.specs.SavedContacts.{point_in};
+ghost use Rattle.world_file_base.specs.AskedContacts.{point_asks};
 ghost use Rattle.loaded_text.specs.Contacts.{PointsHold};
 ghost use Rattle.loaded_text.specs.Stands.{Holds};
 
@@ -13,9 +14,7 @@ use contacts_base::limits::{
 };
 use contacts_base::{ContactPoint, PackedContact};
 use printed_json::Text;
-
-/// The greatest number of a candidate.
-const LAST_CANDIDATE: u64 = 3;
+use world_file_base::LAST_CANDIDATE;
 
 /// The points that a contact was read with, and how many they are.
 #[derive(Clone, Copy)]

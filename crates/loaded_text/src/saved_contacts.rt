@@ -1,7 +1,8 @@
 //! The contacts.
 
 ghost use Rattle.std.specs.Prelude.{◌≡◌, ◌++◌, ◌∷◌, [], IfSome};
-ghost use Rattle.world_file_base.specs.SavedContacts.{contact_asks, contact_in};
+ghost use Rattle.world_file_base.specs.SavedContacts.{contact_in};
+ghost use Rattle.world_file_base.specs.AskedContacts.{contact_asks};
 ghost use Rattle.world_file_base.specs.declared.version.Version.TheVariants.{Second};
 ghost use Rattle.loaded_text.specs.Contacts.{ContactsHold};
 ghost use Rattle.loaded_text.specs.Stands.{Holds};

@@ -11,9 +11,7 @@ ghost use Rattle.loaded_text.specs.Stands.{IsSignedVector, Stands};
 use crate::leaves::read_integer;
 use fixed_geom::{Box2, Rot, Vec2, is_facing, is_within};
 use printed_json::Text;
-
-/// The greatest size of a corner of a fat box.
-const MAX_CORNER: u64 = fixed_geom::MAX_CORNER as u64;
+use world_file_base::MAX_CORNER;
 
 /// The ends of a core.
 #[derive(Clone, Copy)]

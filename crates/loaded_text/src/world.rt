@@ -27,12 +27,12 @@ fn nothing_yet(alloc: Global) -> Saved
 {
     Saved {
         bodies: SavedBodies {
-            places: Vec::new(alloc),
+            slot_entries: Vec::new(alloc),
             bodies: Vec::new(alloc),
             memberships: Vec::new(alloc),
         },
         joints: SavedJoints {
-            places: Vec::new(alloc),
+            slot_entries: Vec::new(alloc),
             joints: Vec::new(alloc),
         },
         contacts: Vec::new(alloc),

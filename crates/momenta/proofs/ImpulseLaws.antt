@@ -7,7 +7,8 @@ use Rattle.fixed_geom.specs.declared.vectors.Vec2.{Vec2}
 use Rattle.momenta.specs.declared.motion.Motion.{Motion}
 use Rattle.momenta.specs.declared.state.BodyState.{BodyState}
 use Rattle.momenta.specs.declared.state.Ends.{Ends}
-use Rattle.momenta.specs.Impulses.{AreStates, AreSameBodies, IsState, IsSameBody, IsMomentumKept, fits, given, impulse_pair, or_dropped, or_kept, taken, turned_by}
+use Rattle.momenta.specs.Impulses.{fits, given, impulse_pair, or_dropped, or_kept, taken, turned_by}
+use Rattle.momenta.specs.ImpulseBounds.{AreStates, AreSameBodies, IsState, IsSameBody, IsMomentumKept}
 
 -- ---- the state after it
 

@@ -1,23 +1,27 @@
 -- Momenta in 64 bits: sizes of what is given to them, and that it is what the definitions give.
-use Rattle.std.proofs.Common.{◌≡◌, ℕ, zero, suc, ◌*◌, ◌+◌, ◌^◌, ◌≤◌, true, Option, Some, None, IfSome, ℤ, pos, negsuc, ◌+ℤ◌, ◌-ℤ◌, ◌*ℤ◌, ◌≤ℤ◌, unsigned_abs, arith, refl, sym, ap, ◌∙◌, subst, inl, inr}
+use Rattle.std.proofs.Common.{◌≡◌, ℕ, zero, suc, ◌*◌, ◌+◌, ◌^◌, ◌≤◌, true, Option, Some, None, IfSome, ℤ, pos, negsuc, ◌+ℤ◌, ◌-ℤ◌, ◌*ℤ◌, ◌≤ℤ◌, ◌<ℤ◌, unsigned_abs, to_z, of_z, arith, refl, sym, ap, ◌∙◌, subst, inl, inr}
 use Rattle.std.proofs.lemmas.Bool.{cases_lt, le-leb}
-use Rattle.std.proofs.lemmas.Int.{ints}
+use Rattle.std.proofs.lemmas.Int.{ints, to_z-of_z}
+use Rattle.std.specs.Int.{w64, w128}
+use mir.Val.{SFits}
 use Rattle.fixed_geom.specs.Numbers.{rdiv}
 use Rattle.fixed_geom.specs.Vectors.{IsWithin, unit_length, opposite, plus}
 use Rattle.fixed_geom.specs.declared.vectors.Vec2.{Vec2}
 use Rattle.fixed_geom.proofs.QuotientLemmas.{rdiv_le}
 use Rattle.fixed_geom.proofs.Sizes.{product_le}
+use Rattle.momenta.specs.declared.limits.TheConstants.{MIN_INVERSE_MASS}
 use Rattle.momenta.specs.declared.mass.MassData.{MassData}
 use Rattle.momenta.specs.Motions.{IsMass, limited, velocity, spin}
 use Rattle.momenta.specs.Reciprocals.{reciprocals_of}
 use Rattle.momenta.specs.declared.reciprocals.Reciprocals.{Reciprocals}
 use Rattle.fixed_geom.specs.Reciprocals.{rdiv_reciprocal, share_reciprocal}
-use Rattle.momenta.proofs.Spins.{spin_turning}
+use Rattle.momenta.proofs.Spins.{fits_64, spin_turning}
 use Rattle.momenta.proofs.Rounding.{rdiv_fast}
 use Rattle.momenta.specs.declared.state.BodyState.{BodyState}
 use Rattle.momenta.specs.declared.line_64.Momenta64.{Momenta64}
 use Rattle.momenta.specs.declared.line_64.MomentaPair64.{MomentaPair64}
-use Rattle.momenta.specs.Impulses.{AreStates, IsRoomy, carried, fits, given, velocity_at}
+use Rattle.momenta.specs.Impulses.{carried, fits, given, velocity_at}
+use Rattle.momenta.specs.ImpulseBounds.{AreStates, IsRoomy}
 use Rattle.momenta.specs.Line64.{LeaveRoom64, IsImpulse, LeavesRoom64, ends_with, with_momenta}
 use Rattle.momenta.proofs.ImpulseLaws.{IsPairGiven, pair_given}
 use Rattle.momenta.proofs.NoImpulse.{same_bodies, same_momentum}
@@ -58,6 +62,21 @@ inertia_reciprocal m r e = rw e refl
 
 pub quarter_turn : (inertia l w : ℤ) → pos 1 ≤ℤ inertia → w ≡ rdiv (l *ℤ unit_length) inertia → unsigned_abs w ≤ 2 ^ 28 → w ≡ spin inertia l
 quarter_turn inertia l w h e small = sym (spin_turning inertia l h ∙ ap (limited (2 ^ 28)) (sym e) ∙ rw (le-leb (unsigned_abs w) (2 ^ 28) small) refl)
+
+-- ---- an inverse mass that has room in 64 bits
+
+pub inverse_fits : (inverse : ℤ) → SFits w128 inverse → MIN_INVERSE_MASS ≤ℤ inverse → to_z w128 (of_z w128 inverse) <ℤ pos (2 ^ 62) → SFits w64 inverse
+inverse_fits inverse wide least most =
+    let less : inverse <ℤ pos (2 ^ 62) = subst (λ (z : ℤ). z <ℤ pos (2 ^ 62)) (to_z-of_z w128 inverse wide) most in
+    fits_64 inverse (omega (arith, ints, least, less))
+
+-- it is passed on as it is, and so its reciprocal is still its own
+pub reciprocal_passed : (inverse reciprocal : ℤ) → SFits w128 inverse → SFits w64 reciprocal → MIN_INVERSE_MASS ≤ℤ inverse → to_z w128 (of_z w128 inverse) <ℤ pos (2 ^ 62) → reciprocal ≡ share_reciprocal inverse
+    → to_z w64 (of_z w64 reciprocal) ≡ share_reciprocal (to_z w64 (of_z w64 (to_z w128 (of_z w128 inverse))))
+reciprocal_passed inverse reciprocal wide narrow least most is =
+    to_z-of_z w64 reciprocal narrow
+    ∙ is
+    ∙ sym (ap (λ (z : ℤ). share_reciprocal (to_z w64 (of_z w64 z))) (to_z-of_z w128 inverse wide) ∙ ap share_reciprocal (to_z-of_z w64 inverse (inverse_fits inverse wide least most)))
 
 -- ---- the velocity of a point
 

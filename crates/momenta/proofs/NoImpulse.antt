@@ -12,7 +12,8 @@ use Rattle.momenta.specs.declared.state.Ends.{Ends}
 use Rattle.momenta.specs.declared.line.Line.{Line}
 use Rattle.momenta.specs.declared.mass.MassData.{MassData}
 use Rattle.momenta.specs.Motions.{IsMotion}
-use Rattle.momenta.specs.Impulses.{AreStates, IsMomentumKept, IsSameBody, AreSameBodies, IsState, along, exerted, fits, given, impulse_pair, taken, turned_by, warmed}
+use Rattle.momenta.specs.Impulses.{along, exerted, fits, given, impulse_pair, taken, turned_by, warmed}
+use Rattle.momenta.specs.ImpulseBounds.{AreStates, IsMomentumKept, IsSameBody, AreSameBodies, IsState}
 
 cross_none : (r : Vec2) → cross r zero_vector ≡ pos 0
 unfolding cross

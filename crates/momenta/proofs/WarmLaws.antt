@@ -10,7 +10,8 @@ use Rattle.fixed_geom.specs.declared.vectors.Vec2.{Vec2}
 use Rattle.momenta.specs.declared.motion.Motion.{Motion}
 use Rattle.momenta.specs.declared.state.BodyState.{BodyState}
 use Rattle.momenta.specs.declared.state.Ends.{Ends}
-use Rattle.momenta.specs.Impulses.{IsRoomy, fits, given, impulse_pair, or_kept, turned_by}
+use Rattle.momenta.specs.Impulses.{fits, given, impulse_pair, or_kept, turned_by}
+use Rattle.momenta.specs.ImpulseBounds.{IsRoomy}
 use Rattle.momenta.proofs.ImpulseLaws.{moved_by, pair_is}
 
 regrouped : (a b c d : ℤ) → (a +ℤ b) -ℤ (c +ℤ d) ≡ (a -ℤ c) +ℤ (b -ℤ d)

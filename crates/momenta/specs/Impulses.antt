@@ -1,33 +1,16 @@
 -- Impulses: what a body gets of one, what two bodies give one another, and one impulse of the sequential solver along a line.
-use Rattle.std.specs.Prelude.{◌≡◌, zero, ◌≤◌, ◌^◌, Bool, true, false, cond, nat_le, Option, Some, None, ℤ, pos, neg_ℤ, ◌+ℤ◌, ◌-ℤ◌, ◌*ℤ◌, ◌≤ℤ◌, unsigned_abs, int_lt}
+use Rattle.std.specs.Prelude.{zero, ◌^◌, Bool, false, cond, nat_le, Option, Some, None, ℤ, pos, neg_ℤ, ◌+ℤ◌, ◌-ℤ◌, ◌*ℤ◌, unsigned_abs, int_lt}
 use Rattle.fixed_geom.specs.Numbers.{rdiv}
 use Rattle.fixed_geom.specs.Reciprocals.{share_reciprocal}
-use Rattle.fixed_geom.specs.Vectors.{IsWithin, is_within, unit_length, dot, cross, plus, minus, opposite}
+use Rattle.fixed_geom.specs.Vectors.{is_within, unit_length, dot, cross, plus, minus, opposite}
 use Rattle.fixed_geom.specs.declared.vectors.Vec2.{Vec2}
-use Rattle.fixed_geom.specs.declared.vectors.TheConstants.{UNIT}
-use Rattle.fixed_geom.specs.declared.limits.TheConstants.{MAX_OFFSET, MAX_POSITION}
-use Rattle.momenta.specs.declared.limits.TheConstants.{MAX_ANGULAR_MOMENTUM, MAX_INVERSE_MASS, MAX_MOMENTUM, MIN_INVERSE_MASS}
+use Rattle.momenta.specs.declared.limits.TheConstants.{MAX_ANGULAR_MOMENTUM, MAX_MOMENTUM}
 use Rattle.momenta.specs.declared.motion.Motion.{Motion}
 use Rattle.momenta.specs.declared.state.BodyState.{BodyState}
 use Rattle.momenta.specs.declared.state.Ends.{Ends}
 use Rattle.momenta.specs.declared.line.Line.{Line}
 use Rattle.momenta.specs.declared.line.Exerted.{Exerted}
-use Rattle.momenta.specs.Motions.{IsMass, IsMotion, velocity, spin}
-use Rattle.momenta.specs.Reciprocals.{reciprocals_of}
-
--- ---- a body within a step
-
--- what is kept of it: its mass is one, its numbers are within their limits, and the reciprocals are those of the mass. Of a body that no
--- impulse moves, mass and momenta only say how it is carried along: with which velocity and spin.
-pub record IsState (s : BodyState) : Type 0 where
-  pub mass : IsMass s.mass
-  pub reciprocals : s.reciprocals ≡ reciprocals_of s.mass
-  pub motion : IsMotion s.mass s.motion
-  pub start : IsWithin (unsigned_abs MAX_POSITION) s.start
-
-pub record AreStates (e : Ends) : Type 0 where
-  pub a : IsState e.a
-  pub b : IsState e.b
+use Rattle.momenta.specs.Motions.{velocity, spin}
 
 -- the velocity of a point at the offset r, of a body with the velocity v and the spin w
 abbrev pub carried : Vec2 → Vec2 → ℤ → Vec2
@@ -67,25 +50,6 @@ both None b = None
 -- the impulse j given to the second body and taken from the first; neither where a momentum would leave its limits
 unfoldable pub impulse_pair : Vec2 → Vec2 → Vec2 → Ends → Option Ends
 impulse_pair j ra rb e = both (taken (opposite j) ra e.a) (taken j rb e.b)
-
--- what an impulse leaves alone of a body: all but its momenta, and all of one that doesn't move
-pub record IsSameBody (before after : BodyState) : Type 0 where
-  pub movable : after.movable ≡ before.movable
-  pub mass : after.mass ≡ before.mass
-  pub start : after.start ≡ before.start
-  pub reciprocals : after.reciprocals ≡ before.reciprocals
-  pub position : after.motion.x ≡ before.motion.x
-  pub facing : after.motion.rot ≡ before.motion.rot
-  pub immovable : before.movable ≡ false → after ≡ before
-
-pub record AreSameBodies (before after : Ends) : Type 0 where
-  pub a : IsSameBody before.a after.a
-  pub b : IsSameBody before.b after.b
-
--- the momenta of two movers have the same sum
-pub record IsMomentumKept (before after : Ends) : Type 0 where
-  pub x : before.a.movable ≡ true → before.b.movable ≡ true → after.a.motion.p.x +ℤ after.b.motion.p.x ≡ before.a.motion.p.x +ℤ before.b.motion.p.x
-  pub y : before.a.movable ≡ true → before.b.movable ≡ true → after.a.motion.p.y +ℤ after.b.motion.p.y ≡ before.a.motion.p.y +ℤ before.b.motion.p.y
 
 -- ---- along a line
 
@@ -145,18 +109,3 @@ or_kept e None = e
 -- the warm start: the whole kept impulse given once; its total stays
 unfoldable pub warmed : Line → ℤ → Ends → Ends
 warmed line total e = or_kept e (impulse_pair (along line.direction total) line.ra line.rb e)
-
--- the momenta are so far within their limits that two impulses can't take them out
-pub record IsRoomy (m : Motion) : Type 0 where
-  pub p : IsWithin (2 ^ 59) m.p
-  pub l : unsigned_abs m.l ≤ 2 ^ 89
-
--- ---- what must hold of a line
-
-pub record IsLine (line : Line) : Type 0 where
-  pub direction : IsWithin (unsigned_abs UNIT) line.direction
-  pub ra : IsWithin (unsigned_abs MAX_OFFSET) line.ra
-  pub rb : IsWithin (unsigned_abs MAX_OFFSET) line.rb
-  pub inverse_low : MIN_INVERSE_MASS ≤ℤ line.inverse_mass
-  pub inverse_high : unsigned_abs line.inverse_mass ≤ unsigned_abs MAX_INVERSE_MASS
-  pub reciprocal : line.reciprocal ≡ share_reciprocal line.inverse_mass

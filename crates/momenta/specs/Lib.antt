@@ -1,4 +1,5 @@
 pub mod Motions
+pub mod ImpulseBounds
 pub mod Impulses
 pub mod Gains
 pub mod Line64

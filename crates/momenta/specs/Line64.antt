@@ -7,7 +7,8 @@ use Rattle.momenta.specs.declared.line_64.Momenta64.{Momenta64}
 use Rattle.momenta.specs.declared.line_64.MomentaPair64.{MomentaPair64}
 use Rattle.momenta.specs.declared.motion.Motion.{Motion}
 use Rattle.momenta.specs.declared.line.Line.{Line}
-use Rattle.momenta.specs.Impulses.{AreStates, AreSameBodies, IsMomentumKept, between, parting, speed_along, wanted}
+use Rattle.momenta.specs.Impulses.{between, parting, speed_along, wanted}
+use Rattle.momenta.specs.ImpulseBounds.{AreStates, AreSameBodies, IsMomentumKept}
 
 -- the body with these momenta in place of its own
 abbrev pub with_momenta : BodyState → Momenta64 → BodyState

@@ -5,7 +5,8 @@ ghost use Rattle.fixed_geom.specs.Numbers.{rdiv};
 ghost use Rattle.fixed_geom.specs.Reciprocals.{share_reciprocal};
 ghost use Rattle.fixed_geom.specs.Vectors.{IsWithin, cross, unit_length};
 ghost use Rattle.momenta.specs.Motions.{IsMass};
-ghost use Rattle.momenta.specs.Impulses.{IsState, AreStates, turning_share, inverse_share, inverse_mass};
+ghost use Rattle.momenta.specs.Impulses.{turning_share, inverse_share, inverse_mass};
+ghost use Rattle.momenta.specs.ImpulseBounds.{IsState, AreStates};
 
 use crate::line::INVERSE_LIMIT_64;
 use crate::{BodyState, Ends, MAX_INERTIA, MAX_INVERSE_MASS, MAX_MASS, MIN_INVERSE_MASS, MassData};

@@ -5,7 +5,8 @@ ghost use Rattle.std.specs.Prelude.{◌≡◌, ℕ, ◌^◌, ◌<◌, ◌≤◌,
 ghost use Rattle.fixed_geom.specs.Numbers.{rdiv};
 ghost use Rattle.fixed_geom.specs.Reciprocals.{share_reciprocal};
 ghost use Rattle.fixed_geom.specs.Vectors.{IsWithin, dot, unit_length};
-ghost use Rattle.momenta.specs.Impulses.{AreStates, AreSameBodies, IsMomentumKept, IsLine, parting, speed_along, wanted, between, along, exerted, solved_impulse, warmed};
+ghost use Rattle.momenta.specs.Impulses.{parting, speed_along, wanted, between, along, exerted, solved_impulse, warmed};
+ghost use Rattle.momenta.specs.ImpulseBounds.{AreStates, AreSameBodies, IsMomentumKept, IsLine};
 
 use crate::ranges::are_in;
 use crate::{Ends, Goal, MIN_INVERSE_MASS, impulse_pair};

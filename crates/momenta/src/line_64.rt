@@ -5,7 +5,8 @@ ghost use Rattle.std.specs.Prelude.{◌≡◌, ℕ, ◌^◌, ◌<◌, ◌≤◌,
 ghost use Rattle.fixed_geom.specs.Reciprocals.{rdiv_reciprocal, share_reciprocal};
 ghost use Rattle.fixed_geom.specs.Vectors.{IsWithin};
 ghost use Rattle.momenta.specs.Motions.{spin, velocity};
-ghost use Rattle.momenta.specs.Impulses.{AreStates, IsLine, IsState, along, between, exerted, given, impulse_pair, parting, solved_impulse, turned_by, velocity_at, wanted, warmed};
+ghost use Rattle.momenta.specs.Impulses.{along, between, exerted, given, impulse_pair, parting, solved_impulse, turned_by, velocity_at, wanted, warmed};
+ghost use Rattle.momenta.specs.ImpulseBounds.{AreStates, IsLine, IsState};
 ghost use Rattle.momenta.specs.Line64.{LeaveRoom64, HasRoom64, IsImpulse, LeavesRoom64, FitsIn64, ends_with, with_momenta};
 
 use crate::line::{VELOCITY_LIMIT_64, along_64, has_room_64, next_total_64, part_along_64};

@@ -4,7 +4,8 @@ ghost use Rattle.std.specs.Prelude.{◌≡◌, ◌^◌, ◌≤◌, ◌+◌, ◌+
 ghost use Rattle.fixed_geom.specs.Numbers.{rdiv};
 ghost use Rattle.fixed_geom.specs.Vectors.{IsWithin, unit_length};
 ghost use Rattle.momenta.specs.declared.motion.Motion.{Motion};
-ghost use Rattle.momenta.specs.Impulses.{IsRoomy, IsState, AreStates, AreSameBodies, velocity_at, travelled, given, turned_by, fits, impulse_pair, or_kept};
+ghost use Rattle.momenta.specs.Impulses.{velocity_at, travelled, given, turned_by, fits, impulse_pair, or_kept};
+ghost use Rattle.momenta.specs.ImpulseBounds.{IsRoomy, IsState, AreStates, AreSameBodies};
 
 use crate::ranges::is_in;
 use crate::{

@@ -1,5 +1,5 @@
 -- Sets of which one with no ids was dropped, whose number the last one took.
-use Rattle.std.proofs.Common.{◌≡◌, ◌≢◌, ℕ, suc, ◌-◌, ◌<◌, ◌≤◌, List, [], length, get_or, slice_set, take, map, refl, ap, sym, subst, ◌∙◌, arith, inl, inr, Option, Some, None}
+use Rattle.std.proofs.Common.{◌≡◌, ◌≢◌, ℕ, suc, ◌-◌, ◌<◌, ◌≤◌, ◌^◌, List, [], length, get_or, slice_set, take, map, refl, ap, sym, subst, ◌∙◌, arith, inl, inr, Option, Some, None, Vec, Global}
 use Rattle.std.specs.Prelude.{slice_get}
 use Rattle.std.specs.List.{Contains, swap_remove}
 use Rattle.std.proofs.lemmas.Bool.{cases_lt, cases_eq}
@@ -9,9 +9,9 @@ use Rattle.packed_sets.specs.Packs.{list_at}
 use Rattle.packed_sets.specs.Notes.{spot_at, spot_of, numbers_of, IsKept, AreRenoted}
 use Rattle.packed_sets.proofs.ListLaws.{none_not_some, place_of, member_at}
 use Rattle.packed_sets.proofs.PackLaws.{one_spot, same_set, same_place}
-use Rattle.packed_sets.proofs.KeptLaws.{grown_kept, within_sets}
-use Rattle.packed_sets.proofs.NumberLaws.{numbers_count}
-use Rattle.packed_sets.proofs.ViewLaws.{swap_map}
+use Rattle.packed_sets.proofs.KeptLaws.{below_notes, distinct_most, each_once, grown_kept, within_sets}
+use Rattle.packed_sets.proofs.NumberLaws.{numbers_at, numbers_count}
+use Rattle.packed_sets.proofs.ViewLaws.{list_seen, seen_count, swap_map}
 
 -- what is known of the lists
 pub record IsDropped (old new : List (List ℕ)) (s : ℕ) : Type 0 where
@@ -127,3 +127,43 @@ drop_kept sets new notes later s is empty d lt low high = elim (cases_lt s (leng
   | inl less ↦ low_kept sets new notes later s is empty d less (low less)
   | inr ge ↦ last_kept sets new notes later s is empty d ge lt (high ge)
 ]
+
+-- ---- the ids of the last set, which took the number, as vectors are seen
+
+pub record HasMoved (old new : List (List ℕ)) (ids : List ℕ) (s : ℕ) : Type 0 where
+  pub dropped : IsDropped old new s
+  pub less : s < length new
+  pub same : ids ≡ list_at old (length new)
+
+pub moved_in : {X : Type 0} (number : X → ℕ) (old new : List (Vec X Global)) (s : ℕ) (v : Vec X Global) (ids : List X)
+    → s < length old → map (λ (w : Vec X Global). w.items) new ≡ swap_remove (map (λ (w : Vec X Global). w.items) old) s [] → s < length new → v ≡ get_or new s v → ids ≡ v.items
+    → HasMoved (numbers_of number (map (λ (w : Vec X Global). w.items) old)) (numbers_of number (map (λ (w : Vec X Global). w.items) new)) (map number ids) s
+moved_in {X} number old new s v ids lt is within stands e =
+    let before : List (List X) = map (λ (w : Vec X Global). w.items) old in
+    let after : List (List X) = map (λ (w : Vec X Global). w.items) new in
+    let dropped : IsDropped (numbers_of number before) (numbers_of number after) s = dropped_numbers number before after s (omega (arith, lt, seen_count old)) is in
+    let less : s < length (numbers_of number after) = omega (arith, within, numbers_count number after, seen_count new) in
+    let seen : list_at after s ≡ v.items = list_seen new s v within stands in
+    record {
+      dropped = dropped;
+      less = less;
+      same = ap (λ (l : List X). map number l) (e ∙ sym seen) ∙ sym (numbers_at number after s) ∙ dropped.moved less;
+    }
+
+stood_at : (old new : List (List ℕ)) (ids : List ℕ) (s p k : ℕ) → HasMoved old new ids s → slice_get ids p ≡ Some k → slice_get (list_at old (length new)) p ≡ Some k
+stood_at old new ids s p k is at = subst (λ (l : List ℕ). slice_get l p ≡ Some k) is.same at
+
+pub moved_below : (old new : List (List ℕ)) (notes : List (Option Spot)) (ids : List ℕ) (s p k : ℕ) → IsKept old notes → HasMoved old new ids s → slice_get ids p ≡ Some k → k < length notes
+moved_below old new notes ids s p k kept is at = below_notes old notes (length new) k kept (member_at (list_at old (length new)) p k (stood_at old new ids s p k is at))
+
+pub moved_once : (old new : List (List ℕ)) (notes : List (Option Spot)) (ids : List ℕ) (s p q k : ℕ) → IsKept old notes → HasMoved old new ids s → slice_get ids p ≡ Some k → slice_get ids q ≡ Some k → p ≡ q
+moved_once old new notes ids s p q k kept is at also = (each_once old notes kept (length new) (length new) p q k (stood_at old new ids s p k is at) (stood_at old new ids s q k is also)).1
+
+pub moved_few : (old new : List (List ℕ)) (notes : List (Option Spot)) (ids : List ℕ) (s : ℕ) → IsKept old notes → HasMoved old new ids s → length ids ≤ 2 ^ 32
+moved_few old new notes ids s kept is =
+    distinct_most ids (2 ^ 32) (λ p k at. kept.small k (length new) (member_at (list_at old (length new)) p k (stood_at old new ids s p k is at))) (λ p q k at also. moved_once old new notes ids s p q k kept is at also)
+
+-- the notes of these ids follow
+pub moved_kept : (old new : List (List ℕ)) (notes later : List (Option Spot)) (ids : List ℕ) (s : ℕ) → IsKept old notes → list_at old s ≡ [] → HasMoved old new ids s → s < length old → AreRenoted ids s notes later → IsKept new later
+moved_kept old new notes later ids s kept empty is lt renoted =
+    drop_kept old new notes later s kept empty is.dropped lt (λ low. subst (λ (l : List ℕ). AreRenoted l s notes later) is.same renoted) (λ ge. let less = is.less in absurd (omega (arith, ge, less)))

@@ -7,7 +7,7 @@ use Rattle.fixed_geom.specs.declared.boxes.Box2.{Box2}
 use Rattle.fixed_geom.specs.declared.vectors.Vec2.{Vec2}
 use Rattle.fixed_geom.proofs.FacingLemmas.{rotate_within}
 use Rattle.shapes.specs.Bounds.{box_of_ends, tight_box}
-use Rattle.shapes.specs.Poses.{IsPose, placed, core_of}
+use Rattle.shapes.specs.Poses.{IsPose, transformed, core_of}
 use Rattle.shapes.specs.Shapes.{IsShape, IsShapeDef, first_end, second_end, radius_of}
 use Rattle.shapes.specs.declared.pose.Core.{Core}
 use Rattle.shapes.specs.declared.pose.Pose.{Pose}
@@ -15,8 +15,8 @@ use Rattle.shapes.specs.declared.shape.Shape.{Shape}
 use Rattle.shapes.specs.declared.shape.ShapeDef.{ShapeDef}
 use Rattle.plain_world.specs.Fats.{AreFatBoxes, EachIsFatBox, IsFatBox, fat_box_of, fat_boxes, renewed, renewed_boxes}
 
-placed_within : (o : Pose) (v : Vec2) → IsPose o → IsWithin (2 ^ 24) v → IsWithin (2 ^ 36 + 2 ^ 25) (placed o v)
-unfolding placed
+placed_within : (o : Pose) (v : Vec2) → IsPose o → IsWithin (2 ^ 24) v → IsWithin (2 ^ 36 + 2 ^ 25) (transformed o v)
+unfolding transformed
 placed_within o v is near =
     let turned = rotate_within o.rot v (2 ^ 24) is.rot near in
     let first = is.x in

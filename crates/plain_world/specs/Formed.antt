@@ -37,8 +37,8 @@ shape_of_body None index = None
 shape_of_body (Some b) index = cond b.enabled (slice_get b.shapes index) None
 
 -- the shape of this name
-abbrev pub shape_named : List (Option Body) → ShapeId → Option ShapeDef
-shape_named bodies id = shape_of_body (body_at bodies id.slot) id.index
+abbrev pub shape_with_id : List (Option Body) → ShapeId → Option ShapeDef
+shape_with_id bodies id = shape_of_body (body_at bodies id.slot) id.index
 
 -- ---- the surface that two shapes mix to
 

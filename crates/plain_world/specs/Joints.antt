@@ -6,8 +6,8 @@ use Rattle.fixed_geom.specs.declared.refusal.Refusal.{Refusal}
 use Rattle.fixed_geom.specs.declared.refusal.Refusal.TheVariants.{OutOfRange}
 use Rattle.shapes.specs.Shapes.{is_between}
 use Rattle.body_handles.specs.declared.handle.Handle.{Handle}
-use Rattle.body_handles.specs.declared.places.Place.{Place}
-use Rattle.body_handles.specs.Places.{is_live}
+use Rattle.body_handles.specs.declared.slot_table.SlotEntry.{SlotEntry}
+use Rattle.body_handles.specs.SlotEntries.{is_live}
 use Rattle.joint_rows.specs.Joints.{IsJoint}
 use Rattle.joint_rows.specs.declared.limits.TheConstants.{MAX_ANCHOR, MAX_JOINT_LENGTH}
 use Rattle.contacts.specs.declared.forbidden.BodyPair.{BodyPair}
@@ -33,8 +33,8 @@ abbrev pub joint_at : List (Option BodyJoint) → ℕ → Option BodyJoint
 joint_at joints slot = item_at joints slot
 
 -- the joint that a handle names
-abbrev pub joint_of : List Place → List (Option BodyJoint) → Handle → Option BodyJoint
-joint_of places joints h = cond (is_live places h) (joint_at joints h.slot) None
+abbrev pub joint_of : List SlotEntry → List (Option BodyJoint) → Handle → Option BodyJoint
+joint_of slot_entries joints h = cond (is_live slot_entries h) (joint_at joints h.slot) None
 
 -- one of the joint's ends is the body in the slot
 abbrev pub is_joint_of : ℕ → BodyJoint → Bool

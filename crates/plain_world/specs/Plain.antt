@@ -2,7 +2,7 @@
 use Rattle.std.specs.List.{list_any, position}
 use Rattle.std.specs.Prelude.{ℕ, ◌==◌, Bool, List, Option}
 use Rattle.fixed_geom.specs.declared.vectors.Vec2.{Vec2}
-use Rattle.body_handles.specs.declared.places.Place.{Place}
+use Rattle.body_handles.specs.declared.slot_table.SlotEntry.{SlotEntry}
 use Rattle.contacts_base.specs.declared.contact.ContactEntry.{ContactEntry}
 use Rattle.contacts.specs.Constraints.{constraint_number}
 use Rattle.islands.specs.Labels.{Labels}
@@ -12,10 +12,10 @@ use Rattle.plain_world.specs.declared.joint.BodyJoint.{BodyJoint}
 
 pub record Plain : Type 0 where
   -- each body slot that was ever used, and the body in it
-  pub places : List Place
+  pub slot_entries : List SlotEntry
   pub bodies : List (Option Body)
   -- each joint slot that was ever used, and the joint in it
-  pub joint_places : List Place
+  pub joint_entries : List SlotEntry
   pub joints : List (Option BodyJoint)
   -- ascending by key
   pub contacts : List ContactEntry

@@ -1,9 +1,9 @@
 -- Items by slot, bodies or joints, beside the places that say which slots are taken.
 use Rattle.std.specs.Prelude.{◌≡◌, ℕ, ◌≤◌, Bool, false, cond, List, [], ◌∷◌, ◌++◌, length, nat_lt, Option, Some, None, is_some, slice_get, slice_set}
 use Rattle.body_handles.specs.declared.handle.Handle.{Handle}
-use Rattle.body_handles.specs.declared.places.Place.{Place}
-use Rattle.body_handles.specs.declared.places.TheConstants.{MAX_SLOTS}
-use Rattle.body_handles.specs.Places.{is_live}
+use Rattle.body_handles.specs.declared.slot_table.SlotEntry.{SlotEntry}
+use Rattle.body_handles.specs.declared.slot_table.TheConstants.{MAX_SLOTS}
+use Rattle.body_handles.specs.SlotEntries.{is_live}
 use Rattle.plain_world.specs.declared.body.Body.{Body}
 
 abbrev pub item_in : {X : Type 0} → Option (Option X) → Option X
@@ -26,22 +26,22 @@ abbrev pub with_body : List (Option Body) → ℕ → Body → List (Option Body
 with_body bodies slot b = with_item bodies slot b
 
 -- the body that a handle names
-abbrev pub body_of : List Place → List (Option Body) → Handle → Option Body
-body_of places bodies h = cond (is_live places h) (body_at bodies h.slot) None
+abbrev pub body_of : List SlotEntry → List (Option Body) → Handle → Option Body
+body_of slot_entries bodies h = cond (is_live slot_entries h) (body_at bodies h.slot) None
 
 -- whether the slot is taken
-abbrev pub is_taken_place : Option Place → Bool
-is_taken_place None = false
-is_taken_place (Some p) = p.live
+abbrev pub is_taken_entry : Option SlotEntry → Bool
+is_taken_entry None = false
+is_taken_entry (Some p) = p.live
 
-abbrev pub is_taken : List Place → ℕ → Bool
-is_taken places slot = is_taken_place (slice_get places slot)
+abbrev pub is_taken : List SlotEntry → ℕ → Bool
+is_taken slot_entries slot = is_taken_entry (slice_get slot_entries slot)
 
 -- there is an item just in the slots that are taken
-pub record AreMatched {X : Type 0} (places : List Place) (items : List (Option X)) : Type 0 where
-  pub slots : length places ≡ length items
+pub record AreMatched {X : Type 0} (slot_entries : List SlotEntry) (items : List (Option X)) : Type 0 where
+  pub slots : length slot_entries ≡ length items
   pub few : length items ≤ MAX_SLOTS
-  pub taken : (slot : ℕ) → is_some (item_at items slot) ≡ is_taken places slot
+  pub taken : (slot : ℕ) → is_some (item_at items slot) ≡ is_taken slot_entries slot
 
 -- how many shapes take part: all of an enabled body, and none of another
 abbrev pub shapes_in : Option Body → ℕ

@@ -12,7 +12,7 @@ use shapes::{Pose, Shapes, check, is_between};
 use std::alloc::Global;
 
 /// The greatest size of a coordinate of a place, in u.
-const MAX_PLACE: u64 = MAX_POSITION as u64;
+const MAX_BODY_POSITION: u64 = MAX_POSITION as u64;
 
 /// A body to be made: at the place `x` (u) with the facing `rot` (times 2^30), at rest.
 #[derive(Drop)]
@@ -40,7 +40,7 @@ impl BodyDef {
         if !self.kind.is_course_allowed() {
             return Err(Refusal::OutOfRange);
         }
-        if !is_within(self.x, MAX_PLACE) {
+        if !is_within(self.x, MAX_BODY_POSITION) {
             return Err(Refusal::OutOfRange);
         }
         if !is_facing(self.rot) {
@@ -83,7 +83,7 @@ fn is_no_mass(mass: MassData) -> bool
 
 /// Whether a body of this kind may have this mass: a dynamic one a mass of 1 to 2^20 with an inertia of 0 to 2^60, and
 /// any other none.
-fn is_mass_allowed(kind: Kind, mass: MassData) -> bool
+pub fn is_mass_allowed(kind: Kind, mass: MassData) -> bool
     ensures value { result ≡ is_mass_allowed kind mass }
     ensures mass { IsTrue result → IsMassOf kind mass }
 {

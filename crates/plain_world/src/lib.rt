@@ -17,7 +17,7 @@ mod presets;
 mod sleep;
 mod slots;
 
-pub use body::{Body, BodyDef, BodyView, SetName};
+pub use body::{Body, BodyDef, BodyView, SetName, is_mass_allowed};
 pub use changes::{BodyChange, change_slot, disable_slot, enable_slot};
 pub use contacts::Constraint;
 pub use contacts_base::{ContactEntry, ContactKey, ShapeId, Surface};

@@ -5,7 +5,7 @@ ghost use Rattle.plain_world.specs.KeptColours.{constraints_of, members_at};
 
 use crate::body::Body;
 use crate::joint::BodyJoint;
-use body_handles::Place;
+use body_handles::SlotEntry;
 use contacts::Constraint;
 use contacts_base::ContactEntry;
 use fixed_geom::Vec2;
@@ -15,9 +15,9 @@ use std::marker::Model;
 /// A world as plain lists: what a world is, however it is kept.
 #[derive(Drop)]
 pub struct Plain {
-    places: Vec<Place>,
+    slot_entries: Vec<SlotEntry>,
     bodies: Vec<Option<Body>>,
-    joint_places: Vec<Place>,
+    joint_entries: Vec<SlotEntry>,
     joints: Vec<Option<BodyJoint>>,
     contacts: Vec<ContactEntry>,
     islands: Vec<Option<Label>>,
@@ -34,7 +34,7 @@ impl Model for Plain {
 
     ghost Value = { PlainWorld };
 
-    ghost view = { λ a. record { places = a.places.items; bodies = a.bodies.items; joint_places = a.joint_places.items; joints = a.joints.items; contacts = a.contacts.items; islands = a.islands.items; colours = constraints_of a.colours.items; gravity = a.gravity; steps = a.steps; calls = a.calls } };
+    ghost view = { λ a. record { slot_entries = a.slot_entries.items; bodies = a.bodies.items; joint_entries = a.joint_entries.items; joints = a.joints.items; contacts = a.contacts.items; islands = a.islands.items; colours = constraints_of a.colours.items; gravity = a.gravity; steps = a.steps; calls = a.calls } };
 }
 
 impl Plain {
@@ -42,9 +42,9 @@ impl Plain {
     /// same of the joints, the contacts by key, the island of each mover by slot, and for each colour the active constraints that have it, those in the overflow last; the gravity in
     /// u/tick², and how many steps and calls were accepted.
     pub fn new(
-        places: Vec<Place>,
+        slot_entries: Vec<SlotEntry>,
         bodies: Vec<Option<Body>>,
-        joint_places: Vec<Place>,
+        joint_entries: Vec<SlotEntry>,
         joints: Vec<Option<BodyJoint>>,
         contacts: Vec<ContactEntry>,
         islands: Vec<Option<Label>>,
@@ -53,12 +53,12 @@ impl Plain {
         steps: u64,
         calls: u64,
     ) -> Plain
-        ensures { result ≡ record { places = places.items; bodies = bodies.items; joint_places = joint_places.items; joints = joints.items; contacts = contacts.items; islands = islands.items; colours = constraints_of colours.items; gravity = gravity; steps = steps; calls = calls } }
+        ensures { result ≡ record { slot_entries = slot_entries.items; bodies = bodies.items; joint_entries = joint_entries.items; joints = joints.items; contacts = contacts.items; islands = islands.items; colours = constraints_of colours.items; gravity = gravity; steps = steps; calls = calls } }
     {
         Plain {
-            places,
+            slot_entries,
             bodies,
-            joint_places,
+            joint_entries,
             joints,
             contacts,
             islands,
@@ -70,10 +70,10 @@ impl Plain {
     }
 
     /// Each body slot that was ever used: its generation, and whether it is taken.
-    pub fn places(&self) -> &[Place]
-        ensures { result.now ≡ self.now.places }
+    pub fn slot_entries(&self) -> &[SlotEntry]
+        ensures { result.now ≡ self.now.slot_entries }
     {
-        self.places.as_slice()
+        self.slot_entries.as_slice()
     }
 
     /// The body in each slot.
@@ -84,10 +84,10 @@ impl Plain {
     }
 
     /// Each joint slot that was ever used: its generation, and whether it is taken.
-    pub fn joint_places(&self) -> &[Place]
-        ensures { result.now ≡ self.now.joint_places }
+    pub fn joint_entries(&self) -> &[SlotEntry]
+        ensures { result.now ≡ self.now.joint_entries }
     {
-        self.joint_places.as_slice()
+        self.joint_entries.as_slice()
     }
 
     /// The joint in each slot.

@@ -26,7 +26,7 @@ pub fn body_of<'a>(
     bodies: &'a [Option<Body>],
     handle: Handle,
 ) -> Option<&'a Body>
-    ensures { option_copied result ≡ body_of handles.now.places bodies.now handle }
+    ensures { option_copied result ≡ body_of handles.now.slot_entries bodies.now handle }
 {
     if handles.is_live(handle) {
         item_at(bodies, handle.slot as usize)

@@ -1,7 +1,7 @@
 -- Lists that are written item by item: once one of the lists that they are made of has ended, nothing is left.
 use Rattle.std.proofs.Common.{◌≡◌, ℕ, ◌≤◌, ◌∷◌, List, [], length, drop, Option, refl, arith, ◌⊎◌, inl, inr}
 use Rattle.std.proofs.lemmas.List.{drop_all}
-use Rattle.body_handles.specs.declared.places.Place.{Place}
+use Rattle.body_handles.specs.declared.slot_table.SlotEntry.{SlotEntry}
 use Rattle.fixed_geom.specs.declared.boxes.Box2.{Box2}
 use Rattle.islands.specs.Labels.{Labels}
 use Rattle.plain_world.specs.declared.body.Body.{Body}
@@ -18,20 +18,20 @@ pub shapes_end : (defs : List ShapeDef) (fats : List Box2) (n k : ℕ) → (leng
 shapes_end defs fats n k (inl past) end = rw (drop_all k defs (omega arith)) refl
 shapes_end defs fats n k (inr past) end = rw (drop_all k fats (omega arith)) (no_shape (drop k defs))
 
-no_body : (slot : ℕ) (places : List Place) (labels : Labels) → body_slots slot places [] labels ≡ []
+no_body : (slot : ℕ) (slot_entries : List SlotEntry) (labels : Labels) → body_slots slot slot_entries [] labels ≡ []
 no_body slot [] labels = refl
-no_body slot (place ∷ places) labels = refl
+no_body slot (place ∷ slot_entries) labels = refl
 
-pub bodies_end : (places : List Place) (bodies : List (Option Body)) (labels : Labels) (n k : ℕ) → (length places ≤ n) ⊎ (length bodies ≤ n) → n ≤ k → body_slots k (drop k places) (drop k bodies) labels ≡ []
-bodies_end places bodies labels n k (inl past) end = rw (drop_all k places (omega arith)) refl
-bodies_end places bodies labels n k (inr past) end = rw (drop_all k bodies (omega arith)) (no_body k (drop k places) labels)
+pub bodies_end : (slot_entries : List SlotEntry) (bodies : List (Option Body)) (labels : Labels) (n k : ℕ) → (length slot_entries ≤ n) ⊎ (length bodies ≤ n) → n ≤ k → body_slots k (drop k slot_entries) (drop k bodies) labels ≡ []
+bodies_end slot_entries bodies labels n k (inl past) end = rw (drop_all k slot_entries (omega arith)) refl
+bodies_end slot_entries bodies labels n k (inr past) end = rw (drop_all k bodies (omega arith)) (no_body k (drop k slot_entries) labels)
 
-no_joint : (all places : List Place) (colours : List (Option ℕ)) → joint_slots all places [] colours ≡ []
+no_joint : (all slot_entries : List SlotEntry) (colours : List (Option ℕ)) → joint_slots all slot_entries [] colours ≡ []
 no_joint all [] colours = refl
-no_joint all (place ∷ places) colours = refl
+no_joint all (place ∷ slot_entries) colours = refl
 
 -- each place has a colour
-pub joints_end : (all places : List Place) (joints : List (Option BodyJoint)) (colours : ℕ → List Place → List (Option ℕ)) (n k : ℕ) → (length places ≤ n) ⊎ (length joints ≤ n) → n ≤ k
-    → joint_slots all (drop k places) (drop k joints) (colours k (drop k places)) ≡ []
-joints_end all places joints colours n k (inl past) end = rw (drop_all k places (omega arith)) refl
-joints_end all places joints colours n k (inr past) end = rw (drop_all k joints (omega arith)) (no_joint all (drop k places) (colours k (drop k places)))
+pub joints_end : (all slot_entries : List SlotEntry) (joints : List (Option BodyJoint)) (colours : ℕ → List SlotEntry → List (Option ℕ)) (n k : ℕ) → (length slot_entries ≤ n) ⊎ (length joints ≤ n) → n ≤ k
+    → joint_slots all (drop k slot_entries) (drop k joints) (colours k (drop k slot_entries)) ≡ []
+joints_end all slot_entries joints colours n k (inl past) end = rw (drop_all k slot_entries (omega arith)) refl
+joints_end all slot_entries joints colours n k (inr past) end = rw (drop_all k joints (omega arith)) (no_joint all (drop k slot_entries) (colours k (drop k slot_entries)))

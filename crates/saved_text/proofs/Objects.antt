@@ -1,7 +1,7 @@
 -- The members of each object in the order in which they are written.
 use Rattle.std.proofs.Common.{◌≡◌, ℕ, ℤ, Bool, ◌++◌, ◌∷◌, List, [], Option, Some, None, codes, refl}
 use Rattle.serde_json.specs.Data.{boolean, string}
-use Rattle.body_handles.specs.declared.places.Place.{Place}
+use Rattle.body_handles.specs.declared.slot_table.SlotEntry.{SlotEntry}
 use Rattle.contacts_base.specs.declared.contact.ContactEntry.{ContactEntry}
 use Rattle.contacts_base.specs.declared.contact.ContactPoint.{ContactPoint}
 use Rattle.contacts_base.specs.Evaluate.{touches}
@@ -24,9 +24,9 @@ use Rattle.world_file_base.specs.Written.{corners_of, ends_of, integer, list_dat
 use Rattle.shapes.specs.declared.shape.Shape.TheVariants.{Circle, Capsule, Segment}
 use Rattle.shapes.specs.declared.shape.ShapeDef.{ShapeDef}
 use Rattle.world_file.specs.Files.{contact_colours, joint_colours, value_of, written_version}
-use Rattle.saved_text.specs.Bodies.{first_of_body, last_of_body, told_by}
+use Rattle.saved_text.specs.Bodies.{first_of_body, last_of_body, membership_by}
 use Rattle.saved_text.specs.Tokens.{IsObject}
-use Rattle.saved_text.specs.declared.bodies.Told.{Told}
+use Rattle.saved_text.specs.declared.bodies.SavedMembership.{SavedMembership}
 
 -- ---- shapes
 
@@ -70,7 +70,7 @@ segment_object def fat first second is = record { is = rw is refl; ascends = ref
 
 -- ---- bodies
 
-body_by : (b : Body) (label : Option Label) (kind : Kind) → b.kind ≡ kind → IsObject (first_of_body b (told_by label) ++ ((codes "shapes", list_data (shapes_of b.shapes b.fats)) ∷ []) ++ last_of_body kind b.timer) (body_data b label)
+body_by : (b : Body) (label : Option Label) (kind : Kind) → b.kind ≡ kind → IsObject (first_of_body b (membership_by label) ++ ((codes "shapes", list_data (shapes_of b.shapes b.fats)) ∷ []) ++ last_of_body kind b.timer) (body_data b label)
 unfolding body_data put_numbers
 body_by b None Static is = record { is = rw is refl; ascends = refl }
 body_by b None (Kinematic course) is = record { is = rw is refl; ascends = refl }
@@ -79,13 +79,13 @@ body_by b (Some l) Static is = record { is = rw is refl; ascends = refl }
 body_by b (Some l) (Kinematic course) is = record { is = rw is refl; ascends = refl }
 body_by b (Some l) Dynamic is = record { is = rw is refl; ascends = refl }
 
-pub body_object : (b : Body) (label : Option Label) (told : Told) → told ≡ told_by label → IsObject (first_of_body b told ++ ((codes "shapes", list_data (shapes_of b.shapes b.fats)) ∷ []) ++ last_of_body b.kind b.timer) (body_data b label)
-body_object b label told is = rw is (body_by b label b.kind refl)
+pub body_object : (b : Body) (label : Option Label) (membership : SavedMembership) → membership ≡ membership_by label → IsObject (first_of_body b membership ++ ((codes "shapes", list_data (shapes_of b.shapes b.fats)) ∷ []) ++ last_of_body b.kind b.timer) (body_data b label)
+body_object b label membership is = rw is (body_by b label b.kind refl)
 
-pub free_object : (place : Place) → IsObject ((codes "generation", natural place.generation) ∷ []) (slot_of place [] None)
+pub free_object : (place : SlotEntry) → IsObject ((codes "generation", natural place.generation) ∷ []) (slot_of place [] None)
 free_object place = record { is = refl; ascends = refl }
 
-pub body_slot_object : (place : Place) (b : Body) (label : Option Label) → IsObject ((codes "body", body_data b label) ∷ (codes "generation", natural place.generation) ∷ []) (body_slot_of place (Some b) label)
+pub body_slot_object : (place : SlotEntry) (b : Body) (label : Option Label) → IsObject ((codes "body", body_data b label) ∷ (codes "generation", natural place.generation) ∷ []) (body_slot_of place (Some b) label)
 body_slot_object place b label = record { is = refl; ascends = refl }
 
 -- ---- contacts
@@ -114,7 +114,7 @@ contact_object e colour touching is = rw is (record { is = refl; ascends = refl 
 
 -- ---- joints
 
-pub joint_object : (places : List Place) (j : BodyJoint) (colour : Option ℕ) (a b : List ℕ) → string a ≡ id_at places j.a → string b ≡ id_at places j.b → IsObject (
+pub joint_object : (slot_entries : List SlotEntry) (j : BodyJoint) (colour : Option ℕ) (a b : List ℕ) → string a ≡ id_at slot_entries j.a → string b ≡ id_at slot_entries j.b → IsObject (
     (codes "a", string a)
     ∷ (codes "b", string b)
     ∷ (codes "collide", boolean j.collide)
@@ -123,12 +123,12 @@ pub joint_object : (places : List Place) (j : BodyJoint) (colour : Option ℕ) (
     ∷ (codes "impulse", integer j.joint.impulse)
     ∷ (codes "length", integer j.joint.length)
     ∷ (codes "to", vector_of j.joint.to)
-    ∷ []) (joint_data places j colour)
+    ∷ []) (joint_data slot_entries j colour)
 unfolding joint_data
-joint_object places j colour a b first second = record { is = rw (first, second) refl; ascends = refl }
+joint_object slot_entries j colour a b first second = record { is = rw (first, second) refl; ascends = refl }
 
-pub joint_slot_object : (places : List Place) (place : Place) (j : BodyJoint) (colour : Option ℕ) → IsObject ((codes "generation", natural place.generation) ∷ (codes "joint", joint_data places j colour) ∷ []) (joint_slot_of places place (Some j) colour)
-joint_slot_object places place j colour = record { is = refl; ascends = refl }
+pub joint_slot_object : (slot_entries : List SlotEntry) (place : SlotEntry) (j : BodyJoint) (colour : Option ℕ) → IsObject ((codes "generation", natural place.generation) ∷ (codes "joint", joint_data slot_entries j colour) ∷ []) (joint_slot_of slot_entries place (Some j) colour)
+joint_slot_object slot_entries place j colour = record { is = refl; ascends = refl }
 
 -- ---- the world
 
@@ -143,11 +143,11 @@ pub totals_object : (t : Totals) → IsObject (
 totals_object t = record { is = refl; ascends = refl }
 
 pub world_object : (p : Plain) (t : Totals) → IsObject (
-    (codes "bodies", bodies_data p.places p.bodies p.islands)
+    (codes "bodies", bodies_data p.slot_entries p.bodies p.islands)
     ∷ (codes "call", natural p.calls)
     ∷ (codes "contacts", contacts_data p.contacts (contact_colours p.colours p.contacts))
     ∷ (codes "gravity", vector_of p.gravity)
-    ∷ (codes "joints", joints_data p.places p.joint_places p.joints (joint_colours p.colours 0 p.joint_places))
+    ∷ (codes "joints", joints_data p.slot_entries p.joint_entries p.joints (joint_colours p.colours 0 p.joint_entries))
     ∷ (codes "ledger", totals_data t)
     ∷ (codes "step", natural p.steps)
     ∷ (codes "version", natural written_version)

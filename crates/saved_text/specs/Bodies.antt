@@ -9,34 +9,34 @@ use Rattle.world_file_base.specs.SavedBodies.{kind_name}
 use Rattle.world_file_base.specs.Written.{Member, decimal_of, integer, natural, natural_or_null, vector_of}
 use Rattle.serde_json.specs.Data.{boolean, string}
 use Rattle.saved_text.specs.Leaves.{facing_of}
-use Rattle.saved_text.specs.declared.bodies.Told.{Told}
+use Rattle.saved_text.specs.declared.bodies.SavedMembership.{SavedMembership}
 
 -- what a label tells of a body's island
-abbrev pub told_by : Option Label → Told
-told_by None = record { asleep = false; loose = false; island = None }
-told_by (Some l) = record { asleep = is_asleep l.state; loose = is_loose l.state; island = Some l.name }
+abbrev pub membership_by : Option Label → SavedMembership
+membership_by None = record { asleep = false; loose = false; island = None }
+membership_by (Some l) = record { asleep = is_asleep l.state; loose = is_loose l.state; island = Some l.name }
 
-abbrev pub place_of_body : Body → Told → List Member
-place_of_body b told =
-    (codes "asleep", boolean told.asleep)
+abbrev pub position_of_body : Body → SavedMembership → List Member
+position_of_body b membership =
+    (codes "asleep", boolean membership.asleep)
     ∷ (codes "at", vector_of b.motion.x)
     ∷ (codes "enabled", boolean b.enabled)
     ∷ (codes "facing", facing_of b.motion.rot)
     ∷ (codes "inertia", integer b.mass.inertia)
     ∷ []
 
-abbrev pub numbers_of_body : Body → Told → List Member
-numbers_of_body b told =
-    (codes "island", natural_or_null told.island)
+abbrev pub numbers_of_body : Body → SavedMembership → List Member
+numbers_of_body b membership =
+    (codes "island", natural_or_null membership.island)
     ∷ (codes "kind", string (kind_name b.kind))
     ∷ (codes "l", decimal_of b.motion.l)
-    ∷ (codes "loose", boolean told.loose)
+    ∷ (codes "loose", boolean membership.loose)
     ∷ (codes "mass", integer b.mass.mass)
     ∷ (codes "p", vector_of b.motion.p)
     ∷ []
 
-abbrev pub first_of_body : Body → Told → List Member
-first_of_body b told = place_of_body b told ++ numbers_of_body b told
+abbrev pub first_of_body : Body → SavedMembership → List Member
+first_of_body b membership = position_of_body b membership ++ numbers_of_body b membership
 
 abbrev pub last_of_body : Kind → ℕ → List Member
 last_of_body Static timer = (codes "timer", natural timer) ∷ []

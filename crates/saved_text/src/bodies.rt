@@ -6,14 +6,14 @@ ghost use Rattle.world_file_base.specs.SavedBodies.{body_data};
 ghost use Rattle.world_file_base.specs.SavedShapes.{shapes_of};
 ghost use Rattle.world_file_base.specs.SavedSlots.{bodies_data, body_slot_of, slot_of};
 ghost use Rattle.world_file_base.specs.Written.{list_data};
-ghost use Rattle.saved_text.specs.Bodies.{first_of_body, last_of_body, numbers_of_body, place_of_body, told_by};
+ghost use Rattle.saved_text.specs.Bodies.{first_of_body, last_of_body, numbers_of_body, position_of_body, membership_by};
 ghost use Rattle.saved_text.specs.Tokens.{AddsMembers, AddsValue};
 
 use crate::counts::lesser;
 use crate::leaves::Leaf;
 use crate::members::{put_members, put_object};
 use crate::saved_shapes::put_shapes;
-use body_handles::Place;
+use body_handles::SlotEntry;
 use islands::Label;
 use json::Writer;
 use plain_world::{Body, Kind};
@@ -21,22 +21,22 @@ use std::alloc::AllocError;
 
 /// What is told of a body's island.
 #[derive(Clone, Copy)]
-pub(crate) struct Told {
+pub(crate) struct SavedMembership {
     pub(crate) asleep: bool,
     pub(crate) loose: bool,
     pub(crate) island: Option<u32>,
 }
 
-fn told_by(label: Option<Label>) -> Told
-    ensures { result ≡ told_by label }
+fn membership_by(label: Option<Label>) -> SavedMembership
+    ensures { result ≡ membership_by label }
 {
     match label {
-        Some(label) => Told {
+        Some(label) => SavedMembership {
             asleep: label.state.is_asleep(),
             loose: label.state.is_loose(),
             island: Some(label.name),
         },
-        None => Told {
+        None => SavedMembership {
             asleep: false,
             loose: false,
             island: None,
@@ -44,13 +44,17 @@ fn told_by(label: Option<Label>) -> Told
     }
 }
 
-fn put_place(out: &mut Writer, body: &Body, told: Told) -> Result<(), AllocError>
-    ensures text { OnOk result (AddsMembers (place_of_body body.now told) out.old out.new) }
+fn put_position(
+    out: &mut Writer,
+    body: &Body,
+    membership: SavedMembership,
+) -> Result<(), AllocError>
+    ensures text { OnOk result (AddsMembers (position_of_body body.now membership) out.old out.new) }
 {
     put_members(
         out,
         &[
-            ("asleep", Leaf::Truth(told.asleep)),
+            ("asleep", Leaf::Truth(membership.asleep)),
             ("at", Leaf::Vector(body.motion.x)),
             ("enabled", Leaf::Truth(body.enabled)),
             ("facing", Leaf::Facing(body.motion.rot)),
@@ -59,16 +63,16 @@ fn put_place(out: &mut Writer, body: &Body, told: Told) -> Result<(), AllocError
     )
 }
 
-fn put_numbers(out: &mut Writer, body: &Body, told: Told) -> Result<(), AllocError>
-    ensures text { OnOk result (AddsMembers (numbers_of_body body.now told) out.old out.new) }
+fn put_numbers(out: &mut Writer, body: &Body, membership: SavedMembership) -> Result<(), AllocError>
+    ensures text { OnOk result (AddsMembers (numbers_of_body body.now membership) out.old out.new) }
 {
     put_members(
         out,
         &[
-            ("island", Leaf::Island(told.island)),
+            ("island", Leaf::Island(membership.island)),
             ("kind", Leaf::Kind(body.kind)),
             ("l", Leaf::Decimal(&body.motion.l)),
-            ("loose", Leaf::Truth(told.loose)),
+            ("loose", Leaf::Truth(membership.loose)),
             ("mass", Leaf::Integer(&body.mass.mass)),
             ("p", Leaf::Vector(body.motion.p)),
         ],
@@ -76,11 +80,11 @@ fn put_numbers(out: &mut Writer, body: &Body, told: Told) -> Result<(), AllocErr
 }
 
 /// The members of a body that stand before its shapes.
-fn put_first(out: &mut Writer, body: &Body, told: Told) -> Result<(), AllocError>
-    ensures text { OnOk result (AddsMembers (first_of_body body.now told) out.old out.new) }
+fn put_first(out: &mut Writer, body: &Body, membership: SavedMembership) -> Result<(), AllocError>
+    ensures text { OnOk result (AddsMembers (first_of_body body.now membership) out.old out.new) }
 {
-    put_place(out, body, told)?;
-    put_numbers(out, body, told)?;
+    put_position(out, body, membership)?;
+    put_numbers(out, body, membership)?;
     Ok(())
 }
 
@@ -113,7 +117,7 @@ fn put_body(out: &mut Writer, body: &Body, label: Option<Label>) -> Result<(), A
     ensures text { OnOk result (AddsValue (body_data body.now label) out.old out.new) }
 {
     out.begin_object()?;
-    put_first(out, body, told_by(label))?;
+    put_first(out, body, membership_by(label))?;
     out.key("shapes")?;
     put_body_shapes(out, body)?;
     put_last(out, body.kind, body.timer)?;
@@ -122,7 +126,7 @@ fn put_body(out: &mut Writer, body: &Body, label: Option<Label>) -> Result<(), A
 }
 
 /// Writes a slot in which nothing is.
-pub(crate) fn put_free(out: &mut Writer, place: Place) -> Result<(), AllocError>
+pub(crate) fn put_free(out: &mut Writer, place: SlotEntry) -> Result<(), AllocError>
     ensures text { OnOk result (AddsValue (slot_of place [] None) out.old out.new) }
 {
     put_object(out, &[("generation", Leaf::Count(place.generation))])
@@ -130,7 +134,7 @@ pub(crate) fn put_free(out: &mut Writer, place: Place) -> Result<(), AllocError>
 
 fn put_taken(
     out: &mut Writer,
-    place: Place,
+    place: SlotEntry,
     body: &Body,
     label: Option<Label>,
 ) -> Result<(), AllocError>
@@ -146,7 +150,7 @@ fn put_taken(
 
 fn put_slot(
     out: &mut Writer,
-    place: Place,
+    place: SlotEntry,
     entry: &Option<Body>,
     label: Option<Label>,
 ) -> Result<(), AllocError>
@@ -172,15 +176,20 @@ fn label_at(labels: &[Option<Label>], slot: usize) -> Option<Label>
 /// Writes the bodies by slot.
 pub(crate) fn put_bodies(
     out: &mut Writer,
-    places: &[Place],
+    slot_entries: &[SlotEntry],
     bodies: &[Option<Body>],
     labels: &[Option<Label>],
 ) -> Result<(), AllocError>
-    ensures text { OnOk result (AddsValue (bodies_data places.now bodies.now labels.now) out.old out.new) }
+    ensures text { OnOk result (AddsValue (bodies_data slot_entries.now bodies.now labels.now) out.old out.new) }
 {
     out.begin_array()?;
-    for slot in 0..lesser(places.len(), bodies.len()) {
-        put_slot(out, places[slot], &bodies[slot], label_at(labels, slot))?;
+    for slot in 0..lesser(slot_entries.len(), bodies.len()) {
+        put_slot(
+            out,
+            slot_entries[slot],
+            &bodies[slot],
+            label_at(labels, slot),
+        )?;
     }
     out.end_array()?;
     Ok(())

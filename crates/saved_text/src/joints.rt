@@ -2,18 +2,18 @@
 
 ghost use Rattle.std.specs.Prelude.{◌≡◌, ◌∷◌, [], List, Some, IfOk, OnOk, nat_eq, string_bytes};
 ghost use Rattle.std.specs.HashMap.{get};
-ghost use Rattle.body_handles.specs.declared.places.Place.{Place};
+ghost use Rattle.body_handles.specs.declared.slot_table.SlotEntry.{SlotEntry};
 ghost use Rattle.serde_json.specs.Data.{string};
 ghost use Rattle.world_file_base.specs.SavedJoints.{id_at, joint_data};
 ghost use Rattle.world_file_base.specs.SavedSlots.{joint_slot_of, joints_data};
-ghost use Rattle.world_file.specs.Marked.{joint_colours_by};
+ghost use Rattle.world_file.specs.Taken.{joint_colours_by};
 ghost use Rattle.saved_text.specs.Tokens.{AddsValue};
 
 use crate::bodies::put_free;
 use crate::counts::lesser;
 use crate::leaves::Leaf;
 use crate::members::{put_members, put_object};
-use body_handles::{Handle, Id, Place};
+use body_handles::{Handle, Id, SlotEntry};
 use json::Writer;
 use plain_world::BodyJoint;
 use std::alloc::{AllocError, Global};
@@ -21,10 +21,10 @@ use std::collections::HashMap;
 use world_file::{colour_at, joint_number};
 
 /// The id of the body in a slot.
-fn name_at(alloc: Global, places: &[Place], slot: u32) -> Result<String, AllocError>
-    ensures name { IfOk result (λ name. string (string_bytes name) ≡ id_at places.now slot) }
+fn name_at(alloc: Global, slot_entries: &[SlotEntry], slot: u32) -> Result<String, AllocError>
+    ensures name { IfOk result (λ name. string (string_bytes name) ≡ id_at slot_entries.now slot) }
 {
-    let generation = match places.get(slot as usize) {
+    let generation = match slot_entries.get(slot as usize) {
         Some(place) => place.generation,
         None => 0,
     };
@@ -41,7 +41,7 @@ fn put_named<'a>(
     b: &'a str,
     colour: Option<u8>,
 ) -> Result<(), AllocError>
-    ensures text { (places : List Place) → string a.now ≡ id_at places joint.now.a → string b.now ≡ id_at places joint.now.b → OnOk result (AddsValue (joint_data places joint.now colour) out.old out.new) }
+    ensures text { (slot_entries : List SlotEntry) → string a.now ≡ id_at slot_entries joint.now.a → string b.now ≡ id_at slot_entries joint.now.b → OnOk result (AddsValue (joint_data slot_entries joint.now colour) out.old out.new) }
 {
     put_object(
         out,
@@ -62,14 +62,14 @@ fn put_named<'a>(
 fn put_joint(
     out: &mut Writer,
     alloc: Global,
-    places: &[Place],
+    slot_entries: &[SlotEntry],
     joint: &BodyJoint,
     colour: Option<u8>,
 ) -> Result<(), AllocError>
-    ensures text { OnOk result (AddsValue (joint_data places.now joint.now colour) out.old out.new) }
+    ensures text { OnOk result (AddsValue (joint_data slot_entries.now joint.now colour) out.old out.new) }
 {
-    let a = name_at(alloc, places, joint.a)?;
-    let b = name_at(alloc, places, joint.b)?;
+    let a = name_at(alloc, slot_entries, joint.a)?;
+    let b = name_at(alloc, slot_entries, joint.b)?;
     put_named(out, joint, &a, &b, colour)?;
     Ok(())
 }
@@ -77,17 +77,17 @@ fn put_joint(
 fn put_taken(
     out: &mut Writer,
     alloc: Global,
-    places: &[Place],
-    place: Place,
+    slot_entries: &[SlotEntry],
+    place: SlotEntry,
     joint: &BodyJoint,
     colour: Option<u8>,
 ) -> Result<(), AllocError>
-    ensures text { OnOk result (AddsValue (joint_slot_of places.now place (Some joint.now) colour) out.old out.new) }
+    ensures text { OnOk result (AddsValue (joint_slot_of slot_entries.now place (Some joint.now) colour) out.old out.new) }
 {
     out.begin_object()?;
     put_members(out, &[("generation", Leaf::Count(place.generation))])?;
     out.key("joint")?;
-    put_joint(out, alloc, places, joint, colour)?;
+    put_joint(out, alloc, slot_entries, joint, colour)?;
     out.end_object()?;
     Ok(())
 }
@@ -95,15 +95,15 @@ fn put_taken(
 fn put_slot(
     out: &mut Writer,
     alloc: Global,
-    places: &[Place],
-    place: Place,
+    slot_entries: &[SlotEntry],
+    place: SlotEntry,
     entry: &Option<BodyJoint>,
     colour: Option<u8>,
 ) -> Result<(), AllocError>
-    ensures text { OnOk result (AddsValue (joint_slot_of places.now place entry.now colour) out.old out.new) }
+    ensures text { OnOk result (AddsValue (joint_slot_of slot_entries.now place entry.now colour) out.old out.new) }
 {
     match entry {
-        Some(joint) => put_taken(out, alloc, places, place, joint, colour),
+        Some(joint) => put_taken(out, alloc, slot_entries, place, joint, colour),
         None => put_free(out, place),
     }
 }
@@ -112,18 +112,18 @@ fn put_slot(
 pub(crate) fn put_joints(
     out: &mut Writer,
     alloc: Global,
-    places: &[Place],
-    joint_places: &[Place],
+    slot_entries: &[SlotEntry],
+    joint_entries: &[SlotEntry],
     joints: &[Option<BodyJoint>],
     by_number: &HashMap<u128, u8>,
 ) -> Result<(), AllocError>
-    ensures text { OnOk result (AddsValue (joints_data places.now joint_places.now joints.now (joint_colours_by (get nat_eq by_number.now) 0 joint_places.now)) out.old out.new) }
+    ensures text { OnOk result (AddsValue (joints_data slot_entries.now joint_entries.now joints.now (joint_colours_by (get nat_eq by_number.now) 0 joint_entries.now)) out.old out.new) }
 {
     out.begin_array()?;
-    for slot in 0..lesser(joint_places.len(), joints.len()) {
-        let place = joint_places[slot];
+    for slot in 0..lesser(joint_entries.len(), joints.len()) {
+        let place = joint_entries[slot];
         let colour = colour_at(by_number, joint_number(slot, place.generation));
-        put_slot(out, alloc, places, place, &joints[slot], colour)?;
+        put_slot(out, alloc, slot_entries, place, &joints[slot], colour)?;
     }
     out.end_array()?;
     Ok(())

@@ -3,7 +3,7 @@
 ghost use Rattle.std.specs.Prelude.{◌∷◌, [], OnOk, codes, nat_eq};
 ghost use Rattle.std.specs.HashMap.{get};
 ghost use Rattle.world_file_base.specs.SavedContacts.{contact_data, contacts_data, point_data, point_or_none, points_of};
-ghost use Rattle.world_file.specs.Marked.{contact_colours_by};
+ghost use Rattle.world_file.specs.Taken.{contact_colours_by};
 ghost use Rattle.saved_text.specs.Tokens.{AddsItems, AddsMembers, AddsValue};
 
 use crate::leaves::Leaf;

@@ -10,7 +10,7 @@ ghost use Rattle.world_file_base.specs.SavedContacts.{contacts_data};
 ghost use Rattle.world_file_base.specs.SavedSlots.{bodies_data, joints_data};
 ghost use Rattle.world_file_base.specs.SavedTotals.{totals_data};
 ghost use Rattle.world_file.specs.Files.{contact_colours, joint_colours, value_of};
-ghost use Rattle.world_file.specs.Marked.{colour_numbered};
+ghost use Rattle.world_file.specs.Taken.{colour_numbered};
 ghost use Rattle.saved_text.specs.Texts.{IsTextOf};
 ghost use Rattle.saved_text.specs.Tokens.{AddsMembers, AddsValue};
 
@@ -32,10 +32,10 @@ use world_file::colours_by_number;
 const WRITTEN: u64 = 2;
 
 fn put_all_bodies(out: &mut Writer, plain: &Plain) -> Result<(), AllocError>
-    ensures text { OnOk result (AddsMembers ((codes "bodies", bodies_data plain.now.places plain.now.bodies plain.now.islands) ∷ []) out.old out.new) }
+    ensures text { OnOk result (AddsMembers ((codes "bodies", bodies_data plain.now.slot_entries plain.now.bodies plain.now.islands) ∷ []) out.old out.new) }
 {
     out.key("bodies")?;
-    put_bodies(out, plain.places(), plain.bodies(), plain.islands())?;
+    put_bodies(out, plain.slot_entries(), plain.bodies(), plain.islands())?;
     Ok(())
 }
 
@@ -59,14 +59,14 @@ fn put_all_joints(
     by_number: &HashMap<u128, u8>,
 ) -> Result<(), AllocError>
     requires colours { (number : ℕ) → get nat_eq by_number.now number ≡ colour_numbered number plain.now.colours }
-    ensures text { OnOk result (AddsMembers ((codes "joints", joints_data plain.now.places plain.now.joint_places plain.now.joints (joint_colours plain.now.colours 0 plain.now.joint_places)) ∷ []) out.old out.new) }
+    ensures text { OnOk result (AddsMembers ((codes "joints", joints_data plain.now.slot_entries plain.now.joint_entries plain.now.joints (joint_colours plain.now.colours 0 plain.now.joint_entries)) ∷ []) out.old out.new) }
 {
     out.key("joints")?;
     put_joints(
         out,
         alloc,
-        plain.places(),
-        plain.joint_places(),
+        plain.slot_entries(),
+        plain.joint_entries(),
         plain.joints(),
         by_number,
     )?;

@@ -80,9 +80,12 @@ fn answer_save<'a>(alloc: Global, world: &WorldCore) -> Answer<'a> {
     }
 }
 
-/// Puts the world of a text in place of the world. Refused 12 with the first clause that it breaks, or 1; the world stays then.
-fn answer_load<'a>(alloc: Global, world: &mut WorldCore, text: &str) -> Answer<'a> {
-    match load(alloc, text) {
+/// Puts a world that was loaded in place of the world, which stays where there is none.
+pub(crate) fn answer_loaded<'a>(
+    world: &mut WorldCore,
+    loaded: Result<WorldCore, Refusal>,
+) -> Answer<'a> {
+    match loaded {
         Ok(loaded) => {
             *world = loaded;
             Answer::Done
@@ -145,7 +148,7 @@ fn answer_region_with_ids<'a>(alloc: Global, world: &'a WorldCore, bounds: &Box2
 /// The bodies by slot: all, or those alone that are awake.
 fn answer_bodies<'a>(world: &'a WorldCore, awake: bool) -> Answer<'a> {
     Answer::Bodies(BodyList {
-        places: places_of(world),
+        slot_entries: places_of(world),
         bodies: bodies_of(world),
         awake,
     })
@@ -226,7 +229,7 @@ pub(crate) fn answer<'a, R: AllocGlobal + Threads + Wait + Sync>(
         Request::Ray(from, along) => answer_ray(&worlds.world, *from, *along),
         Request::Region(bounds) => answer_region(rt.alloc(), &worlds.world, bounds),
         Request::Save => answer_save(rt.alloc(), &worlds.world),
-        Request::Load(text) => answer_load(rt.alloc(), &mut worlds.world, text),
+        Request::Load(text) => answer_loaded(&mut worlds.world, load(rt.alloc(), text)),
         Request::Crowd(def) => answer_crowd(rt, &mut worlds.world, def, options),
         Request::Extended(request) => answer_extended(rt, worlds, *request, options),
     }

@@ -8,7 +8,7 @@ use serde_json::Value;
 use std::alloc::Global;
 use std::sync::Wait;
 use std::thread::Threads;
-use world_core::{Command, Events, Handle, Place, Reply, ShapeId, StepSolver, WorldCore};
+use world_core::{Command, Events, Handle, Reply, ShapeId, SlotEntry, StepSolver, WorldCore};
 use world_file_base::{Broken, Clause};
 use world_lock::{Opened, Seat, SharedWorld};
 use world_queries::{Hit, QueryFilter};
@@ -98,8 +98,8 @@ pub(crate) fn bodies_of(world: &WorldCore) -> &[Option<Body>] {
 }
 
 /// The slots of bodies that were ever used.
-pub(crate) fn places_of(world: &WorldCore) -> &[Place] {
-    world.places()
+pub(crate) fn places_of(world: &WorldCore) -> &[SlotEntry] {
+    world.slot_entries()
 }
 
 /// The world as plain lists. Refused 1 where memory is wanting.
@@ -127,11 +127,18 @@ pub(crate) fn save(alloc: Global, world: &WorldCore) -> Result<String, Refusal> 
     world_desk::text_of(alloc, world)
 }
 
+/// The world of a text that a save wrote. Refused 12 with the first clause that it breaks, or 1 where memory is wanting. Nothing is answered of another
+/// text.
+pub(crate) fn load_saved(alloc: Global, text: &[u8]) -> Option<Result<WorldCore, Refusal>> {
+    let read = world_desk::read_world(alloc, text)?;
+    Some(read.map_err(|broken| broken.refusal()))
+}
+
 /// The world of a text that is JSON. Refused 12 with the first clause that it breaks, or 1 where memory is wanting. No value is made of a text that
 /// a save wrote, nor of one that can't be a saved world at the first look, which is refused.
 pub(crate) fn load(alloc: Global, text: &str) -> Result<WorldCore, Refusal> {
-    if let Some(read) = world_desk::read_world(alloc, text.as_bytes()) {
-        return read.map_err(|broken| broken.refusal());
+    if let Some(loaded) = load_saved(alloc, text.as_bytes()) {
+        return loaded;
     }
     if !may_be_world(text, &mut Scratch::new(alloc))? {
         return Err(Broken::Clause(Clause::Form).refusal());

@@ -1,19 +1,21 @@
 //! Lines in, answers out.
 
-use crate::answers::answer;
+use crate::answers::{answer, answer_loaded};
 use crate::calls::settle;
 use crate::explanation::{BadLine, CrowdRefusals, explain};
 use crate::requests::{Request, request_of};
+use crate::saved_lines::loaded_by;
 use crate::status::Status;
 use crate::worlds::Worlds;
 use fixed_geom::Refusal;
 use json::Scratch;
 use script_options::Options;
+use std::alloc::Global;
 use std::io::{BufRead, Write};
 use std::sync::Wait;
 use std::thread::Threads;
 use world_script_base::{
-    Answer, LONGEST, LineFault, LineReader, Outbox, Reason, Stop, broken_place,
+    Answer, LONGEST, LineFault, LineReader, Outbox, Reason, Stop, broken_path,
 };
 
 /// The line that is read, and the room that its reading needs.
@@ -36,7 +38,7 @@ fn is_blank(line: &[u8]) -> bool {
 }
 
 /// Tells in words why a request is refused, and at which place of a saved world.
-fn tell_refusal<R: AllocGlobal + Eprint>(
+fn print_refusal<R: AllocGlobal + Eprint>(
     rt: &R,
     number: u64,
     request: &Request<'_>,
@@ -44,7 +46,7 @@ fn tell_refusal<R: AllocGlobal + Eprint>(
 ) {
     let explanation = explain(request, refusal);
     let place = match request {
-        Request::Load(text) => broken_place(rt.alloc(), text),
+        Request::Load(text) => broken_path(rt.alloc(), text),
         _ => Ok(None),
     };
     let _ = match place {
@@ -54,9 +56,14 @@ fn tell_refusal<R: AllocGlobal + Eprint>(
 }
 
 /// Tells in words why a request is refused, and how many of a crowd's calls were.
-fn tell<R: AllocGlobal + Eprint>(rt: &R, number: u64, request: &Request<'_>, answer: &Answer<'_>) {
+fn print_explanation<R: AllocGlobal + Eprint>(
+    rt: &R,
+    number: u64,
+    request: &Request<'_>,
+    answer: &Answer<'_>,
+) {
     match (answer, request) {
-        (Answer::Refused(refusal), _) => tell_refusal(rt, number, request, *refusal),
+        (Answer::Refused(refusal), _) => print_refusal(rt, number, request, *refusal),
         (Answer::Crowd(journal, seats), Request::Crowd(def)) => {
             let refusals = CrowdRefusals::of(def, seats.len() as u64, *journal);
             if refusals.refused > 0 {
@@ -77,7 +84,7 @@ fn answer_request<R: AllocGlobal + Eprint + Threads + Wait + Sync, O: Write>(
 ) -> Result<(), Stop> {
     let answer = answer(rt, worlds, request, options);
     if options.explain {
-        tell(rt, number, request, &answer);
+        print_explanation(rt, number, request, &answer);
     }
     outbox.write(&answer)
 }
@@ -101,6 +108,20 @@ fn refuse_line<R: Eprint, O: Write>(
     Stop::BadLine
 }
 
+/// Answers a line that loads what a save wrote, if it is one. Where a refusal is told in words, the line is read as a request.
+fn answer_saved<'a>(
+    alloc: Global,
+    worlds: &mut Worlds,
+    line: &[u8],
+    options: Options,
+) -> Option<Answer<'a>> {
+    if options.explain {
+        return None;
+    }
+    let loaded = loaded_by(alloc, line)?;
+    Some(answer_loaded(&mut worlds.world, loaded))
+}
+
 /// Answers a line; one that is blank asks for nothing.
 fn answer_line<R: AllocGlobal + Eprint + Threads + Wait + Sync, O: Write>(
     rt: &R,
@@ -115,6 +136,9 @@ fn answer_line<R: AllocGlobal + Eprint + Threads + Wait + Sync, O: Write>(
     }
     if is_blank(page.line.as_slice()) {
         return Ok(());
+    }
+    if let Some(answer) = answer_saved(rt.alloc(), worlds, page.line.as_slice(), options) {
+        return outbox.write(&answer);
     }
     match request_of(
         rt.alloc(),

@@ -3,7 +3,7 @@
 ghost use Rattle.plain_world.specs.Bodies.{AreBodies};
 ghost use Rattle.plain_world.specs.Joints.{AreJoints};
 
-use body_handles::{Handle, Place};
+use body_handles::{Handle, SlotEntry};
 use fixed_geom::Refusal;
 use plain_world::{BodyJoint, Plain, item_at};
 use std::alloc::Global;
@@ -11,8 +11,8 @@ use world_core::WorldCore;
 use world_script_base::{JointReport, JointView, joint_view};
 
 /// The handle of what is in a slot.
-fn handle_in(places: &[Place], slot: u32) -> Handle {
-    let generation = match places.get(slot as usize) {
+fn handle_in(slot_entries: &[SlotEntry], slot: u32) -> Handle {
+    let generation = match slot_entries.get(slot as usize) {
         Some(place) => place.generation,
         None => 0,
     };
@@ -21,9 +21,9 @@ fn handle_in(places: &[Place], slot: u32) -> Handle {
 
 fn report_of(plain: &Plain, slot: u32, joint: &BodyJoint, view: JointView) -> JointReport {
     JointReport {
-        joint: handle_in(plain.joint_places(), slot),
-        a: handle_in(plain.places(), joint.a),
-        b: handle_in(plain.places(), joint.b),
+        joint: handle_in(plain.joint_entries(), slot),
+        a: handle_in(plain.slot_entries(), joint.a),
+        b: handle_in(plain.slot_entries(), joint.b),
         ends: (view.from, view.to),
         length: joint.joint.length,
         stretch: view.stretch,

@@ -9,6 +9,7 @@ mod explanation;
 mod extended;
 mod joints;
 mod requests;
+mod saved_lines;
 mod status;
 mod worlds;
 

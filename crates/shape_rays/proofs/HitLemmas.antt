@@ -4,7 +4,7 @@ use Rattle.std.proofs.lemmas.Bool.{false≢true}
 use Rattle.std.proofs.lemmas.Bool.Decides.{nat_tests}
 use Rattle.shapes.specs.declared.beam.Beam.{Beam}
 use Rattle.shape_rays.specs.declared.hits.Hit.{Hit}
-use Rattle.shape_rays.specs.declared.hits.PlacedShape.{PlacedShape}
+use Rattle.shape_rays.specs.declared.hits.PosedShape.{PosedShape}
 use Rattle.shape_rays.specs.Hits.{is_before, nearer, hit_on, first_hit}
 use Rattle.shape_rays.specs.Laws.{AreInAnyOrder}
 
@@ -83,6 +83,6 @@ in_any_order = record { commute = commute; associate = associate; none = none_la
 
 -- ---- lists of shapes
 
-pub first_of_parts : (r : Beam) (ps qs : List PlacedShape) → first_hit r (ps ++ qs) ≡ nearer (first_hit r ps) (first_hit r qs)
+pub first_of_parts : (r : Beam) (ps qs : List PosedShape) → first_hit r (ps ++ qs) ≡ nearer (first_hit r ps) (first_hit r qs)
 first_of_parts r [] qs = refl
 first_of_parts r (p ∷ ps) qs = ap (λ (o : Option Hit). nearer (hit_on r p) o) (first_of_parts r ps qs) ∙ sym (associate (hit_on r p) (first_hit r ps) (first_hit r qs))

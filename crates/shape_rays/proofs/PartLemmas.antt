@@ -56,11 +56,11 @@ pub record IsNearCorner (o v : Vec2) : Type 0 where
   pub within : IsWithin (2 ^ 61) v
   pub near : IsWithin (2 ^ 29) (minus v o)
 
-placed_near : (x o : ℤ) → unsigned_abs o ≤ 2 ^ 36 → unsigned_abs (x -ℤ o) ≤ 2 ^ 29 → unsigned_abs x ≤ 2 ^ 61
-placed_near x o h k = omega (arith, ints, h, k)
+transformed_near : (x o : ℤ) → unsigned_abs o ≤ 2 ^ 36 → unsigned_abs (x -ℤ o) ≤ 2 ^ 29 → unsigned_abs x ≤ 2 ^ 61
+transformed_near x o h k = omega (arith, ints, h, k)
 
 corner_near : (o v : Vec2) → IsWithin (2 ^ 36) o → IsWithin (2 ^ 29) (minus v o) → IsNearCorner o v
-corner_near o v h k = record { within = record { x = placed_near v.x o.x h.x k.x; y = placed_near v.y o.y h.y k.y }; near = k }
+corner_near o v h k = record { within = record { x = transformed_near v.x o.x h.x k.x; y = transformed_near v.y o.y h.y k.y }; near = k }
 
 pub low_corner : (r : Beam) (b : Box2) → IsBeam r → Overlaps b (box_round r) → IsNearCorner r.from (common b (box_round r)).lo
 low_corner r b h o = corner_near r.from (common b (box_round r)).lo h.from (record { x = near_low b.lo.x r.from.x r.along.x h.along.x o.left; y = near_low b.lo.y r.from.y r.along.y h.along.y o.down })

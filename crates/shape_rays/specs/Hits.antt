@@ -9,9 +9,9 @@ use Rattle.shapes.specs.Poses.{IsPose}
 use Rattle.shapes.specs.Rays.{ray_of}
 use Rattle.shapes.specs.Shapes.{IsShape}
 use Rattle.shape_rays.specs.declared.hits.Hit.{Hit}
-use Rattle.shape_rays.specs.declared.hits.PlacedShape.{PlacedShape}
+use Rattle.shape_rays.specs.declared.hits.PosedShape.{PosedShape}
 
-pub record IsPlacedShape (p : PlacedShape) : Type 0 where
+pub record IsPosedShape (p : PosedShape) : Type 0 where
   pub shape : IsShape p.shape
   pub pose : IsPose p.pose
 
@@ -38,15 +38,15 @@ hit_at None s = None
 hit_at (Some f) s = Some (record { fraction = f; shape = s })
 
 -- the ray's hit on one shape
-abbrev pub hit_on : Beam → PlacedShape → Option Hit
+abbrev pub hit_on : Beam → PosedShape → Option Hit
 hit_on r p = hit_at (ray_of p.shape p.pose r.from r.along) p.id
 
 -- the ray's first hit on all these shapes
-abbrev pub first_hit : Beam → List PlacedShape → Option Hit
+abbrev pub first_hit : Beam → List PosedShape → Option Hit
 first_hit r [] = None
 first_hit r (p ∷ ps) = nearer (hit_on r p) (first_hit r ps)
 
 -- the names of the shapes whose tight box overlaps the region, in the order of the list
-abbrev pub region : Box2 → List PlacedShape → List ShapeId
+abbrev pub region : Box2 → List PosedShape → List ShapeId
 region b [] = []
 region b (p ∷ ps) = cond (overlaps (tight_box p.shape p.pose) b) (p.id ∷ region b ps) (region b ps)

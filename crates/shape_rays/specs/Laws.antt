@@ -10,7 +10,7 @@ use Rattle.shapes.specs.Rays.{IsBeam, whole, ray_of}
 use Rattle.shapes.specs.Shapes.{IsShape}
 use Rattle.shape_rays.specs.declared.boxes.TheConstants.{RAY_SLACK}
 use Rattle.shape_rays.specs.declared.hits.Hit.{Hit}
-use Rattle.shape_rays.specs.declared.hits.PlacedShape.{PlacedShape}
+use Rattle.shape_rays.specs.declared.hits.PosedShape.{PosedShape}
 use Rattle.shape_rays.specs.Hits.{nearer, first_hit}
 use Rattle.shape_rays.specs.Reach.{IsInAt, reaches}
 
@@ -23,7 +23,7 @@ pub record AreInAnyOrder : Type 0 where
 
 -- the first hit on two lists is the nearer of the first hits on each
 abbrev pub PartsGiveTheFirst : Type 0
-PartsGiveTheFirst = (r : Beam) (ps qs : List PlacedShape) → first_hit r (ps ++ qs) ≡ nearer (first_hit r ps) (first_hit r qs)
+PartsGiveTheFirst = (r : Beam) (ps qs : List PosedShape) → first_hit r (ps ++ qs) ≡ nearer (first_hit r ps) (first_hit r qs)
 
 -- a box within one that the ray doesn't reach isn't reached
 abbrev pub MissesWithin : Type 0

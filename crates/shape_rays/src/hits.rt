@@ -5,7 +5,7 @@ ghost use Rattle.fixed_geom.specs.Boxes.{overlaps};
 ghost use Rattle.shapes.specs.Shapes.{IsShape};
 ghost use Rattle.shapes.specs.Poses.{IsPose};
 ghost use Rattle.shapes.specs.Bounds.{tight_box};
-ghost use Rattle.shape_rays.specs.Hits.{IsPlacedShape, is_lesser, is_before, nearer, hit_at, hit_on, first_hit};
+ghost use Rattle.shape_rays.specs.Hits.{IsPosedShape, is_lesser, is_before, nearer, hit_at, hit_on, first_hit};
 
 use crate::RayCast;
 use contacts_base::ShapeId;
@@ -21,7 +21,7 @@ pub struct Hit {
 
 /// A shape in the world: its name, its form, and the pose of its body.
 #[derive(Clone, Copy, Debug, PartialEq, Eq)]
-pub struct PlacedShape {
+pub struct PosedShape {
     pub id: ShapeId,
     pub shape: Shape,
     pub pose: Pose,
@@ -76,22 +76,25 @@ fn hit_at(fraction: Option<u32>, shape: ShapeId) -> Option<Hit>
 }
 
 /// The ray's hit on one shape.
-pub fn hit_on(cast: &RayCast, placed: &PlacedShape) -> Option<Hit>
-    requires { IsPlacedShape placed.now }
-    ensures { result ≡ hit_on cast.now placed.now }
+pub fn hit_on(cast: &RayCast, transformed: &PosedShape) -> Option<Hit>
+    requires { IsPosedShape transformed.now }
+    ensures { result ≡ hit_on cast.now transformed.now }
 {
-    hit_at(cast.hit(&placed.shape, placed.pose), placed.id)
+    hit_at(
+        cast.hit(&transformed.shape, transformed.pose),
+        transformed.id,
+    )
 }
 
 /// The ray's first hit on all these shapes: the least by its fraction and then by the shape's name. It looks at each
 /// shape, and takes no memory.
-pub fn first_hit(cast: &RayCast, shapes: &[PlacedShape]) -> Option<Hit>
-    requires { All IsPlacedShape shapes.now }
+pub fn first_hit(cast: &RayCast, shapes: &[PosedShape]) -> Option<Hit>
+    requires { All IsPosedShape shapes.now }
     ensures { result ≡ first_hit cast.now shapes.now }
 {
     let mut best: Option<Hit> = None;
-    for placed in shapes {
-        best = nearer(best, hit_on(cast, placed));
+    for transformed in shapes {
+        best = nearer(best, hit_on(cast, transformed));
     }
     best
 }

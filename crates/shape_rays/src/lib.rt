@@ -13,4 +13,4 @@ pub mod laws;
 
 pub use boxes::{RAY_SLACK, limits_in_digits};
 pub use cast::RayCast;
-pub use hits::{Hit, PlacedShape, first_hit, hit_on, is_over, nearer};
+pub use hits::{Hit, PosedShape, first_hit, hit_on, is_over, nearer};

@@ -15,8 +15,9 @@ use Rattle.shapes.specs.declared.spots.Pair.{Pair}
 use Rattle.shapes.specs.Choice.{chosen_from}
 use Rattle.shapes.specs.Cores.{is_point, cores_cross}
 use Rattle.shapes.specs.Discs.{disc_of, disc_pair, disc_point, point_core}
-use Rattle.shapes.specs.Manifolds.{IsPointWithin, chosen_spots, manifold_between, manifold_of, placed_pair, point_of}
-use Rattle.shapes.specs.Poses.{IsPose, placed}
+use Rattle.shapes.specs.Manifolds.{chosen_spots, manifold_between, manifold_of, posed_pair, point_of}
+use Rattle.shapes.specs.PointsWithin.{IsPointWithin}
+use Rattle.shapes.specs.Poses.{IsPose, transformed}
 use Rattle.shapes.specs.Shapes.{IsShape}
 use Rattle.shapes.specs.Spots.{measured, of_a, of_b, others, separation_of, spot_of}
 use Rattle.shapes.proofs.ChoiceLemmas.{chosen_are}
@@ -64,11 +65,11 @@ manifold_of_pair a b x y = ap (made_of x y) (discs_chosen a b)
 
 -- a circle of a body in the world
 abbrev circle_in : Vec2 → ℤ → Pose → Disc
-circle_in v r o = record { center = placed o v; radius = r }
+circle_in v r o = record { center = transformed o v; radius = r }
 
-circles_pair : (c d : Vec2) (r t : ℤ) (o p : Pose) → placed_pair (Circle c r) o (Circle d t) p ≡ disc_pair (circle_in c r o) (circle_in d t p)
+circles_pair : (c d : Vec2) (r t : ℤ) (o p : Pose) → posed_pair (Circle c r) o (Circle d t) p ≡ disc_pair (circle_in c r o) (circle_in d t p)
 circles_pair c d r t o p =
-    ap (λ x. record { a = point_core (placed o c); b = point_core (placed p d); radius_a = r; radius_b = t; crossing = x }) (no_cross (placed o c) (placed p d))
+    ap (λ x. record { a = point_core (transformed o c); b = point_core (transformed p d); radius_a = r; radius_b = t; crossing = x }) (no_cross (transformed o c) (transformed p d))
 
 circles_manifold : (c d : Vec2) (r t : ℤ) (o p : Pose) → manifold_of (Circle c r) o (Circle d t) p ≡ alone_in (circle_in c r o) (circle_in d t p) o.x p.x
 circles_manifold c d r t o p =

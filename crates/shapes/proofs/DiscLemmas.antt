@@ -11,7 +11,7 @@ use Rattle.fixed_geom.proofs.RootLemmas.{root_below}
 use Rattle.fixed_geom.proofs.Sizes.{product_le, sum_le, difference_le}
 use Rattle.fixed_geom.proofs.TurnLemmas.{square_le}
 use Rattle.shapes.specs.declared.pose.Pose.{Pose}
-use Rattle.shapes.specs.Poses.{IsPose, placed}
+use Rattle.shapes.specs.Poses.{IsPose, transformed}
 use Rattle.shapes.proofs.CrossLemmas.{exchanged, square_of_difference, square_of_total}
 
 -- the radius of the disc: above the root of two times 2^24, by enough for all rounding
@@ -87,9 +87,9 @@ turned_le c s x y h i j =
 gone : (x r : ℤ) → x +ℤ r -ℤ x ≡ r
 gone x r = omega (arith, ints)
 
-pub placed_in_disc : (o : Pose) (v : Vec2) → IsPose o → IsWithin (2 ^ 24) v → IsInDisc o.x (placed o v)
-unfolding placed
-placed_in_disc o v h w =
+pub posed_in_disc : (o : Pose) (v : Vec2) → IsPose o → IsWithin (2 ^ 24) v → IsInDisc o.x (transformed o v)
+unfolding transformed
+posed_in_disc o v h w =
     let c = o.rot.c in
     let s = o.rot.s in
     let X = c *ℤ v.x -ℤ s *ℤ v.y in

@@ -9,7 +9,8 @@ use Rattle.shapes.specs.declared.pose.Pose.{Pose}
 use Rattle.shapes.specs.declared.shape.Shape.{Shape}
 use Rattle.shapes.specs.declared.spots.Spot.{Spot}
 use Rattle.shapes.specs.declared.points.Manifold.{Manifold}
-use Rattle.shapes.specs.Manifolds.{is_before, is_sooner, sooner, soonest, least_of, IsAmong, IsLeast, point_of, IsLeastPoint, nearest_spot, spots, first_spot, other_spots, allowed_spots, chosen_spots, placed_pair, manifold_of}
+use Rattle.shapes.specs.Manifolds.{is_before, is_sooner, sooner, soonest, least_of, point_of, nearest_spot, spots, first_spot, other_spots, allowed_spots, chosen_spots, posed_pair, manifold_of}
+use Rattle.shapes.specs.PointsWithin.{IsAmong, IsLeast, IsLeastPoint}
 
 before_trans : (d e f : ℤ) (n m k : ℕ) → is_before e m d n ≡ false → is_before f k e m ≡ false → is_before f k d n ≡ false
 unfolding is_before
@@ -64,14 +65,14 @@ least_of_is ca cb [] = record { some = tt; none = refl }
 least_of_is ca cb (t ∷ ts) = record { some = record { spot = soonest t ts; least = least_is t ts; is = refl }; none = tt }
 
 pub record HasLeast (a : Shape) (o : Pose) (b : Shape) (p : Pose) (m : Manifold) : Type 0 where
-  pub first : IsLeastPoint o.x p.x (spots (placed_pair a o b p)) m.first
-  pub second : IfSome m.second (λ q. IsLeastPoint o.x p.x (allowed_spots (placed_pair a o b p)) q)
-  pub alone : IfNone m.second (allowed_spots (placed_pair a o b p) ≡ [])
+  pub first : IsLeastPoint o.x p.x (spots (posed_pair a o b p)) m.first
+  pub second : IfSome m.second (λ q. IsLeastPoint o.x p.x (allowed_spots (posed_pair a o b p)) q)
+  pub alone : IfNone m.second (allowed_spots (posed_pair a o b p) ≡ [])
 
 has_least : (a : Shape) (o : Pose) (b : Shape) (p : Pose) → HasLeast a o b p (manifold_of a o b p)
 unfolding chosen_spots nearest_spot
 has_least a o b p =
-    let s = placed_pair a o b p in
+    let s = posed_pair a o b p in
     let rest = least_of_is o.x p.x (allowed_spots s) in
     record {
       first = record { spot = nearest_spot s; least = least_is (first_spot s) (other_spots s); is = refl };

@@ -20,11 +20,12 @@ use Rattle.shapes.specs.declared.spots.Pair.{Pair}
 use Rattle.shapes.specs.declared.spots.Candidate.{Candidate}
 use Rattle.shapes.specs.declared.spots.Spot.{Spot}
 use Rattle.shapes.specs.Shapes.{IsShape, first_end, second_end}
-use Rattle.shapes.specs.Poses.{IsPose, placed}
+use Rattle.shapes.specs.Poses.{IsPose, transformed}
 use Rattle.shapes.specs.Cores.{is_point, way_of, part_clamped, share_of, closest}
 use Rattle.shapes.specs.Spots.{of_a, of_b, others, square_to, across, up, flat_normal, normal_of, flipped, separation_of, position_of, spot_of}
 use Rattle.shapes.specs.declared.points.Manifold.{Manifold}
-use Rattle.shapes.specs.Manifolds.{soonest, least_of, is_second, nearest_spot, chosen_spots, spots, first_spot, other_spots, allowed_spots, point_of, placed_pair, manifold_of, IsPointWithin}
+use Rattle.shapes.specs.Manifolds.{soonest, least_of, is_second, nearest_spot, chosen_spots, spots, first_spot, other_spots, allowed_spots, point_of, posed_pair, manifold_of}
+use Rattle.shapes.specs.PointsWithin.{IsPointWithin}
 use Rattle.shapes.proofs.SpotLists.{soonest_all, filter_all}
 use Rattle.shapes.proofs.CoreLemmas.{rdiv_low, rdiv_nonnegative}
 
@@ -52,9 +53,9 @@ turned_y_le o v h w =
 gone_le : (x r : ℤ) (k : ℕ) → unsigned_abs r ≤ k → unsigned_abs (x +ℤ r -ℤ x) ≤ k
 gone_le x r k h = omega (arith, ints)
 
-placed_near : (o : Pose) (v : Vec2) → IsPose o → IsWithin (2 ^ 24) v → IsNear (2 ^ 25) o.x (placed o v)
-unfolding placed
-placed_near o v h w = record {
+transformed_near : (o : Pose) (v : Vec2) → IsPose o → IsWithin (2 ^ 24) v → IsNear (2 ^ 25) o.x (transformed o v)
+unfolding transformed
+transformed_near o v h w = record {
   across = gone_le o.x.x (rdiv (o.rot.c *ℤ v.x -ℤ o.rot.s *ℤ v.y) unit_length) (2 ^ 25) (turned_x_le o v h w);
   along = gone_le o.x.y (rdiv (o.rot.s *ℤ v.x +ℤ o.rot.c *ℤ v.y) unit_length) (2 ^ 25) (turned_y_le o v h w);
 }
@@ -308,18 +309,18 @@ pub record HasNear (k : ℕ) (m : Manifold) : Type 0 where
   pub first : IsPointWithin (4 * k + 2 ^ 28) m.first
   pub second : IfSome m.second (λ p. IsPointWithin (4 * k + 2 ^ 28) p)
 
-around : (a : Shape) (o : Pose) (b : Shape) (p : Pose) → IsShape a → IsPose o → IsShape b → IsPose p → IsAround (placed_pair a o b p) o.x p.x
+around : (a : Shape) (o : Pose) (b : Shape) (p : Pose) → IsShape a → IsPose o → IsShape b → IsPose p → IsAround (posed_pair a o b p) o.x p.x
 around a o b p ha ho hb hp = record {
-  a_first = placed_near o (first_end a) ho ha.first;
-  a_second = placed_near o (second_end a) ho ha.second;
-  b_first = placed_near p (first_end b) hp hb.first;
-  b_second = placed_near p (second_end b) hp hb.second;
+  a_first = transformed_near o (first_end a) ho ha.first;
+  a_second = transformed_near o (second_end a) ho ha.second;
+  b_first = transformed_near p (first_end b) hp hb.first;
+  b_second = transformed_near p (second_end b) hp hb.second;
 }
 
 has_near : (a : Shape) (o : Pose) (b : Shape) (p : Pose) (k : ℕ) → IsShape a → IsPose o → IsShape b → IsPose p → IsWithin k (minus p.x o.x) → HasNear k (manifold_of a o b p)
 unfolding chosen_spots nearest_spot
 has_near a o b p k ha ho hb hp w =
-    let s = placed_pair a o b p in
+    let s = posed_pair a o b p in
     let h = around a o b p ha ho hb hp in
     let P : Spot → Type 0 = λ t. IsNearSpot k o.x p.x t in
     let head = spot_near s k o.x p.x (of_a s 0 s.a.p) ha.radius hb.radius w (a_near s k 0 o.x p.x s.a.p (omega arith) h h.a_first) in

@@ -11,7 +11,7 @@ use Rattle.fixed_geom.specs.Vectors.{IsWithin, unit_length, dot, minus, moved, s
 use Rattle.fixed_geom.specs.declared.vectors.Vec2.{Vec2}
 use Rattle.shapes.specs.declared.pose.Pose.{Pose}
 use Rattle.shapes.specs.declared.pose.Core.{Core}
-use Rattle.shapes.specs.Poses.{placed}
+use Rattle.shapes.specs.Poses.{transformed}
 use Rattle.shapes.specs.declared.choice.Chosen.{Chosen}
 use Rattle.shapes.specs.declared.spots.Pair.{Pair}
 use Rattle.shapes.specs.declared.spots.Candidate.{Candidate}
@@ -35,9 +35,9 @@ moved_not : (p d : Vec2) → moved p d (pos 0) ≡ p
 moved_not p d = rw (unmoved p.x d.x, unmoved p.y d.y) refl
 
 -- a body's centre is where it is, however it is turned
-pub placed_center : (o : Pose) (v : Vec2) → v.x ≡ pos 0 → v.y ≡ pos 0 → o.x ≡ placed o v
-unfolding placed rdiv
-placed_center o v e h =
+pub posed_center : (o : Pose) (v : Vec2) → v.x ≡ pos 0 → v.y ≡ pos 0 → o.x ≡ transformed o v
+unfolding transformed rdiv
+posed_center o v e h =
     rw (e, h, times_zero o.rot.c, times_zero o.rot.s, plus_zero o.x.x, plus_zero o.x.y) refl
 
 -- the nearest point of a point

@@ -10,7 +10,8 @@ use Rattle.shapes.specs.declared.pose.Pose.{Pose}
 use Rattle.shapes.specs.declared.shape.Shape.{Shape}
 use Rattle.shapes.specs.declared.spots.Spot.{Spot}
 use Rattle.shapes.specs.declared.points.Manifold.{Manifold}
-use Rattle.shapes.specs.Manifolds.{soonest, least_of, is_second, nearest_spot, chosen_spots, spots, first_spot, other_spots, allowed_spots, point_of, placed_pair, manifold_of, IsSecond, is_rival, is_far}
+use Rattle.shapes.specs.Manifolds.{soonest, least_of, is_second, nearest_spot, chosen_spots, spots, first_spot, other_spots, allowed_spots, point_of, posed_pair, manifold_of, is_rival, is_far}
+use Rattle.shapes.specs.PointsWithin.{IsSecond}
 use Rattle.shapes.proofs.SpotLists.{soonest_all}
 
 allowed_other : (first t : Spot) → is_second first t ≡ true → (t.candidate == first.candidate) ≡ false
@@ -52,7 +53,7 @@ second_is x y first (t ∷ ts) h =
 has_second : (a : Shape) (o : Pose) (b : Shape) (p : Pose) → IfSome (manifold_of a o b p).second (λ q. IsSecond (manifold_of a o b p).first q)
 unfolding chosen_spots nearest_spot
 has_second a o b p =
-    let s = placed_pair a o b p in
+    let s = posed_pair a o b p in
     let first = soonest (first_spot s) (other_spots s) in
     second_is o.x p.x first (allowed_spots s) (filter_passes (is_second first) (spots s))
 

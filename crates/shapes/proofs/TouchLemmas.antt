@@ -23,9 +23,10 @@ use Rattle.shapes.specs.Shapes.{IsShape, first_end, second_end}
 use Rattle.shapes.specs.Poses.{IsPose}
 use Rattle.shapes.specs.Cores.{is_point, share_of, closest, cores_cross}
 use Rattle.shapes.specs.Spots.{of_a, of_b, others, normal_of, separation_of, position_of, spot_of}
-use Rattle.shapes.specs.Manifolds.{soonest, least_of, is_second, nearest_spot, chosen_spots, spots, first_spot, other_spots, allowed_spots, point_of, placed_pair, manifold_of, IsPointWithin, IsSecond}
+use Rattle.shapes.specs.Manifolds.{soonest, least_of, is_second, nearest_spot, chosen_spots, spots, first_spot, other_spots, allowed_spots, point_of, posed_pair, manifold_of}
+use Rattle.shapes.specs.PointsWithin.{IsPointWithin, IsSecond}
 use Rattle.shapes.proofs.CrossLemmas.{IsMet, AreMet, are_met}
-use Rattle.shapes.proofs.DiscLemmas.{disc, IsInDisc, disc_across, disc_along, placed_in_disc}
+use Rattle.shapes.proofs.DiscLemmas.{disc, IsInDisc, disc_across, disc_along, posed_in_disc}
 use Rattle.shapes.proofs.NearLemmas.{IsPart, part_is, share_is, normal_within, scaled_le}
 use Rattle.shapes.proofs.SecondLemmas.{manifold_has_second}
 use Rattle.shapes.proofs.SpotLists.{soonest_all, filter_all}
@@ -303,12 +304,12 @@ overlapping first (Some p) h l = h l.overlap
 
 -- ---- the manifold
 
-around : (a : Shape) (o : Pose) (b : Shape) (p : Pose) → IsShape a → IsPose o → IsShape b → IsPose p → IsAround (placed_pair a o b p) o.x p.x
+around : (a : Shape) (o : Pose) (b : Shape) (p : Pose) → IsShape a → IsPose o → IsShape b → IsPose p → IsAround (posed_pair a o b p) o.x p.x
 around a o b p ha ho hb hp = record {
-  a_first = placed_in_disc o (first_end a) ho ha.first;
-  a_second = placed_in_disc o (second_end a) ho ha.second;
-  b_first = placed_in_disc p (first_end b) hp hb.first;
-  b_second = placed_in_disc p (second_end b) hp hb.second;
+  a_first = posed_in_disc o (first_end a) ho ha.first;
+  a_second = posed_in_disc o (second_end a) ho ha.second;
+  b_first = posed_in_disc p (first_end b) hp hb.first;
+  b_second = posed_in_disc p (second_end b) hp hb.second;
   radius_a = ha.nonnegative;
   radius_b = hb.nonnegative;
   radius_a_small = ha.radius;
@@ -324,7 +325,7 @@ pub record HasTouching (m : Manifold) : Type 0 where
 pub has_touching : (a : Shape) (o : Pose) (b : Shape) (p : Pose) → IsShape a → IsPose o → IsShape b → IsPose p → HasTouching (manifold_of a o b p)
 unfolding chosen_spots nearest_spot
 has_touching a o b p ha ho hb hp =
-    let s = placed_pair a o b p in
+    let s = posed_pair a o b p in
     let h = around a o b p ha ho hb hp in
     let P : Spot → Type 0 = λ t. IsTouchingSpot o.x p.x t in
     let head = a_touching s 0 o.x p.x s.a.p (omega arith) h (first_on s.a) in

@@ -10,12 +10,12 @@ use Rattle.shapes.specs.declared.shape.Shape.{Shape}
 use Rattle.shapes.specs.declared.shape.Shape.TheVariants.{Circle, Capsule, Segment}
 use Rattle.shapes.specs.declared.spots.Pair.{Pair}
 use Rattle.shapes.specs.Manifolds.{point_of}
-use Rattle.shapes.specs.Poses.{placed}
+use Rattle.shapes.specs.Poses.{transformed}
 use Rattle.shapes.specs.Spots.{measured, spot_of}
 
 -- what a circle of a body is in the world
 abbrev pub disc_of : Shape → Pose → Option Disc
-disc_of (Circle center radius) o = Some (record { center = placed o center; radius = radius })
+disc_of (Circle center radius) o = Some (record { center = transformed o center; radius = radius })
 disc_of (Capsule first second radius) o = None
 disc_of (Segment first second) o = None
 

@@ -4,6 +4,7 @@ pub mod Cores
 pub mod Discs
 pub mod Filters
 pub mod Manifolds
+pub mod PointsWithin
 pub mod Mixing
 pub mod Poses
 pub mod Rays

@@ -1,8 +1,7 @@
 -- The first and the second point of a contact.
-use Rattle.std.specs.Prelude.{◌≡◌, ℕ, ◌==◌, nat_lt, Bool, false, ◌&&◌, ◌||◌, cond, ℤ, pos, int_lt, int_le, ◌≤ℤ◌, ◌+ℤ◌, ◌*ℤ◌, unsigned_abs, ◌≤◌, List, [], ◌∷◌, Option, None, Some, All, ◌⊎◌, option_map, map, filter}
+use Rattle.std.specs.Prelude.{ℕ, ◌==◌, nat_lt, Bool, false, ◌&&◌, ◌||◌, cond, ℤ, pos, int_lt, int_le, ◌+ℤ◌, ◌*ℤ◌, List, [], ◌∷◌, Option, None, Some, option_map, map, filter}
 use Rattle.std.specs.Ordering.{int_eq}
-use Rattle.fixed_geom.specs.Vectors.{IsWithin, dot, minus}
-use Rattle.fixed_geom.specs.declared.vectors.TheConstants.{UNIT}
+use Rattle.fixed_geom.specs.Vectors.{dot, minus}
 use Rattle.fixed_geom.specs.declared.vectors.Vec2.{Vec2}
 use Rattle.shapes.specs.declared.limits.TheConstants.{TOLERANCE}
 use Rattle.shapes.specs.declared.pose.Pose.{Pose}
@@ -48,15 +47,6 @@ abbrev pub least_of : List Spot → Option Spot
 least_of [] = None
 least_of (t ∷ ts) = Some (soonest t ts)
 
-abbrev pub IsAmong : Spot → List Spot → Type 0
-IsAmong t [] = ⊥
-IsAmong t (u ∷ us) = (t ≡ u) ⊎ IsAmong t us
-
--- the spot t is one of the list, and none of the list is less
-pub record IsLeast (t : Spot) (ts : List Spot) : Type 0 where
-  pub among : IsAmong t ts
-  pub none_before : All (λ u. is_sooner u t ≡ false) ts
-
 -- ---- the second point
 
 -- two positions are more than the tolerance apart
@@ -77,26 +67,6 @@ is_second first t = cond (is_rival first t) (is_far t.at first.at) false
 abbrev pub point_of : Vec2 → Vec2 → Spot → Point
 point_of center_a center_b t = record { normal = t.normal; separation = t.separation; ra = minus t.at center_a; rb = minus t.at center_b; candidate = t.candidate }
 
--- the point is of one of four candidates, its normal is no longer than one in each part, and its
--- other numbers are within k
-pub record IsPointWithin (k : ℕ) (p : Point) : Type 0 where
-  pub candidate : p.candidate ≤ 3
-  pub normal : IsWithin (unsigned_abs UNIT) p.normal
-  pub separation : unsigned_abs p.separation ≤ k
-  pub ra : IsWithin k p.ra
-  pub rb : IsWithin k p.rb
-
--- a second point is of another candidate than the first, and the shapes overlap there
-pub record IsSecond (first p : Point) : Type 0 where
-  pub other : (p.candidate == first.candidate) ≡ false
-  pub overlap : p.separation ≤ℤ pos 0
-
--- the point p is what the bodies keep of the least spot of a list
-pub record IsLeastPoint (center_a center_b : Vec2) (ts : List Spot) (p : Point) : Type 0 where
-  pub spot : Spot
-  pub least : IsLeast spot ts
-  pub is : p ≡ point_of center_a center_b spot
-
 unfoldable pub nearest_spot : Pair → Spot
 nearest_spot s = soonest (first_spot s) (other_spots s)
 
@@ -115,8 +85,8 @@ manifold_between s center_a center_b = record {
 }
 
 -- two shapes of bodies with the poses o and p
-abbrev pub placed_pair : Shape → Pose → Shape → Pose → Pair
-placed_pair a o b p = pair_of (core_of a o) (radius_of a) (core_of b p) (radius_of b)
+abbrev pub posed_pair : Shape → Pose → Shape → Pose → Pair
+posed_pair a o b p = pair_of (core_of a o) (radius_of a) (core_of b p) (radius_of b)
 
 abbrev pub manifold_of : Shape → Pose → Shape → Pose → Manifold
-manifold_of a o b p = manifold_between (placed_pair a o b p) o.x p.x
+manifold_of a o b p = manifold_between (posed_pair a o b p) o.x p.x

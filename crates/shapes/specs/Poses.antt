@@ -15,14 +15,14 @@ pub record IsPose (o : Pose) : Type 0 where
   pub rot : IsFacing o.rot
 
 -- a core's position in the world
-pub record IsPlaced (c : Core) : Type 0 where
+pub record IsPosed (c : Core) : Type 0 where
   pub p : IsWithin (2 ^ 37) c.p
   pub q : IsWithin (2 ^ 37) c.q
 
 -- where in the world v is, given from the centre of a body with the pose o
-unfoldable pub placed : Pose → Vec2 → Vec2
-placed o v = plus o.x (rotate o.rot v)
+unfoldable pub transformed : Pose → Vec2 → Vec2
+transformed o v = plus o.x (rotate o.rot v)
 
 -- the core of the shape s of a body with the pose o
 abbrev pub core_of : Shape → Pose → Core
-core_of s o = record { p = placed o (first_end s); q = placed o (second_end s) }
+core_of s o = record { p = transformed o (first_end s); q = transformed o (second_end s) }

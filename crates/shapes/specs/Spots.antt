@@ -1,34 +1,14 @@
 -- Candidates for the points of a contact, and what each makes of the contact.
-use Rattle.std.specs.Prelude.{◌≡◌, ℕ, ◌^◌, ◌≤◌, Bool, cond, ℤ, pos, neg_ℤ, ◌+ℤ◌, ◌-ℤ◌, unsigned_abs, ◌≤ℤ◌, List, [], ◌∷◌}
+use Rattle.std.specs.Prelude.{ℕ, Bool, cond, ℤ, pos, neg_ℤ, ◌+ℤ◌, ◌-ℤ◌, List, [], ◌∷◌}
 use Rattle.std.specs.Ordering.{int_eq}
 use Rattle.fixed_geom.specs.Numbers.{fdiv}
-use Rattle.fixed_geom.specs.Vectors.{IsWithin, unit_length, minus, moved, opposite, span, unit}
+use Rattle.fixed_geom.specs.Vectors.{unit_length, minus, moved, opposite, span, unit}
 use Rattle.fixed_geom.specs.declared.vectors.Vec2.{Vec2}
-use Rattle.shapes.specs.declared.limits.TheConstants.{MAX_RADIUS}
 use Rattle.shapes.specs.declared.pose.Core.{Core}
 use Rattle.shapes.specs.declared.spots.Pair.{Pair}
 use Rattle.shapes.specs.declared.spots.Candidate.{Candidate}
 use Rattle.shapes.specs.declared.spots.Spot.{Spot}
-use Rattle.shapes.specs.Poses.{IsPlaced}
 use Rattle.shapes.specs.Cores.{is_point, way_of, closest, cores_cross}
-
-pub record IsPair (s : Pair) : Type 0 where
-  pub a : IsPlaced s.a
-  pub b : IsPlaced s.b
-  pub radius_a : unsigned_abs s.radius_a ≤ unsigned_abs MAX_RADIUS
-  pub radius_b : unsigned_abs s.radius_b ≤ unsigned_abs MAX_RADIUS
-
-pub record IsCandidate (c : Candidate) : Type 0 where
-  pub a : IsWithin (2 ^ 39) c.a
-  pub b : IsWithin (2 ^ 39) c.b
-  pub dist : c.dist ≡ span (minus c.b c.a)
-  pub nonnegative : pos 0 ≤ℤ c.dist
-  pub covers : IsWithin (unsigned_abs c.dist) (minus c.b c.a)
-  pub small : unsigned_abs c.dist ≤ 2 ^ 41
-
-pub record IsSpot (t : Spot) : Type 0 where
-  pub at : IsWithin (2 ^ 44) t.at
-  pub dist : unsigned_abs t.dist ≤ 2 ^ 41
 
 abbrev pub pair_of : Core → ℤ → Core → ℤ → Pair
 pair_of a radius_a b radius_b = record { a = a; b = b; radius_a = radius_a; radius_b = radius_b; crossing = cores_cross a b }

@@ -2,9 +2,10 @@
 
 ghost use Rattle.std.specs.Prelude.{◌≡◌, ℕ, ◌^◌, ◌≤◌, ◌∷◌, [], All, IfSome, true, pos, ◌+ℤ◌, ◌≤ℤ◌, unsigned_abs, int_le, int_lt};
 ghost use Rattle.fixed_geom.specs.Vectors.{IsWithin, minus, span};
-ghost use Rattle.shapes.specs.Poses.{IsPlaced};
+ghost use Rattle.shapes.specs.Poses.{IsPosed};
 ghost use Rattle.shapes.specs.Cores.{is_point};
-ghost use Rattle.shapes.specs.Spots.{IsPair, IsCandidate, IsSpot, separation_of, spot_of, of_a, of_b, others};
+ghost use Rattle.shapes.specs.Spots.{separation_of, spot_of, of_a, of_b, others};
+ghost use Rattle.shapes.specs.PointsWithin.{IsPair, IsCandidate, IsSpot};
 ghost use Rattle.shapes.specs.Manifolds.{is_before, sooner, is_far, is_rival, chosen_spots};
 ghost use Rattle.shapes.specs.Choice.{nearer, nearest, sooner_of, tried, second_from, chosen_from, alone};
 
@@ -224,8 +225,8 @@ fn is_beyond(dist: i64, a: Vec2, b: Vec2) -> bool
 fn are_beyond(dist: i64, a: &Core, b: &Core) -> bool
     requires nonnegative { pos 0 ≤ℤ dist }
     requires small { unsigned_abs dist ≤ 2 ^ 41 }
-    requires first { IsPlaced a.now }
-    requires second { IsPlaced b.now }
+    requires first { IsPosed a.now }
+    requires second { IsPosed b.now }
     ensures first { result ≡ true → int_lt (dist +ℤ TOLERANCE) (span (minus b.now.p a.now.p)) ≡ true }
     ensures second { result ≡ true → int_lt (dist +ℤ TOLERANCE) (span (minus b.now.q a.now.q)) ≡ true }
 {

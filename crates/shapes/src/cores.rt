@@ -3,7 +3,7 @@
 ghost use Rattle.std.specs.Prelude.{◌≡◌, ℕ, ◌+◌, ◌*◌, ◌^◌, ◌<◌, ◌≤◌, true, false, pos, ◌*ℤ◌, ◌<ℤ◌, ◌≤ℤ◌, unsigned_abs};
 ghost use Rattle.fixed_geom.specs.Numbers.{rdiv};
 ghost use Rattle.fixed_geom.specs.Vectors.{IsWithin, unit_length, dot, cross};
-ghost use Rattle.shapes.specs.Poses.{IsPlaced};
+ghost use Rattle.shapes.specs.Poses.{IsPosed};
 ghost use Rattle.shapes.specs.Cores.{is_point, way_of, part_clamped, closest, side, are_opposite, is_parted, cores_cross};
 
 use crate::Core;
@@ -25,7 +25,7 @@ pub(crate) fn is_point(core: &Core) -> bool
 /// From the first end to the second.
 #[tactic(auto, unfolding(crate::specs::Cores::is_point))]
 pub(crate) fn way_of(core: &Core) -> Vec2
-    requires { IsPlaced core.now }
+    requires { IsPosed core.now }
     ensures value { result ≡ way_of core.now }
     ensures within { IsWithin (2 ^ 38) result }
     ensures wide { is_point core.now ≡ false → 0 < unsigned_abs result.x + unsigned_abs result.y }
@@ -136,7 +136,7 @@ fn share_along(way: Vec2, from: Vec2) -> i64
 /// The nearest point of a core that is no point, by the way along it and the way from its first end to `e`.
 fn closest_along(core: &Core, e: Vec2) -> Vec2
     requires wide { is_point core.now ≡ false }
-    requires core { IsPlaced core.now }
+    requires core { IsPosed core.now }
     requires position { IsWithin (2 ^ 37) e }
     ensures value { result ≡ closest core.now e }
     ensures within { IsWithin (2 ^ 39) result }
@@ -152,7 +152,7 @@ fn closest_along(core: &Core, e: Vec2) -> Vec2
 
 /// The core's point nearest to `e`, but for rounding.
 pub(crate) fn closest(core: &Core, e: Vec2) -> Vec2
-    requires core { IsPlaced core.now }
+    requires core { IsPosed core.now }
     requires position { IsWithin (2 ^ 37) e }
     ensures value { result ≡ closest core.now e }
     ensures within { IsWithin (2 ^ 39) result }
@@ -165,7 +165,7 @@ pub(crate) fn closest(core: &Core, e: Vec2) -> Vec2
 
 /// On which side of the core's line `e` lies: above zero to the left, zero on the line.
 fn side(core: &Core, e: Vec2) -> i128
-    requires core { IsPlaced core.now }
+    requires core { IsPosed core.now }
     requires position { IsWithin (2 ^ 37) e }
     ensures value { result ≡ side core.now e }
 {
@@ -175,8 +175,8 @@ fn side(core: &Core, e: Vec2) -> i128
 /// The ends of `other` lie strictly on different sides of the line of the first core.
 #[tactic(auto, unfolding(crate::specs::Cores::is_parted))]
 fn are_sides_apart(line: &Core, other: &Core) -> bool
-    requires line { IsPlaced line.now }
-    requires other { IsPlaced other.now }
+    requires line { IsPosed line.now }
+    requires other { IsPosed other.now }
     ensures { result ≡ is_parted line.now other.now }
 {
     let first = side(line, other.p);
@@ -204,8 +204,8 @@ fn are_sides_apart_64(way: Vec2, first: Vec2, second: Vec2) -> bool
 
 /// `are_sides_apart`, in 64 bits where the cores are near.
 fn is_parted(line: &Core, other: &Core) -> bool
-    requires line { IsPlaced line.now }
-    requires other { IsPlaced other.now }
+    requires line { IsPosed line.now }
+    requires other { IsPosed other.now }
     ensures { result ≡ is_parted line.now other.now }
 {
     let way = way_of(line);
@@ -223,8 +223,8 @@ fn is_parted(line: &Core, other: &Core) -> bool
 /// of the other's line.
 #[tactic(auto, unfolding(crate::specs::Cores::cores_cross))]
 pub(crate) fn cores_cross(a: &Core, b: &Core) -> bool
-    requires first { IsPlaced a.now }
-    requires second { IsPlaced b.now }
+    requires first { IsPosed a.now }
+    requires second { IsPosed b.now }
     ensures { result ≡ cores_cross a.now b.now }
 {
     if is_point(a) {

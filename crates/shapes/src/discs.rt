@@ -5,12 +5,12 @@ ghost use Rattle.fixed_geom.specs.Vectors.{IsWithin};
 ghost use Rattle.fixed_geom.specs.declared.limits.TheConstants.{MAX_POSITION};
 ghost use Rattle.shapes.specs.Shapes.{IsShape};
 ghost use Rattle.shapes.specs.Poses.{IsPose};
-ghost use Rattle.shapes.specs.Spots.{IsPair};
+ghost use Rattle.shapes.specs.PointsWithin.{IsPair};
 ghost use Rattle.shapes.specs.Discs.{IsDisc, disc_of, disc_pair, disc_point};
 
 use crate::manifolds::point_of;
 use crate::spots::{Pair, measured, spot_in_place};
-use crate::{Core, Point, Pose, Shape, placed};
+use crate::{Core, Point, Pose, Shape, transformed};
 use fixed_geom::Vec2;
 
 /// A circle in the world: its centre and its radius, in u.
@@ -30,7 +30,7 @@ pub fn disc_of(shape: &Shape, pose: Pose) -> Option<Disc>
 {
     match shape {
         Shape::Circle { center, radius } => Some(Disc {
-            center: placed(pose, *center),
+            center: transformed(pose, *center),
             radius: *radius,
         }),
         Shape::Capsule {

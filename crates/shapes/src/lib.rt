@@ -31,6 +31,6 @@ pub use limits::{
 pub use manifolds::manifold;
 pub use mixing::{mixed_friction, mixed_restitution};
 pub use points::{Manifold, Point};
-pub use pose::{Core, Pose, core_of, placed};
+pub use pose::{Core, Pose, core_of, transformed};
 pub use rays::ray;
 pub use shape::{Shape, ShapeDef, Shapes};

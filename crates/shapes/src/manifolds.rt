@@ -3,9 +3,10 @@
 ghost use Rattle.std.specs.Prelude.{◌≡◌, ℕ, ◌+◌, ◌*◌, ◌^◌, ◌≤◌, pos, ◌≤ℤ◌, [], IfSome, IfNone, unsigned_abs};
 ghost use Rattle.fixed_geom.specs.Vectors.{IsWithin, minus};
 ghost use Rattle.shapes.specs.Shapes.{IsShape};
-ghost use Rattle.shapes.specs.Poses.{IsPose, IsPlaced};
-ghost use Rattle.shapes.specs.Spots.{IsPair, IsSpot, pair_of};
-ghost use Rattle.shapes.specs.Manifolds.{point_of, IsPointWithin, IsSecond, IsLeastPoint, spots, allowed_spots, manifold_between, placed_pair, manifold_of};
+ghost use Rattle.shapes.specs.Poses.{IsPose, IsPosed};
+ghost use Rattle.shapes.specs.Spots.{pair_of};
+ghost use Rattle.shapes.specs.Manifolds.{point_of, spots, allowed_spots, manifold_between, posed_pair, manifold_of};
+ghost use Rattle.shapes.specs.PointsWithin.{IsPointWithin, IsSecond, IsLeastPoint, IsPair, IsSpot};
 
 use crate::choice::chosen_spots;
 use crate::cores::cores_cross;
@@ -52,8 +53,8 @@ fn manifold_between(pair: &Pair, center_a: Vec2, center_b: Vec2) -> Manifold
 
 /// Two cores with their radii, and whether the cores cross.
 fn pair_of(a: Core, radius_a: i64, b: Core, radius_b: i64) -> Pair
-    requires first { IsPlaced a }
-    requires second { IsPlaced b }
+    requires first { IsPosed a }
+    requires second { IsPosed b }
     requires radius_a { unsigned_abs radius_a ≤ unsigned_abs MAX_RADIUS }
     requires radius_b { unsigned_abs radius_b ≤ unsigned_abs MAX_RADIUS }
     ensures value { result ≡ pair_of a radius_a b radius_b }
@@ -84,10 +85,10 @@ pub fn manifold(a: &Shape, pose_a: Pose, b: &Shape, pose_b: Pose) -> Manifold
     requires second { IsShape b.now }
     requires second_pose { IsPose pose_b }
     ensures value { result ≡ manifold_of a.now pose_a b.now pose_b }
-    ensures first { IsLeastPoint pose_a.x pose_b.x (spots (placed_pair a.now pose_a b.now pose_b)) result.first }
-    ensures second { IfSome result.second (λ p. IsLeastPoint pose_a.x pose_b.x (allowed_spots (placed_pair a.now pose_a b.now pose_b)) p) }
+    ensures first { IsLeastPoint pose_a.x pose_b.x (spots (posed_pair a.now pose_a b.now pose_b)) result.first }
+    ensures second { IfSome result.second (λ p. IsLeastPoint pose_a.x pose_b.x (allowed_spots (posed_pair a.now pose_a b.now pose_b)) p) }
     ensures other { IfSome result.second (λ p. IsSecond result.first p) }
-    ensures alone { IfNone result.second (allowed_spots (placed_pair a.now pose_a b.now pose_b) ≡ []) }
+    ensures alone { IfNone result.second (allowed_spots (posed_pair a.now pose_a b.now pose_b) ≡ []) }
     ensures first_near { (k : ℕ) → IsWithin k (minus pose_b.x pose_a.x) → IsPointWithin (4 * k + 2 ^ 28) result.first }
     ensures second_near { (k : ℕ) → IsWithin k (minus pose_b.x pose_a.x) → IfSome result.second (λ p. IsPointWithin (4 * k + 2 ^ 28) p) }
     ensures first_touching { result.first.separation ≤ℤ pos 0 → IsPointWithin (unsigned_abs MAX_OFFSET) result.first }

@@ -3,7 +3,7 @@
 ghost use Rattle.std.specs.Prelude.{◌≡◌, ℕ, ◌+◌, ◌*◌, ◌^◌, ◌≤◌};
 ghost use Rattle.fixed_geom.specs.Vectors.{IsWithin};
 ghost use Rattle.shapes.specs.Shapes.{IsShape};
-ghost use Rattle.shapes.specs.Poses.{IsPose, IsPlaced, placed, core_of};
+ghost use Rattle.shapes.specs.Poses.{IsPose, IsPosed, transformed, core_of};
 
 use crate::{MAX_CORE, Shape};
 use fixed_geom::{Rot, Vec2, plus, rotate_64};
@@ -24,10 +24,10 @@ pub struct Core {
 
 /// Where in the world a point of a body is, given from the body's centre and at most 2^24 u from
 /// it in each coordinate.
-pub fn placed(pose: Pose, v: Vec2) -> Vec2
+pub fn transformed(pose: Pose, v: Vec2) -> Vec2
     requires pose { IsPose pose }
     requires near { IsWithin MAX_CORE v }
-    ensures value { result ≡ placed pose v }
+    ensures value { result ≡ transformed pose v }
     ensures within { IsWithin (2 ^ 36 + 2 ^ 25) result }
 {
     // The centre of most circles.
@@ -42,16 +42,16 @@ pub fn core_of(shape: &Shape, pose: Pose) -> Core
     requires shape { IsShape shape.now }
     requires pose { IsPose pose }
     ensures value { result ≡ core_of shape.now pose }
-    ensures placed { IsPlaced result }
+    ensures transformed { IsPosed result }
     ensures first { IsWithin (2 ^ 36 + 2 ^ 25) result.p }
     ensures second { IsWithin (2 ^ 36 + 2 ^ 25) result.q }
 {
-    let p = placed(pose, shape.first_end());
+    let p = transformed(pose, shape.first_end());
     match shape {
         Shape::Circle { .. } => Core { p, q: p },
         _ => Core {
             p,
-            q: placed(pose, shape.second_end()),
+            q: transformed(pose, shape.second_end()),
         },
     }
 }

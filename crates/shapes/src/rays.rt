@@ -3,7 +3,7 @@
 ghost use Rattle.std.specs.Prelude.{◌≡◌, ◌^◌, ◌≤◌, true, false, Some, IfSome, unsigned_abs};
 ghost use Rattle.fixed_geom.specs.Vectors.{IsWithin};
 ghost use Rattle.shapes.specs.Shapes.{IsShape, radius_of};
-ghost use Rattle.shapes.specs.Poses.{IsPose, IsPlaced, core_of};
+ghost use Rattle.shapes.specs.Poses.{IsPose, IsPosed, core_of};
 ghost use Rattle.shapes.specs.Cores.{is_point};
 ghost use Rattle.shapes.specs.Rays.{IsBeam, to_side, shifted, is_inside, earliest, side_hits, hits, IsEarliest, core_ray, beam_of, ray_of};
 
@@ -15,7 +15,7 @@ use fixed_geom::{MAX_POSITION, Vec2, minus, opposite, plus, scaled, span};
 
 /// From the core to the left side of the shape.
 fn to_side(core: &Core, radius: i64) -> Vec2
-    requires core { IsPlaced core.now }
+    requires core { IsPosed core.now }
     requires radius { unsigned_abs radius ≤ unsigned_abs MAX_RADIUS }
     requires wide { is_point core.now ≡ false }
     ensures value { result ≡ to_side core.now radius }
@@ -30,7 +30,7 @@ fn to_side(core: &Core, radius: i64) -> Vec2
 
 /// The core moved by `by`.
 fn shifted(core: &Core, by: Vec2) -> Core
-    requires core { IsPlaced core.now }
+    requires core { IsPosed core.now }
     requires by { IsWithin (2 ^ 24) by }
     ensures value { result ≡ shifted core.now by }
     ensures first { IsWithin (2 ^ 38) result.p }
@@ -45,7 +45,7 @@ fn shifted(core: &Core, by: Vec2) -> Core
 /// The position is no further from the core's nearest point than the radius.
 #[tactic(auto, unfolding(crate::specs::Rays::is_inside))]
 fn is_inside(core: &Core, radius: i64, position: Vec2) -> bool
-    requires core { IsPlaced core.now }
+    requires core { IsPosed core.now }
     requires position { IsWithin (unsigned_abs MAX_POSITION) position }
     ensures { result ≡ is_inside core.now radius position }
 {
@@ -55,7 +55,7 @@ fn is_inside(core: &Core, radius: i64, position: Vec2) -> bool
 /// The least of a hit and those on the two sides of a core that is no point.
 fn earliest_with_sides(best: Option<u32>, beam: &Beam, core: &Core, radius: i64) -> Option<u32>
     requires beam { IsBeam beam.now }
-    requires core { IsPlaced core.now }
+    requires core { IsPosed core.now }
     requires radius { unsigned_abs radius ≤ unsigned_abs MAX_RADIUS }
     requires wide { is_point core.now ≡ false }
     ensures { result ≡ earliest best (side_hits beam.now core.now radius) }
@@ -72,7 +72,7 @@ fn earliest_with_sides(best: Option<u32>, beam: &Beam, core: &Core, radius: i64)
 #[tactic(auto, unfolding(crate::specs::Rays::core_ray))]
 fn core_ray(beam: &Beam, core: &Core, radius: i64) -> Option<u32>
     requires beam { IsBeam beam.now }
-    requires core { IsPlaced core.now }
+    requires core { IsPosed core.now }
     requires radius { unsigned_abs radius ≤ unsigned_abs MAX_RADIUS }
     ensures { result ≡ core_ray beam.now core.now radius }
 {

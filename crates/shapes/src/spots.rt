@@ -4,9 +4,10 @@
 ghost use Rattle.std.specs.Prelude.{◌≡◌, ℕ, ◌+◌, ◌*◌, ◌^◌, ◌<◌, ◌≤◌, false, pos, neg_ℤ, ◌≤ℤ◌, ◌-ℤ◌, ◌+ℤ◌, unsigned_abs};
 ghost use Rattle.fixed_geom.specs.Numbers.{fdiv};
 ghost use Rattle.fixed_geom.specs.Vectors.{IsWithin, moved};
-ghost use Rattle.shapes.specs.Poses.{IsPlaced};
+ghost use Rattle.shapes.specs.Poses.{IsPosed};
 ghost use Rattle.shapes.specs.Cores.{is_point};
-ghost use Rattle.shapes.specs.Spots.{IsPair, IsCandidate, IsSpot, measured, square_to, across, flat_normal, normal_of, flipped, separation_of, spot_of};
+ghost use Rattle.shapes.specs.Spots.{measured, square_to, across, flat_normal, normal_of, flipped, separation_of, spot_of};
+ghost use Rattle.shapes.specs.PointsWithin.{IsPair, IsCandidate, IsSpot};
 
 use crate::cores::{is_point, way_of};
 use crate::{Core, MAX_RADIUS};
@@ -73,7 +74,7 @@ pub(crate) fn square_to(v: Vec2) -> Vec2
 
 /// The unit vector square to a core that is no point.
 pub(crate) fn across(core: &Core) -> Vec2
-    requires core { IsPlaced core.now }
+    requires core { IsPosed core.now }
     requires wide { is_point core.now ≡ false }
     ensures value { result ≡ across core.now }
     ensures within { IsWithin (unsigned_abs UNIT) result }
@@ -85,8 +86,8 @@ pub(crate) fn across(core: &Core) -> Vec2
 /// square to the first, and up if both are points.
 #[tactic(auto, unfolding(crate::specs::Spots::flat_normal))]
 fn flat_normal(a: &Core, b: &Core) -> Vec2
-    requires first { IsPlaced a.now }
-    requires second { IsPlaced b.now }
+    requires first { IsPosed a.now }
+    requires second { IsPosed b.now }
     ensures value { result ≡ flat_normal a.now b.now }
     ensures within { IsWithin (unsigned_abs UNIT) result }
 {

@@ -6,13 +6,13 @@ use Rattle.islands.specs.Partition.{IsPartition}
 use Rattle.islands.proofs.LabelLemmas.{in_case}
 use Rattle.islands.proofs.SplitLemmas.{split_is}
 use Rattle.sleep_wake.specs.Acting.{Acting, IsConsistent, awake_label, is_mover_awake}
-use Rattle.sleep_wake.specs.SleepPhase.{lesser, least_timer, is_due, is_island, longer_at_rest, longest_at_rest, ready, picked_to_split, split_at, edges_of, split_picked, all_put_to_rest, ready_put_to_rest, sleep_phase}
+use Rattle.sleep_wake.specs.SleepPhase.{lesser, least_timer, is_time_to_sleep, is_island, longer_at_rest, longest_at_rest, ready, picked_to_split, split_at, edges_of, split_picked, all_put_to_rest, ready_put_to_rest, sleep_phase}
 use Rattle.sleep_wake.specs.AwakeSlots.{AreAwakeSlots, AgreeAwake}
-use Rattle.sleep_wake.specs.Resting.{least_at, AreLeast, is_due_island, due_from, due_names, longest_due, rests_by, second_rests, is_to_rest}
+use Rattle.sleep_wake.specs.Resting.{least_at, AreLeast, is_ready_island, ready_after, ready_names, longest_ready, rests_by, second_rests, is_to_rest}
 use Rattle.sleep_wake.proofs.AwakeLemmas.{awake_as}
 use Rattle.sleep_wake.proofs.EdgeLemmas.{edges_inside}
 use Rattle.sleep_wake.proofs.PhaseLemmas.{AreAll, IsNamedIsland, names, all_if, all_on, and_is, longer_is, picked_is, split_keeps}
-use Rattle.sleep_wake.proofs.LeastLemmas.{timer_in, due_are}
+use Rattle.sleep_wake.proofs.LeastLemmas.{timer_in, ready_names_are}
 
 -- ---- two that tell the least timers of the awake islands
 
@@ -24,35 +24,35 @@ agree_there loose labels f g name w h = let o = names labels name loose h in ap 
 
 -- ---- the same islands are ready by both
 
-due_by : (loose : Bool) (f g : ℕ → Option ℕ) (slot : ℕ) (o : Option Label) (t : Bool) → (t ≡ true → f slot ≡ g slot) → (t && is_due (f slot)) ≡ (t && is_due (g slot))
-due_by loose f g slot o true h = ap is_due (h refl)
-due_by loose f g slot o false h = refl
+ready_by : (loose : Bool) (f g : ℕ → Option ℕ) (slot : ℕ) (o : Option Label) (t : Bool) → (t ≡ true → f slot ≡ g slot) → (t && is_time_to_sleep (f slot)) ≡ (t && is_time_to_sleep (g slot))
+ready_by loose f g slot o true h = ap is_time_to_sleep (h refl)
+ready_by loose f g slot o false h = refl
 
-due_same : (loose : Bool) (labels : Labels) (f g : ℕ → Option ℕ) (slot : ℕ) (rest : Labels) → AgreeOn labels f g → ((k : ℕ) → label_at labels (slot + k) ≡ label_at rest k) → due_from loose f slot rest ≡ due_from loose g slot rest
-due_same loose labels f g slot [] w at = refl
-due_same loose labels f g slot (o ∷ rest) w at =
+ready_alike : (loose : Bool) (labels : Labels) (f g : ℕ → Option ℕ) (slot : ℕ) (rest : Labels) → AgreeOn labels f g → ((k : ℕ) → label_at labels (slot + k) ≡ label_at rest k) → ready_after loose f slot rest ≡ ready_after loose g slot rest
+ready_alike loose labels f g slot [] w at = refl
+ready_alike loose labels f g slot (o ∷ rest) w at =
     let first : slot ≡ slot + 0 = omega arith in
     let here : label_at labels slot ≡ o = ap (label_at labels) first ∙ at 0 in
-    let test : is_due_island loose f slot o ≡ is_due_island loose g slot o = due_by loose f g slot o (is_island loose slot o) (λ h. agree_there loose labels f g slot w (ap (is_island loose slot) here ∙ h)) in
-    ap (λ (t : Bool). cond t (slot ∷ due_from loose f (suc slot) rest) (due_from loose f (suc slot) rest)) test
-    ∙ ap (λ (ns : List ℕ). cond (is_due_island loose g slot o) (slot ∷ ns) ns)
-    (due_same loose labels f g (suc slot) rest w (λ k. let next : suc slot + k ≡ slot + suc k = omega arith in ap (label_at labels) next ∙ at (suc k)))
+    let test : is_ready_island loose f slot o ≡ is_ready_island loose g slot o = ready_by loose f g slot o (is_island loose slot o) (λ h. agree_there loose labels f g slot w (ap (is_island loose slot) here ∙ h)) in
+    ap (λ (t : Bool). cond t (slot ∷ ready_after loose f (suc slot) rest) (ready_after loose f (suc slot) rest)) test
+    ∙ ap (λ (ns : List ℕ). cond (is_ready_island loose g slot o) (slot ∷ ns) ns)
+    (ready_alike loose labels f g (suc slot) rest w (λ k. let next : suc slot + k ≡ slot + suc k = omega arith in ap (label_at labels) next ∙ at (suc k)))
 
 starts : (labels : Labels) (k : ℕ) → label_at labels (0 + k) ≡ label_at labels k
 starts labels k = let at : 0 + k ≡ k = omega arith in ap (label_at labels) at
 
-pub same_due : (loose : Bool) (labels : Labels) (f g : ℕ → Option ℕ) → AgreeOn labels f g → due_names loose f labels ≡ due_names loose g labels
-same_due loose labels f g w = due_same loose labels f g 0 labels w (starts labels)
+pub alike_ready : (loose : Bool) (labels : Labels) (f g : ℕ → Option ℕ) → AgreeOn labels f g → ready_names loose f labels ≡ ready_names loose g labels
+alike_ready loose labels f g w = ready_alike loose labels f g 0 labels w (starts labels)
 
 -- each of them is an island
-due_all : (loose : Bool) (labels : Labels) (f : ℕ → Option ℕ) (slot : ℕ) (rest : Labels) → ((k : ℕ) → label_at labels (slot + k) ≡ label_at rest k) → AreAll (IsNamedIsland loose labels) (due_from loose f slot rest)
-due_all loose labels f slot [] at = tt
-due_all loose labels f slot (o ∷ rest) at =
+all_ready : (loose : Bool) (labels : Labels) (f : ℕ → Option ℕ) (slot : ℕ) (rest : Labels) → ((k : ℕ) → label_at labels (slot + k) ≡ label_at rest k) → AreAll (IsNamedIsland loose labels) (ready_after loose f slot rest)
+all_ready loose labels f slot [] at = tt
+all_ready loose labels f slot (o ∷ rest) at =
     let first : slot ≡ slot + 0 = omega arith in
     let here : label_at labels slot ≡ o = ap (label_at labels) first ∙ at 0 in
-    all_if (IsNamedIsland loose labels) (is_due_island loose f slot o) slot (due_from loose f (suc slot) rest)
-    (λ h. ap (is_island loose slot) here ∙ (and_is (is_island loose slot o) (is_due (f slot)) h).0)
-    (due_all loose labels f (suc slot) rest (λ k. let next : suc slot + k ≡ slot + suc k = omega arith in ap (label_at labels) next ∙ at (suc k)))
+    all_if (IsNamedIsland loose labels) (is_ready_island loose f slot o) slot (ready_after loose f (suc slot) rest)
+    (λ h. ap (is_island loose slot) here ∙ (and_is (is_island loose slot o) (is_time_to_sleep (f slot)) h).0)
+    (all_ready loose labels f (suc slot) rest (λ k. let next : suc slot + k ≡ slot + suc k = omega arith in ap (label_at labels) next ∙ at (suc k)))
 
 -- ---- the same one is split
 
@@ -66,17 +66,17 @@ longest_same f g best (name ∷ ns) h a =
     longest_same f g (longer_at_rest f best name) ns (longer_is (λ k. f k ≡ g k) f best name h a.0) a.1
     ∙ ap (λ (b : Option ℕ). longest_at_rest g b ns) (longer_by f g best name h a.0)
 
-pub same_longest : (labels : Labels) (f g : ℕ → Option ℕ) → AgreeOn labels f g → longest_due f labels ≡ longest_due g labels
+pub same_longest : (labels : Labels) (f g : ℕ → Option ℕ) → AgreeOn labels f g → longest_ready f labels ≡ longest_ready g labels
 same_longest labels f g w =
-    longest_same f g None (due_names true f labels) (λ k e. absurd (let no : None ≡ Some k = e in cc))
-    (all_on (IsNamedIsland true labels) (λ k. f k ≡ g k) (due_names true f labels) (λ k h. agree_there true labels f g k w h) (due_all true labels f 0 labels (starts labels)))
-    ∙ ap (λ (ns : List ℕ). longest_at_rest g None ns) (same_due true labels f g w)
+    longest_same f g None (ready_names true f labels) (λ k e. absurd (let no : None ≡ Some k = e in cc))
+    (all_on (IsNamedIsland true labels) (λ k. f k ≡ g k) (ready_names true f labels) (λ k h. agree_there true labels f g k w h) (all_ready true labels f 0 labels (starts labels)))
+    ∙ ap (λ (ns : List ℕ). longest_at_rest g None ns) (alike_ready true labels f g w)
 
 -- by the least timers of the definition it is the definition's
-longest_picked : (labels : Labels) (timers : List ℕ) → longest_due (timer_in labels timers) labels ≡ picked_to_split labels timers
-longest_picked labels timers = ap (λ (ns : List ℕ). longest_at_rest (timer_in labels timers) None ns) (due_are true labels timers)
+longest_picked : (labels : Labels) (timers : List ℕ) → longest_ready (timer_in labels timers) labels ≡ picked_to_split labels timers
+longest_picked labels timers = ap (λ (ns : List ℕ). longest_at_rest (timer_in labels timers) None ns) (ready_names_are true labels timers)
 
-pub picked_by_least : (labels : Labels) (timers : List ℕ) (leasts : List (Option ℕ)) → AreLeast labels timers leasts → longest_due (least_at leasts) labels ≡ picked_to_split labels timers
+pub picked_by_least : (labels : Labels) (timers : List ℕ) (leasts : List (Option ℕ)) → AreLeast labels timers leasts → longest_ready (least_at leasts) labels ≡ picked_to_split labels timers
 picked_by_least labels timers leasts w = same_longest labels (least_at leasts) (timer_in labels timers) w.each ∙ longest_picked labels timers
 
 -- ---- the same movers rest
@@ -89,9 +89,9 @@ label_rests labels f g slot (Some l) e w = by_state (is_asleep l.state) refl
     no_rest true a b = refl
     no_rest false a b = refl
 
-    by_state : (t : Bool) → is_asleep l.state ≡ t → ((not (is_loose l.state) && not (is_asleep l.state)) && is_due (f l.name)) ≡ ((not (is_loose l.state) && not (is_asleep l.state)) && is_due (g l.name))
-    by_state true k = rw k (no_rest (not (is_loose l.state)) (is_due (f l.name)) (is_due (g l.name)))
-    by_state false k = ap (λ (v : Option ℕ). (not (is_loose l.state) && not (is_asleep l.state)) && is_due v) (w slot l e k)
+    by_state : (t : Bool) → is_asleep l.state ≡ t → ((not (is_loose l.state) && not (is_asleep l.state)) && is_time_to_sleep (f l.name)) ≡ ((not (is_loose l.state) && not (is_asleep l.state)) && is_time_to_sleep (g l.name))
+    by_state true k = rw k (no_rest (not (is_loose l.state)) (is_time_to_sleep (f l.name)) (is_time_to_sleep (g l.name)))
+    by_state false k = ap (λ (v : Option ℕ). (not (is_loose l.state) && not (is_asleep l.state)) && is_time_to_sleep v) (w slot l e k)
 
 second_same : (labels : Labels) (f g : ℕ → Option ℕ) (o : Option ℕ) → AgreeOn labels f g → second_rests f labels o ≡ second_rests g labels o
 second_same labels f g None w = refl
@@ -121,7 +121,7 @@ timers_agree labels a b p w slot l e up =
     least_same l.name labels a b w.size (λ k h. w.same k (awake_as labels l.name k l p (p.named slot l e) refl h ∙ ap not up))
 
 same_ready : (loose : Bool) (labels : Labels) (a b : List ℕ) → IsPartition labels → AgreeAwake labels a b → ready loose labels a ≡ ready loose labels b
-same_ready loose labels a b p w = sym (due_are loose labels a) ∙ same_due loose labels (timer_in labels a) (timer_in labels b) (timers_agree labels a b p w) ∙ due_are loose labels b
+same_ready loose labels a b p w = sym (ready_names_are loose labels a) ∙ alike_ready loose labels (timer_in labels a) (timer_in labels b) (timers_agree labels a b p w) ∙ ready_names_are loose labels b
 
 same_picked : (labels : Labels) (a b : List ℕ) → IsPartition labels → AgreeAwake labels a b → picked_to_split labels a ≡ picked_to_split labels b
 same_picked labels a b p w = sym (longest_picked labels a) ∙ same_longest labels (timer_in labels a) (timer_in labels b) (timers_agree labels a b p w) ∙ longest_picked labels b
@@ -158,7 +158,7 @@ awake_after {C} number s now timers awake w is a =
 pub phase_agrees : {C : Type 0} (number : C → ℕ) (s : Acting C) (a b : List ℕ) → IsConsistent number s → AgreeAwake s.labels a b → sleep_phase number a s ≡ sleep_phase number b s
 phase_agrees {C} number s a b w same =
     let now : Acting C = split_picked (picked_to_split s.labels a) s in
-    let settled : IsConsistent number now = split_keeps number s (picked_to_split s.labels a) w (λ name e. picked_is s.labels a name e) in
+    let consistent : IsConsistent number now = split_keeps number s (picked_to_split s.labels a) w (λ name e. picked_is s.labels a name e) in
     let still : AgreeAwake now.labels a b = record { size = same.size; same = λ slot h. same.same slot (sym (after_split number s a slot w) ∙ h) } in
-    ap (λ (ns : List ℕ). all_put_to_rest number ns now) (same_ready false now.labels a b settled.islands.partition still)
+    ap (λ (ns : List ℕ). all_put_to_rest number ns now) (same_ready false now.labels a b consistent.islands.partition still)
     ∙ ap (λ (picked : Option ℕ). ready_put_to_rest number b (split_picked picked s)) (same_picked s.labels a b w.islands.partition same)

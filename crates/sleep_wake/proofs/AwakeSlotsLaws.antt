@@ -15,9 +15,9 @@ use Rattle.islands.specs.Partition.{IsPartition}
 use Rattle.islands.proofs.JoinLemmas.{contains_cases, contains_head, contains_tail}
 use Rattle.islands.proofs.LabelLemmas.{relabel_at, some_short}
 use Rattle.sleep_wake.specs.Acting.{awake_label, is_mover_awake}
-use Rattle.sleep_wake.specs.SleepPhase.{lesser, least_timer, is_due, is_island, longer_at_rest, longest_at_rest}
+use Rattle.sleep_wake.specs.SleepPhase.{lesser, least_timer, is_time_to_sleep, is_island, longer_at_rest, longest_at_rest}
 use Rattle.sleep_wake.specs.AwakeSlots.{AreAwakeSlots}
-use Rattle.sleep_wake.specs.Resting.{least_at, noted, forgotten, AreLeast, is_due_island, due_from, due_names, weighed_by, longest_due, all_rested}
+use Rattle.sleep_wake.specs.Resting.{least_at, noted, forgotten, AreLeast, is_ready_island, ready_after, ready_names, weighed_by, longest_ready, all_rested}
 use Rattle.sleep_wake.proofs.ListLemmas.{none_in}
 use Rattle.sleep_wake.proofs.AwakeLemmas.{awake_as}
 use Rattle.sleep_wake.proofs.LeastLemmas.{with_timer, noted_at, forgotten_at}
@@ -148,55 +148,55 @@ no_island false slot None h = refl
 no_island true slot (Some l) h = sleeping_not_loose l.state (l.name == slot) h
 no_island false slot (Some l) h = sleeping_not_whole l.state (l.name == slot) h
 
-not_due : (loose : Bool) (timer : ℕ → Option ℕ) (slot : ℕ) (o : Option Label) → awake_label o ≡ false → is_due_island loose timer slot o ≡ false
-not_due loose timer slot o h = rw (no_island loose slot o h) refl
+not_ready : (loose : Bool) (timer : ℕ → Option ℕ) (slot : ℕ) (o : Option Label) → awake_label o ≡ false → is_ready_island loose timer slot o ≡ false
+not_ready loose timer slot o h = rw (no_island loose slot o h) refl
 
 -- ---- the whole islands that are ready
 
-abbrev pub due_among : (ℕ → Option ℕ) → Labels → List ℕ → List ℕ
-due_among timer labels [] = []
-due_among timer labels (slot ∷ slots) = cond (is_due_island false timer slot (label_at labels slot)) (slot ∷ due_among timer labels slots) (due_among timer labels slots)
+abbrev pub ready_among : (ℕ → Option ℕ) → Labels → List ℕ → List ℕ
+ready_among timer labels [] = []
+ready_among timer labels (slot ∷ slots) = cond (is_ready_island false timer slot (label_at labels slot)) (slot ∷ ready_among timer labels slots) (ready_among timer labels slots)
 
-due_step : (timer : ℕ → Option ℕ) (labels : Labels) (slot : ℕ) (o : Option Label) (more : List ℕ) (t : Bool) → awake_label o ≡ t → label_at labels slot ≡ o
-    → due_among timer labels (cond t (slot ∷ more) more) ≡ cond (is_due_island false timer slot o) (slot ∷ due_among timer labels more) (due_among timer labels more)
-due_step timer labels slot o more true a e = ap (λ (v : Option Label). cond (is_due_island false timer slot v) (slot ∷ due_among timer labels more) (due_among timer labels more)) e
-due_step timer labels slot o more false a e = rw (not_due false timer slot o a) refl
+ready_step : (timer : ℕ → Option ℕ) (labels : Labels) (slot : ℕ) (o : Option Label) (more : List ℕ) (t : Bool) → awake_label o ≡ t → label_at labels slot ≡ o
+    → ready_among timer labels (cond t (slot ∷ more) more) ≡ cond (is_ready_island false timer slot o) (slot ∷ ready_among timer labels more) (ready_among timer labels more)
+ready_step timer labels slot o more true a e = ap (λ (v : Option Label). cond (is_ready_island false timer slot v) (slot ∷ ready_among timer labels more) (ready_among timer labels more)) e
+ready_step timer labels slot o more false a e = rw (not_ready false timer slot o a) refl
 
-due_scanned : (timer : ℕ → Option ℕ) (labels : Labels) (slot : ℕ) (rest : Labels) → Lies labels slot rest → due_among timer labels (awake_from slot rest) ≡ due_from false timer slot rest
-due_scanned timer labels slot [] at = refl
-due_scanned timer labels slot (o ∷ rest) at =
-    due_step timer labels slot o (awake_from (suc slot) rest) (awake_label o) refl (lies_here labels slot o rest at)
-    ∙ ap (λ (ns : List ℕ). cond (is_due_island false timer slot o) (slot ∷ ns) ns) (due_scanned timer labels (suc slot) rest (lies_on labels slot o rest at))
+ready_scanned : (timer : ℕ → Option ℕ) (labels : Labels) (slot : ℕ) (rest : Labels) → Lies labels slot rest → ready_among timer labels (awake_from slot rest) ≡ ready_after false timer slot rest
+ready_scanned timer labels slot [] at = refl
+ready_scanned timer labels slot (o ∷ rest) at =
+    ready_step timer labels slot o (awake_from (suc slot) rest) (awake_label o) refl (lies_here labels slot o rest at)
+    ∙ ap (λ (ns : List ℕ). cond (is_ready_island false timer slot o) (slot ∷ ns) ns) (ready_scanned timer labels (suc slot) rest (lies_on labels slot o rest at))
 
-pub due_among_is : (timer : ℕ → Option ℕ) (labels : Labels) (slots : List ℕ) → AreAwakeSlots labels slots → due_among timer labels slots ≡ due_names false timer labels
-due_among_is timer labels slots w = ap (due_among timer labels) (awake_are labels slots w) ∙ due_scanned timer labels 0 labels (lies_all labels)
+pub ready_among_is : (timer : ℕ → Option ℕ) (labels : Labels) (slots : List ℕ) → AreAwakeSlots labels slots → ready_among timer labels slots ≡ ready_names false timer labels
+ready_among_is timer labels slots w = ap (ready_among timer labels) (awake_are labels slots w) ∙ ready_scanned timer labels 0 labels (lies_all labels)
 
 -- one that rests makes none of the others more ready, or less
 abbrev Others : ℕ → List ℕ → Type 0
 Others slot slots = (x : ℕ) → Contains slots x → x ≢ slot
 
-due_rested : (timer : ℕ → Option ℕ) (labels : Labels) (slot : ℕ) (slots : List ℕ) → Others slot slots → due_among timer (map (asleep_in slot) labels) slots ≡ due_among timer labels slots
-due_rested timer labels slot [] far = refl
-due_rested timer labels slot (x ∷ slots) far =
+ready_rested : (timer : ℕ → Option ℕ) (labels : Labels) (slot : ℕ) (slots : List ℕ) → Others slot slots → ready_among timer (map (asleep_in slot) labels) slots ≡ ready_among timer labels slots
+ready_rested timer labels slot [] far = refl
+ready_rested timer labels slot (x ∷ slots) far =
     let here : is_island false x (label_at (map (asleep_in slot) labels) x) ≡ is_island false x (label_at labels x) =
     ap (is_island false x) (relabel_at slot slot (record { name = slot; state = Asleep }) labels x) ∙ island_rested slot x (label_at labels x) (far x (contains_head x slots)) in
-    ap (λ (t : Bool). cond (t && is_due (timer x)) (x ∷ due_among timer (map (asleep_in slot) labels) slots) (due_among timer (map (asleep_in slot) labels) slots)) here
-    ∙ ap (λ (ns : List ℕ). cond (is_due_island false timer x (label_at labels x)) (x ∷ ns) ns) (due_rested timer labels slot slots (λ y h. far y (contains_tail x slots y h)))
+    ap (λ (t : Bool). cond (t && is_time_to_sleep (timer x)) (x ∷ ready_among timer (map (asleep_in slot) labels) slots) (ready_among timer (map (asleep_in slot) labels) slots)) here
+    ∙ ap (λ (ns : List ℕ). cond (is_ready_island false timer x (label_at labels x)) (x ∷ ns) ns) (ready_rested timer labels slot slots (λ y h. far y (contains_tail x slots y h)))
 
 -- one that is ready falls asleep, and then those after it
-pub rests_next : (timer : ℕ → Option ℕ) (labels : Labels) (slot : ℕ) (slots : List ℕ) → AllPairs Below (slot ∷ slots) → is_due_island false timer slot (label_at labels slot) ≡ true
-    → all_rested (due_among timer (rested labels slot) slots) (rested labels slot) ≡ all_rested (due_among timer labels (slot ∷ slots)) labels
+pub rests_next : (timer : ℕ → Option ℕ) (labels : Labels) (slot : ℕ) (slots : List ℕ) → AllPairs Below (slot ∷ slots) → is_ready_island false timer slot (label_at labels slot) ≡ true
+    → all_rested (ready_among timer (rested labels slot) slots) (rested labels slot) ≡ all_rested (ready_among timer labels (slot ∷ slots)) labels
 unfolding rested
 rests_next timer labels slot slots r h =
     let new : Labels = map (asleep_in slot) labels in
-    let front : slot ∷ due_among timer labels slots ≡ due_among timer labels (slot ∷ slots) = rw h refl in
-    ap (λ (names : List ℕ). all_rested names new) (due_rested timer labels slot slots (λ x k e. let lt : slot < x = above_first slot slots x r k in omega (arith, lt, e)))
+    let front : slot ∷ ready_among timer labels slots ≡ ready_among timer labels (slot ∷ slots) = rw h refl in
+    ap (λ (names : List ℕ). all_rested names new) (ready_rested timer labels slot slots (λ x k e. let lt : slot < x = above_first slot slots x r k in omega (arith, lt, e)))
     ∙ ap (λ (names : List ℕ). all_rested names labels) front
 
 -- one that isn't ready stays as it is
-pub stays_next : (timer : ℕ → Option ℕ) (labels : Labels) (slot : ℕ) (slots : List ℕ) → is_due_island false timer slot (label_at labels slot) ≡ false
-    → all_rested (due_among timer labels slots) labels ≡ all_rested (due_among timer labels (slot ∷ slots)) labels
-stays_next timer labels slot slots h = let front : due_among timer labels slots ≡ due_among timer labels (slot ∷ slots) = rw h refl in ap (λ (names : List ℕ). all_rested names labels) front
+pub stays_next : (timer : ℕ → Option ℕ) (labels : Labels) (slot : ℕ) (slots : List ℕ) → is_ready_island false timer slot (label_at labels slot) ≡ false
+    → all_rested (ready_among timer labels slots) labels ≡ all_rested (ready_among timer labels (slot ∷ slots)) labels
+stays_next timer labels slot slots h = let front : ready_among timer labels slots ≡ ready_among timer labels (slot ∷ slots) = rw h refl in ap (λ (names : List ℕ). all_rested names labels) front
 
 -- ---- the island to split
 
@@ -208,20 +208,20 @@ longest_among timer labels best (slot ∷ slots) = longest_among timer labels (w
 longest_step : (timer : ℕ → Option ℕ) (labels : Labels) (best : Option ℕ) (slot : ℕ) (o : Option Label) (more : List ℕ) (t : Bool) → awake_label o ≡ t → label_at labels slot ≡ o
     → longest_among timer labels best (cond t (slot ∷ more) more) ≡ longest_among timer labels (weighed_by timer best slot o) more
 longest_step timer labels best slot o more true a e = ap (λ (v : Option Label). longest_among timer labels (weighed_by timer best slot v) more) e
-longest_step timer labels best slot o more false a e = rw (not_due true timer slot o a) refl
+longest_step timer labels best slot o more false a e = rw (not_ready true timer slot o a) refl
 
 longest_by : (timer : ℕ → Option ℕ) (best : Option ℕ) (slot : ℕ) (names : List ℕ) (t : Bool) → longest_at_rest timer (cond t (longer_at_rest timer best slot) best) names ≡ longest_at_rest timer best (cond t (slot ∷ names) names)
 longest_by timer best slot names true = refl
 longest_by timer best slot names false = refl
 
-longest_scanned : (timer : ℕ → Option ℕ) (labels : Labels) (best : Option ℕ) (slot : ℕ) (rest : Labels) → Lies labels slot rest → longest_among timer labels best (awake_from slot rest) ≡ longest_at_rest timer best (due_from true timer slot rest)
+longest_scanned : (timer : ℕ → Option ℕ) (labels : Labels) (best : Option ℕ) (slot : ℕ) (rest : Labels) → Lies labels slot rest → longest_among timer labels best (awake_from slot rest) ≡ longest_at_rest timer best (ready_after true timer slot rest)
 longest_scanned timer labels best slot [] at = refl
 longest_scanned timer labels best slot (o ∷ rest) at =
     longest_step timer labels best slot o (awake_from (suc slot) rest) (awake_label o) refl (lies_here labels slot o rest at)
     ∙ longest_scanned timer labels (weighed_by timer best slot o) (suc slot) rest (lies_on labels slot o rest at)
-    ∙ longest_by timer best slot (due_from true timer (suc slot) rest) (is_due_island true timer slot o)
+    ∙ longest_by timer best slot (ready_after true timer (suc slot) rest) (is_ready_island true timer slot o)
 
-pub longest_is : (timer : ℕ → Option ℕ) (labels : Labels) (slots : List ℕ) → AreAwakeSlots labels slots → longest_among timer labels None slots ≡ longest_due timer labels
+pub longest_is : (timer : ℕ → Option ℕ) (labels : Labels) (slots : List ℕ) → AreAwakeSlots labels slots → longest_among timer labels None slots ≡ longest_ready timer labels
 longest_is timer labels slots w = ap (longest_among timer labels None) (awake_are labels slots w) ∙ longest_scanned timer labels None 0 labels (lies_all labels)
 
 -- ---- the least timers

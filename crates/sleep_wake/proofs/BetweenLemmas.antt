@@ -3,7 +3,8 @@ use Rattle.std.proofs.Common.{◌≡◌, ◌≢◌, ◌⊎◌, ℕ, ◌<◌, Boo
 use Rattle.std.specs.Prelude.{Contains, AllPairs, map}
 use Rattle.std.proofs.lemmas.Bool.{false≢true, cases_eq}
 use Rattle.graph_colours.specs.declared.member.Member.{Member}
-use Rattle.graph_colours.specs.Members.{AreRising, has_id}
+use Rattle.graph_colours.specs.Members.{AreRising}
+use Rattle.graph_colours.specs.FoundMembers.{has_id}
 use Rattle.islands.proofs.JoinLemmas.{contains_cases, contains_head, contains_tail}
 use Rattle.std.proofs.lemmas.List.Elements.{All-contains, Contains-get_or}
 use Rattle.std.proofs.lemmas.List.Kept.{AllPairs-cons}
@@ -13,12 +14,12 @@ use Rattle.islands.specs.Labels.{Labels}
 use Rattle.sleep_wake.specs.Acting.{AreMovers, IsConsistent}
 use Rattle.sleep_wake.specs.declared.change.Change.{Change}
 use Rattle.sleep_wake.specs.declared.change.Change.TheVariants.{Begin, End}
-use Rattle.sleep_wake.specs.Changes.{turned, change_number, change_inserted, begins_inserted}
+use Rattle.sleep_wake.specs.Changes.{after_changes, change_number, change_inserted, begins_inserted}
 use Rattle.sleep_wake.specs.ChangeLists.{IsChange, AreChangesOf, only_in, changes_between}
-use Rattle.sleep_wake.specs.Laws.{TurnsInto}
+use Rattle.sleep_wake.specs.Laws.{ChangesLeadTo}
 use Rattle.sleep_wake.proofs.ListLemmas.{filter_in, in_filter, has_from, rising_filter}
-use Rattle.sleep_wake.proofs.TurnLemmas.{changes_fold, ties_after_all, one_order, begin_is, end_is}
-use Rattle.sleep_wake.proofs.KeptLemmas.{turning_keeps}
+use Rattle.sleep_wake.proofs.ChangeLemmas.{changes_fold, ties_after_all, one_order, begin_is, end_is}
+use Rattle.sleep_wake.proofs.KeptLemmas.{changing_keeps}
 
 none_in : {X : Type 0} (x : X) → Contains [] x → ⊥
 none_in x h = omega (arith, h.1)
@@ -164,14 +165,14 @@ has_case number id (m ∷ ms) = elim (cases_eq (number m.id) (number id)) [
   ]
 ]
 
-pub turns_into : {C : Type 0} (number : C → ℕ) → TurnsInto number
-turns_into {C} number s new w r one movers =
+pub changes_lead_to : {C : Type 0} (number : C → ℕ) → ChangesLeadTo number
+changes_lead_to {C} number s new w r one movers =
     let changes : List (Change C) = changes_between number s.ties new in
     let ends : List (Change C) = map (λ m. End m) (only_in number new s.ties) in
     let are : AreChangesOf number s.labels s.ties changes = changes_are number s.labels s.ties new w.rising r movers in
-    let settled : IsConsistent number (turned number changes s) = turning_keeps number s changes w (changes_fold number s.labels s.ties changes are) in (
-      settled,
-      one_order number (turned number changes s).ties new settled.rising r (λ x. (
+    let consistent : IsConsistent number (after_changes number changes s) = changing_keeps number s changes w (changes_fold number s.labels s.ties changes are) in (
+      consistent,
+      one_order number (after_changes number changes s).ties new consistent.rising r (λ x. (
         (λ h. elim ((ties_after_all number s.labels changes s x w.rising are).0 h) [
           | inl k ↦ elim (has_case number x.id new) [
             | inl m ↦ absurd (k.1 (other_in number (only_in number s.ties new) ends (End x) (in_ends (only_in number new s.ties) x (in_filter (λ v. not (has_id number v.id new)) s.ties x k.0 (ap not m)))))

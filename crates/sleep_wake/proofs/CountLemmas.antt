@@ -6,13 +6,14 @@ use Rattle.std.proofs.lemmas.Bool.{false≢true}
 use Rattle.std.proofs.lemmas.List.Filters.{length-filter_both}
 use Rattle.std.proofs.lemmas.List.Sums.{length-filter}
 use Rattle.graph_colours.specs.declared.member.Member.{Member}
-use Rattle.graph_colours.specs.Members.{AreRising, has_id, without_member}
+use Rattle.graph_colours.specs.Members.{AreRising, without_member}
+use Rattle.graph_colours.specs.FoundMembers.{has_id}
 use Rattle.graph_colours.proofs.ListLemmas.{pairs_tail}
 use Rattle.graph_colours.proofs.PlaceLemmas.{without_same}
 use Rattle.graph_colours.proofs.ColouringLemmas.{count_released}
 use Rattle.islands.proofs.JoinLemmas.{contains_cases, contains_head}
 use Rattle.sleep_wake.proofs.ListLemmas.{none_in, without_in, one_of}
-use Rattle.sleep_wake.proofs.TurnLemmas.{fresh_from}
+use Rattle.sleep_wake.proofs.ChangeLemmas.{fresh_from}
 
 -- no number stands twice
 abbrev pub AreOnce : {C : Type 0} → (C → ℕ) → List (Member C) → Type 0

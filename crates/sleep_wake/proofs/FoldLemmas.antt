@@ -16,13 +16,13 @@ use Rattle.islands.proofs.SplitLemmas.{IsLabelled}
 use Rattle.sleep_wake.specs.declared.change.Change.{Change}
 use Rattle.sleep_wake.specs.declared.change.Change.TheVariants.{Begin, End}
 use Rattle.sleep_wake.specs.Acting.{Acting, AreMovers, IsConsistent, awake_label, is_mover_awake, second_awake, are_awake}
-use Rattle.sleep_wake.specs.Changes.{begun, ended, each_begun, each_ended, united, parted, after_change}
+use Rattle.sleep_wake.specs.Changes.{begun, ended, united, parted, after_change}
 use Rattle.sleep_wake.specs.ChangeLists.{CanBegin, CanEnd, AreChanges, IsChange, begin_count}
 use Rattle.sleep_wake.specs.Waking.{set_woken, woken_by, woken_at, second_woken, movers_woken}
 use Rattle.sleep_wake.proofs.ListLemmas.{above_head, in_without}
 use Rattle.sleep_wake.proofs.AwakeLemmas.{and_is, all_awake, same_awake, united_awake, united_labelled, parted_awake, parted_labelled, stated_labelled}
 use Rattle.sleep_wake.proofs.KeptLemmas.{wakes_both}
-use Rattle.sleep_wake.proofs.SizeLemmas.{both_ties, ended_fewer, inserted_size, without_fewer}
+use Rattle.sleep_wake.proofs.SizeLemmas.{both_ties, inserted_size, without_fewer}
 
 -- the item in a place, and those after it
 pub first_is : {X : Type 0} (xs : List X) (i : ℕ) (x : X) → i < length xs → x ≡ get_or xs i x → drop i xs ≡ x ∷ drop (i + 1) xs
@@ -69,10 +69,6 @@ pub begun_more : {C : Type 0} (number : C → ℕ) (m : Member C) (s : Acting C)
 unfolding begun
 begun_more number m s = inserted_size number m s.ties
 
-pub each_begun_few : {C : Type 0} (number : C → ℕ) (ms : List (Member C)) (s : Acting C) (room : ℕ) → length s.ties + length ms ≤ room → length (each_begun number ms s).ties ≤ room
-each_begun_few number [] s room h = omega (arith, h)
-each_begun_few number (m ∷ ms) s room h = let k : length s.ties + suc (length ms) ≤ room = h in each_begun_few number ms (begun number m s) room (omega (arith, k, begun_more number m s))
-
 -- ---- several end
 
 pub end_next : {C : Type 0} (number : C → ℕ) (m : Member C) (ms : List (Member C)) (s : Acting C) → IsConsistent number s → CanEnd number (m ∷ ms) s → CanEnd number ms (ended number m s)
@@ -87,10 +83,6 @@ end_next {C} number m ms s w can =
           in_without number m.id s.ties x (can.there x (contains_tail m ms x h)) (λ e. omega (arith, e, lt));
       awake = λ x h. same_awake s.labels (parted m.movers.second m.movers.first s.labels) x.movers.first x.movers.second (same x.movers.first) (λ b e. same b) ∙ can.awake x (contains_tail m ms x h);
     }
-
-pub each_ended_few : {C : Type 0} (number : C → ℕ) (ms : List (Member C)) (s : Acting C) → length (each_ended number ms s).ties ≤ length s.ties
-each_ended_few number [] s = omega arith
-each_ended_few number (m ∷ ms) s = omega (arith, each_ended_few number ms (ended number m s), ended_fewer number m s)
 
 -- ---- changes
 

@@ -9,6 +9,6 @@ use Rattle.sleep_wake.proofs.StandLemmas.{are_below}
 
 -- the movers of all constraints with a colour are below the number of slots
 pub all_below : {C : Type 0} (number : C → ℕ) (s : Acting C) → IsConsistent number s → All (AreAllBelow (length s.labels)) s.lists
-all_below number s settled k d lt j e short =
+all_below number s consistent k d lt j e short =
     let there = flat_in s.lists (get_or s.lists k d) (get_or (get_or s.lists k d) j e) (Contains-get_or s.lists k d lt) (Contains-get_or (get_or s.lists k d) j e short) in
-    are_below s.labels (length s.labels) (get_or (get_or s.lists k d) j e).movers (omega arith) (settled.movers (get_or (get_or s.lists k d) j e) ((settled.acting (get_or (get_or s.lists k d) j e)).0 there).0)
+    are_below s.labels (length s.labels) (get_or (get_or s.lists k d) j e).movers (omega arith) (consistent.movers (get_or (get_or s.lists k d) j e) ((consistent.acting (get_or (get_or s.lists k d) j e)).0 there).0)

@@ -10,7 +10,8 @@ use Rattle.std.proofs.lemmas.List.Kept.{AllPairs-filter, AllPairs-cons}
 use Rattle.graph_colours.specs.declared.member.Movers.{Movers}
 use Rattle.graph_colours.specs.declared.member.Member.{Member}
 use Rattle.graph_colours.specs.Movers.{is_slot, has_mover}
-use Rattle.graph_colours.specs.Members.{AreRising, has_id, inserted, without_member, movers_of}
+use Rattle.graph_colours.specs.Members.{AreRising, inserted, without_member}
+use Rattle.graph_colours.specs.FoundMembers.{has_id, movers_of}
 use Rattle.graph_colours.specs.Colours.{list_at}
 use Rattle.graph_colours.specs.Given.{members_of}
 use Rattle.graph_colours.proofs.Cases.{by_test}
@@ -241,12 +242,12 @@ all_rising {C} number ties lists rising by slot =
 
 -- ---- what is kept
 
-pub indexed_rising : {C : Type 0} (number : C → ℕ) (ties : List (Member C)) (pending : ℕ) (settled holds : Bool) (lists : List (List (Member C))) → IsIndexed number ties pending settled holds lists → holds ≡ true → AreAllRising number lists
-indexed_rising number ties pending settled holds lists kept q = all_rising number ties lists kept.rising (kept.by_mover q)
+pub indexed_rising : {C : Type 0} (number : C → ℕ) (ties : List (Member C)) (pending : ℕ) (flushed holds : Bool) (lists : List (List (Member C))) → IsIndexed number ties pending flushed holds lists → holds ≡ true → AreAllRising number lists
+indexed_rising number ties pending flushed holds lists kept q = all_rising number ties lists kept.rising (kept.by_mover q)
 
 -- an edit may be put off now, where the lists hold
-pub indexed_more : {C : Type 0} (number : C → ℕ) (m : Member C) (ties then : List (Member C)) (before pending : ℕ) (settled was holds : Bool) (old now : List (List (Member C))) → IsIndexed number ties before settled was old → has_id number m.id ties ≡ false → then ≡ inserted number m ties → (holds ≡ true → was ≡ true) → (holds ≡ true → IsAdded number m old now) → (holds ≡ false → pending ≡ 0) → IsIndexed number then pending false holds now
-indexed_more {C} number m ties then before pending settled was holds old now kept absent is held added lapsed =
+pub indexed_more : {C : Type 0} (number : C → ℕ) (m : Member C) (ties then : List (Member C)) (before pending : ℕ) (flushed was holds : Bool) (old now : List (List (Member C))) → IsIndexed number ties before flushed was old → has_id number m.id ties ≡ false → then ≡ inserted number m ties → (holds ≡ true → was ≡ true) → (holds ≡ true → IsAdded number m old now) → (holds ≡ false → pending ≡ 0) → IsIndexed number then pending false holds now
+indexed_more {C} number m ties then before pending flushed was holds old now kept absent is held added lapsed =
     let P : List (Member C) → Type 0 = λ l. AreRising number l in
     let Q : List (Member C) → Type 0 = λ l. AreByMover l now in
     record {
@@ -266,8 +267,8 @@ less_by {C} number id ties holds old now None is rising by none taken q =
     subst P (sym (none refl)) (subst Q (sym (without_same number id ties (absent_by number id ties is))) (by q))
 less_by number id ties holds old now (Some m) is rising by none taken q = ties_taken number id m ties old now rising (sym is) (by q) (taken q m refl)
 
-pub indexed_less : {C : Type 0} (number : C → ℕ) (id : C) (ties then : List (Member C)) (before pending : ℕ) (settled holds : Bool) (old now : List (List (Member C))) (movers : Option Movers) → IsIndexed number ties before settled holds old → movers ≡ movers_of number id ties → then ≡ without_member number id ties → (movers ≡ None → now ≡ old) → (holds ≡ true → (m : Movers) → movers ≡ Some m → IsTakenOut number id m old now) → (holds ≡ false → pending ≡ 0) → IsIndexed number then pending false holds now
-indexed_less {C} number id ties then before pending settled holds old now movers kept found is none taken lapsed =
+pub indexed_less : {C : Type 0} (number : C → ℕ) (id : C) (ties then : List (Member C)) (before pending : ℕ) (flushed holds : Bool) (old now : List (List (Member C))) (movers : Option Movers) → IsIndexed number ties before flushed holds old → movers ≡ movers_of number id ties → then ≡ without_member number id ties → (movers ≡ None → now ≡ old) → (holds ≡ true → (m : Movers) → movers ≡ Some m → IsTakenOut number id m old now) → (holds ≡ false → pending ≡ 0) → IsIndexed number then pending false holds now
+indexed_less {C} number id ties then before pending flushed holds old now movers kept found is none taken lapsed =
     let P : List (Member C) → Type 0 = λ l. AreRising number l in
     let Q : List (Member C) → Type 0 = λ l. AreByMover l now in
     record {

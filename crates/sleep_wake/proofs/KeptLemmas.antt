@@ -4,7 +4,8 @@ use Rattle.std.specs.Prelude.{Contains}
 use Rattle.std.proofs.lemmas.Bool.{false≢true, cases_eq}
 use Rattle.graph_colours.specs.declared.member.Movers.{Movers}
 use Rattle.graph_colours.specs.declared.member.Member.{Member}
-use Rattle.graph_colours.specs.Members.{has_id, inserted, without_member}
+use Rattle.graph_colours.specs.Members.{inserted, without_member}
+use Rattle.graph_colours.specs.FoundMembers.{has_id}
 use Rattle.graph_colours.proofs.ListLemmas.{rising_inserted, rising_without}
 use Rattle.graph_colours.proofs.ColouringLemmas.{released_keeps}
 use Rattle.islands.specs.declared.label.IslandState.{IslandState}
@@ -20,10 +21,10 @@ use Rattle.islands.proofs.SplitLemmas.{IsLabelled}
 use Rattle.sleep_wake.specs.Acting.{Acting, AreMovers, IsConsistent, links_of, awake_label, is_mover_awake, second_awake, are_awake}
 use Rattle.sleep_wake.specs.declared.change.Change.{Change}
 use Rattle.sleep_wake.specs.declared.change.Change.TheVariants.{Begin, End}
-use Rattle.sleep_wake.specs.Changes.{parted, united, ended, begun, turned}
+use Rattle.sleep_wake.specs.Changes.{parted, united, ended, begun, after_changes}
 use Rattle.sleep_wake.specs.ChangeLists.{AreChanges}
 use Rattle.sleep_wake.specs.Waking.{ties_of_mover, has_mover_of, set_woken, woken_by, woken_at, second_woken, movers_woken, put_to_rest}
-use Rattle.sleep_wake.specs.Laws.{WakingKeeps, TurningKeeps, RestingKeeps, SleepersAreOneComponent, LinkedStandTogether, EndingKeeps, BeginningKeeps}
+use Rattle.sleep_wake.specs.Laws.{WakingKeeps, ChangingKeeps, RestingKeeps, SleepersAreOneComponent, LinkedStandTogether, EndingKeeps, BeginningKeeps}
 use Rattle.sleep_wake.proofs.ListLemmas.{filter_in, in_filter, without_in, in_without, inserted_in, in_inserted, one_of, has_from, absent_from, places_one, places, Places, releases, Releases, released_in, in_released, rising_filter, link_in, in_links, links_more}
 use Rattle.sleep_wake.proofs.AwakeLemmas.{and_is, all_awake, awake_first, same_awake, NoneIn, of_island, tie_together, awake_in, awake_out, awake_as, stated_labelled, in_or_out, parted_awake, parted_labelled, united_awake, united_labelled}
 
@@ -91,7 +92,7 @@ waking {C} number s name l w e k a =
 
 -- what a waking leaves
 pub record Wakes {C : Type 0} (number : C → ℕ) (slot : ℕ) (s new : Acting C) : Type 0 where
-  pub settled : IsConsistent number new
+  pub consistent : IsConsistent number new
   pub ties : new.ties ≡ s.ties
   pub labelled : (t : ℕ) → IsLabelled s.labels t → IsLabelled new.labels t
   pub more : (t : ℕ) → is_mover_awake s.labels t ≡ true → is_mover_awake new.labels t ≡ true
@@ -102,7 +103,7 @@ unfolding set_woken woken
 woken_set number slot s l w e a =
     let home : label_at s.labels l.name ≡ Some l = w.islands.partition.named slot l e in
     record {
-      settled = waking number s l.name l w home refl a;
+      consistent = waking number s l.name l w home refl a;
       ties = refl;
       labelled = λ t h. stated_labelled s.labels l.name Whole t h;
       more = λ t h. elim (in_or_out s.labels l.name t) [ inl k ↦ awake_in s.labels l.name Whole t k | inr k ↦ awake_out s.labels l.name Whole t k ∙ h ];
@@ -111,10 +112,10 @@ woken_set number slot s l w e a =
 
 wakes_if : {C : Type 0} (number : C → ℕ) (slot : ℕ) (s : Acting C) (l : Label) (t : Bool) → is_asleep l.state ≡ t → IsConsistent number s → label_at s.labels slot ≡ Some l → Wakes number slot s (cond t (set_woken number l.name s) s)
 wakes_if number slot s l true a w e = woken_set number slot s l w e a
-wakes_if number slot s l false a w e = record { settled = w; ties = refl; labelled = λ t h. h; more = λ t h. h; awake = λ h. ap awake_label e ∙ ap not a }
+wakes_if number slot s l false a w e = record { consistent = w; ties = refl; labelled = λ t h. h; more = λ t h. h; awake = λ h. ap awake_label e ∙ ap not a }
 
 wakes_by : {C : Type 0} (number : C → ℕ) (slot : ℕ) (s : Acting C) (o : Option Label) → label_at s.labels slot ≡ o → IsConsistent number s → Wakes number slot s (woken_by number o s)
-wakes_by number slot s None e w = record { settled = w; ties = refl; labelled = λ t h. h; more = λ t h. h; awake = λ h. absurd (let no : None ≡ Some h.0 = sym e ∙ h.1 in cc) }
+wakes_by number slot s None e w = record { consistent = w; ties = refl; labelled = λ t h. h; more = λ t h. h; awake = λ h. absurd (let no : None ≡ Some h.0 = sym e ∙ h.1 in cc) }
 wakes_by number slot s (Some l) e w = wakes_if number slot s l (is_asleep l.state) refl w e
 
 pub wakes : {C : Type 0} (number : C → ℕ) (slot : ℕ) (s : Acting C) → IsConsistent number s → Wakes number slot s (woken_at number slot s)
@@ -123,19 +124,19 @@ wakes number slot s w = wakes_by number slot s (label_at s.labels slot) refl w
 
 -- the sleepers of a constraint wake
 pub record WakesBoth {C : Type 0} (number : C → ℕ) (first : ℕ) (second : Option ℕ) (s new : Acting C) : Type 0 where
-  pub settled : IsConsistent number new
+  pub consistent : IsConsistent number new
   pub ties : new.ties ≡ s.ties
   pub labelled : (t : ℕ) → IsLabelled s.labels t → IsLabelled new.labels t
   pub one : IsLabelled s.labels first → is_mover_awake new.labels first ≡ true
   pub two : (b : ℕ) → second ≡ Some b → IsLabelled s.labels b → is_mover_awake new.labels b ≡ true
 
 pub wakes_both : {C : Type 0} (number : C → ℕ) (first : ℕ) (o : Option ℕ) (s : Acting C) → IsConsistent number s → WakesBoth number first o s (second_woken number o (woken_at number first s))
-wakes_both number first None s w = let a = wakes number first s w in record { settled = a.settled; ties = a.ties; labelled = a.labelled; one = a.awake; two = λ b e h. absurd (let no : None ≡ Some b = e in cc) }
+wakes_both number first None s w = let a = wakes number first s w in record { consistent = a.consistent; ties = a.ties; labelled = a.labelled; one = a.awake; two = λ b e h. absurd (let no : None ≡ Some b = e in cc) }
 wakes_both number first (Some c) s w =
     let a = wakes number first s w in
-    let d = wakes number c (woken_at number first s) a.settled in
+    let d = wakes number c (woken_at number first s) a.consistent in
     record {
-      settled = d.settled;
+      consistent = d.consistent;
       ties = d.ties ∙ a.ties;
       labelled = λ t h. d.labelled t (a.labelled t h);
       one = λ h. d.more first (a.awake h);
@@ -274,7 +275,7 @@ beginning {C} number s m w fresh h a d =
 
 -- ---- the fold
 
-turning : {C : Type 0} (number : C → ℕ) (old : Labels) (changes : List (Change C)) (s : Acting C) → IsConsistent number s → Labelled old s.labels → AreChanges number old s.ties changes → IsConsistent number (turned number changes s)
+turning : {C : Type 0} (number : C → ℕ) (old : Labels) (changes : List (Change C)) (s : Acting C) → IsConsistent number s → Labelled old s.labels → AreChanges number old s.ties changes → IsConsistent number (after_changes number changes s)
 unfolding ended begun
 turning number old [] s w on h = w
 turning {C} number old (Begin m ∷ changes) s w on h =
@@ -283,7 +284,7 @@ turning {C} number old (Begin m ∷ changes) s w on h =
     let P : List (Member C) → Type 0 = λ v. has_id number m.id v ≡ false in
     let Q : List (Member C) → Type 0 = λ v. AreChanges number old (inserted number m v) changes in
     let there : AreMovers s.labels m.movers = movers_on old s.labels m.movers on h.1 in
-    let next : IsConsistent number (begun number m now) = beginning number now m a.settled (subst P (sym a.ties) h.0) (movers_on s.labels now.labels m.movers a.labelled there) (a.one there.first) (λ b e. a.two b e (there.second b e)) in
+    let next : IsConsistent number (begun number m now) = beginning number now m a.consistent (subst P (sym a.ties) h.0) (movers_on s.labels now.labels m.movers a.labelled there) (a.one there.first) (λ b e. a.two b e (there.second b e)) in
     turning number old changes (begun number m now) next
     (λ t q. united_labelled now.labels m.movers.first t m.movers.second (a.labelled t (on t q)))
     (subst Q (sym a.ties) h.2)
@@ -292,7 +293,7 @@ turning {C} number old (End m ∷ changes) s w on h =
     let now : Acting C = movers_woken number m.movers s in
     let P : List (Member C) → Type 0 = λ v. Contains v m in
     let Q : List (Member C) → Type 0 = λ v. AreChanges number old (without_member number m.id v) changes in
-    let next : IsConsistent number (ended number m now) = ending number now m a.settled (subst P (sym a.ties) h.0) (a.one (w.movers m h.0).first) in
+    let next : IsConsistent number (ended number m now) = ending number now m a.consistent (subst P (sym a.ties) h.0) (a.one (w.movers m h.0).first) in
     turning number old changes (ended number m now) next
     (λ t q. parted_labelled now.labels m.movers.first t m.movers.second (a.labelled t (on t q)))
     (subst Q (sym a.ties) h.1)
@@ -346,10 +347,10 @@ sleepers number s slot l w e a =
 -- ---- the laws
 
 pub waking_keeps : {C : Type 0} (number : C → ℕ) → WakingKeeps number
-waking_keeps number s slot w = (wakes number slot s w).settled
+waking_keeps number s slot w = (wakes number slot s w).consistent
 
-pub turning_keeps : {C : Type 0} (number : C → ℕ) → TurningKeeps number
-turning_keeps number s changes w h = turning number s.labels changes s w (λ t q. q) h
+pub changing_keeps : {C : Type 0} (number : C → ℕ) → ChangingKeeps number
+changing_keeps number s changes w h = turning number s.labels changes s w (λ t q. q) h
 
 pub resting_keeps : {C : Type 0} (number : C → ℕ) → RestingKeeps number
 resting_keeps number s name l w e k n = resting number s name l w e k n

@@ -3,7 +3,7 @@ use Rattle.std.proofs.Common.{◌≡◌, ℕ, zero, suc, ◌⊎◌, ◌==◌, �
 use Rattle.std.specs.Prelude.{Contains, is_some}
 use Rattle.std.proofs.lemmas.Bool.{false≢true, cases_eq}
 use Rattle.graph_colours.specs.declared.member.Member.{Member}
-use Rattle.graph_colours.specs.Members.{has_id}
+use Rattle.graph_colours.specs.FoundMembers.{has_id}
 use Rattle.graph_colours.proofs.PlaceLemmas.{is_same, not_same, same_from}
 use Rattle.islands.specs.declared.label.IslandState.TheVariants.{Whole, Loose, Asleep}
 use Rattle.islands.specs.declared.label.Label.{Label}
@@ -16,7 +16,7 @@ use Rattle.sleep_wake.specs.declared.change.Change.{Change}
 use Rattle.sleep_wake.specs.declared.change.Change.TheVariants.{Begin, End}
 use Rattle.sleep_wake.specs.Acting.{Acting, AreMovers, IsConsistent, awake_label, is_mover_awake}
 use Rattle.sleep_wake.specs.Bodies.{mover_made, mover_gone}
-use Rattle.sleep_wake.specs.Changes.{begun, ended, united, parted, each_begun, each_ended, after_change, turned}
+use Rattle.sleep_wake.specs.Changes.{begun, ended, united, parted, each_begun, each_ended, after_change, after_changes}
 use Rattle.sleep_wake.specs.ChangeLists.{CanBegin, CanEnd, AreChanges}
 use Rattle.sleep_wake.specs.Waking.{set_woken, woken_by, woken_at, second_woken, movers_woken, put_to_rest}
 use Rattle.sleep_wake.specs.SleepPhase.{split_at, edges_of, split_picked, picked_to_split, all_put_to_rest, ready, sleep_phase}
@@ -30,11 +30,11 @@ use Rattle.sleep_wake.proofs.PhaseLemmas.{names, splitting_keeps}
 use Rattle.sleep_wake.proofs.RestLemmas.{whole_after}
 use Rattle.sleep_wake.proofs.FoldLemmas.{are_up, begin_next, end_next, movers_on, change_next, changed_labelled, Labelled}
 
--- ---- what keeps the sets settled
+-- ---- what keeps the sets consistent
 
 pub waking_named_keeps : {C : Type 0} (number : C → ℕ) → WakingNamedKeeps number
 waking_named_keeps number s [] w = w
-waking_named_keeps number s (name ∷ names) w = waking_named_keeps number (woken_at number name s) names (wakes number name s w).settled
+waking_named_keeps number s (name ∷ names) w = waking_named_keeps number (woken_at number name s) names (wakes number name s w).consistent
 
 pub beginning_each_keeps : {C : Type 0} (number : C → ℕ) → BeginningEachKeeps number
 beginning_each_keeps number s [] w can = w
@@ -149,9 +149,9 @@ changed_slots : {C : Type 0} (number : C → ℕ) (c : Change C) (s : Acting C) 
 changed_slots number (Begin m) s = λ t. begun_slots number m (movers_woken number m.movers s) t ∙ both_slots number m.movers.first m.movers.second s t
 changed_slots number (End m) s = λ t. ended_slots number m (movers_woken number m.movers s) t ∙ both_slots number m.movers.first m.movers.second s t
 
-turned_slots : {C : Type 0} (number : C → ℕ) (changes : List (Change C)) (s : Acting C) → SameSlots s.labels (turned number changes s).labels
-turned_slots number [] s = λ t. refl
-turned_slots number (c ∷ changes) s = λ t. turned_slots number changes (after_change number c s) t ∙ changed_slots number c s t
+after_changes_slots : {C : Type 0} (number : C → ℕ) (changes : List (Change C)) (s : Acting C) → SameSlots s.labels (after_changes number changes s).labels
+after_changes_slots number [] s = λ t. refl
+after_changes_slots number (c ∷ changes) s = λ t. after_changes_slots number changes (after_change number c s) t ∙ changed_slots number c s t
 
 rest_slots : {C : Type 0} (number : C → ℕ) (name : ℕ) (s : Acting C) → SameSlots s.labels (put_to_rest number name s).labels
 unfolding put_to_rest rested
@@ -206,7 +206,7 @@ movers_stay number = record {
   waking = λ s names. islands_slots number names s;
   begun = λ s ms. each_begun_slots number ms s;
   ended = λ s ms. each_ended_slots number ms s;
-  turned = λ s changes. turned_slots number changes s;
+  after_changes = λ s changes. after_changes_slots number changes s;
   slept = λ s slot w. slept_slots number slot s w;
   phase = λ s timers w. phase_slots number timers s w;
 }
@@ -261,7 +261,7 @@ ended_awake number m s t w a = parted_awake s.labels m.movers.first t m.movers.s
 
 islands_awake : {C : Type 0} (number : C → ℕ) (names : List ℕ) (s : Acting C) → IsConsistent number s → NobodyFallsAsleep s (islands_woken number names s)
 islands_awake number [] s w = λ t h. h
-islands_awake number (name ∷ names) s w = let a = wakes number name s w in λ t h. islands_awake number names (woken_at number name s) a.settled t (a.more t h)
+islands_awake number (name ∷ names) s w = let a = wakes number name s w in λ t h. islands_awake number names (woken_at number name s) a.consistent t (a.more t h)
 
 each_begun_awake : {C : Type 0} (number : C → ℕ) (ms : List (Member C)) (s : Acting C) → IsConsistent number s → CanBegin number ms s → NobodyFallsAsleep s (each_begun number ms s)
 each_begun_awake number [] s w can = λ t h. h
@@ -276,14 +276,14 @@ each_ended_awake number (m ∷ ms) s w can =
     let up = are_up s.labels m.movers (can.awake m (contains_head m ms)) in
     λ t h. each_ended_awake number ms (ended number m s) (ending_keeps number s m w (can.there m (contains_head m ms)) up.first) (end_next number m ms s w can) t (ended_awake number m s t w up.first ∙ h)
 
--- one change leaves the awake awake, and all settled
+-- one change leaves the awake awake, and all consistent
 pub record Steps {C : Type 0} (number : C → ℕ) (s new : Acting C) : Type 0 where
-  pub settled : IsConsistent number new
+  pub consistent : IsConsistent number new
   pub awake : NobodyFallsAsleep s new
 
 both_awake : {C : Type 0} (number : C → ℕ) (first : ℕ) (o : Option ℕ) (s : Acting C) → IsConsistent number s → NobodyFallsAsleep s (second_woken number o (woken_at number first s))
 both_awake number first None s w = (wakes number first s w).more
-both_awake number first (Some b) s w = let a = wakes number first s w in λ t h. (wakes number b (woken_at number first s) a.settled).more t (a.more t h)
+both_awake number first (Some b) s w = let a = wakes number first s w in λ t h. (wakes number b (woken_at number first s) a.consistent).more t (a.more t h)
 
 changed_steps : {C : Type 0} (number : C → ℕ) (old : Labels) (c : Change C) (cs : List (Change C)) (s : Acting C) → IsConsistent number s → Labelled old s.labels → AreChanges number old s.ties (c ∷ cs) → Steps number s (after_change number c s)
 changed_steps {C} number old (Begin m) cs s w on h =
@@ -296,8 +296,8 @@ changed_steps {C} number old (Begin m) cs s w on h =
     let two : (b : ℕ) → m.movers.second ≡ Some b → is_mover_awake now.labels b ≡ true = λ b e. a.two b e (there.second b e) in
     let movers : AreMovers now.labels m.movers = movers_on s.labels now.labels m.movers a.labelled there in
     record {
-      settled = beginning number now m a.settled fresh movers one two;
-      awake = λ t k. begun_awake number m now t a.settled movers one two ∙ both_awake number m.movers.first m.movers.second s w t k;
+      consistent = beginning number now m a.consistent fresh movers one two;
+      awake = λ t k. begun_awake number m now t a.consistent movers one two ∙ both_awake number m.movers.first m.movers.second s w t k;
     }
 changed_steps {C} number old (End m) cs s w on h =
     let now : Acting C = movers_woken number m.movers s in
@@ -306,22 +306,22 @@ changed_steps {C} number old (End m) cs s w on h =
     let there : Contains now.ties m = subst P (sym a.ties) h.0 in
     let one = a.one (w.movers m h.0).first in
     record {
-      settled = ending number now m a.settled there one;
-      awake = λ t k. ended_awake number m now t a.settled one ∙ both_awake number m.movers.first m.movers.second s w t k;
+      consistent = ending number now m a.consistent there one;
+      awake = λ t k. ended_awake number m now t a.consistent one ∙ both_awake number m.movers.first m.movers.second s w t k;
     }
 
-turned_awake : {C : Type 0} (number : C → ℕ) (old : Labels) (changes : List (Change C)) (s : Acting C) → IsConsistent number s → Labelled old s.labels → AreChanges number old s.ties changes → NobodyFallsAsleep s (turned number changes s)
-turned_awake number old [] s w on h = λ t k. k
-turned_awake number old (c ∷ changes) s w on h =
+changed_awake : {C : Type 0} (number : C → ℕ) (old : Labels) (changes : List (Change C)) (s : Acting C) → IsConsistent number s → Labelled old s.labels → AreChanges number old s.ties changes → NobodyFallsAsleep s (after_changes number changes s)
+changed_awake number old [] s w on h = λ t k. k
+changed_awake number old (c ∷ changes) s w on h =
     let a = changed_steps number old c changes s w on h in
-    λ t k. turned_awake number old changes (after_change number c s) a.settled (λ u q. changed_labelled number c s u (on u q)) (change_next number old s c changes h) t (a.awake t k)
+    λ t k. changed_awake number old changes (after_change number c s) a.consistent (λ u q. changed_labelled number c s u (on u q)) (change_next number old s c changes h) t (a.awake t k)
 
 pub awake_stay_awake : {C : Type 0} (number : C → ℕ) → AwakeStayAwake number
 awake_stay_awake number = record {
   waking = λ s names w. islands_awake number names s w;
   begun = λ s ms w can. each_begun_awake number ms s w can;
   ended = λ s ms w can. each_ended_awake number ms s w can;
-  turned = λ s changes w can. turned_awake number s.labels changes s w (λ t q. q) can;
+  after_changes = λ s changes w can. changed_awake number s.labels changes s w (λ t q. q) can;
 }
 
 -- ---- the labels of the awake
@@ -352,7 +352,7 @@ pub waking_leaves_the_awake : {C : Type 0} (number : C → ℕ) → WakingLeaves
 waking_leaves_the_awake number s [] slot w h = refl
 waking_leaves_the_awake number s (name ∷ names) slot w h =
     let a = wakes number name s w in
-    waking_leaves_the_awake number (woken_at number name s) names slot a.settled (a.more slot h) ∙ woken_leaves number s name slot w h
+    waking_leaves_the_awake number (woken_at number name s) names slot a.consistent (a.more slot h) ∙ woken_leaves number s name slot w h
 
 -- ---- the named are awake
 
@@ -390,8 +390,8 @@ named_wakes {C} number (n ∷ names) s name w h k =
       | inl e ↦ let P : ℕ → Type 0 = λ v. is_some (label_at s.labels v) ≡ true in
           let up : is_mover_awake (woken_at number n s).labels n ≡ true = a.awake (labelled_from (label_at s.labels n) (subst P (sym e) k)) in
           let Q : ℕ → Type 0 = λ v. is_mover_awake (islands_woken number names (woken_at number n s)).labels v ≡ true in
-          subst Q e (islands_awake number names (woken_at number n s) a.settled n up)
-      | inr i ↦ named_wakes number names (woken_at number n s) name a.settled i (woken_slots number n s name ∙ k)
+          subst Q e (islands_awake number names (woken_at number n s) a.consistent n up)
+      | inr i ↦ named_wakes number names (woken_at number n s) name a.consistent i (woken_slots number n s name ∙ k)
     ]
 
 one_name_in_by : (name n : ℕ) (names : List ℕ) (x : ℕ) (t u : Bool) → (u ≡ true → n ≡ name) → (name ≡ x) ⊎ Contains (n ∷ names) x → ((name ≡ x) ⊎ Contains names x → Contains (with_one_name name names) x) → Contains (cond t (n ∷ with_one_name name names) (cond u (n ∷ names) (name ∷ n ∷ names))) x

@@ -7,7 +7,7 @@ use Rattle.islands.specs.declared.label.Label.{Label}
 use Rattle.islands.specs.Labels.{Labels, is_in}
 use Rattle.islands.proofs.JoinLemmas.{contains_cases}
 use Rattle.sleep_wake.specs.SleepPhase.{lesser, least_timer, ready_from, ready}
-use Rattle.sleep_wake.specs.Resting.{least_at, lowered, noted, forgotten, is_due_island, due_from, due_names}
+use Rattle.sleep_wake.specs.Resting.{least_at, lowered, noted, forgotten, is_ready_island, ready_after, ready_names}
 use Rattle.sleep_wake.proofs.ListLemmas.{none_in}
 
 -- ---- a timer more
@@ -81,9 +81,9 @@ forgotten_long (slot ∷ slots) leasts = forgotten_long slots (slice_set leasts 
 abbrev pub timer_in : Labels → List ℕ → ℕ → Option ℕ
 timer_in labels timers name = least_timer name labels timers
 
-due_is : (loose : Bool) (labels : Labels) (timers : List ℕ) (slot : ℕ) (rest : Labels) → due_from loose (timer_in labels timers) slot rest ≡ ready_from loose labels timers slot rest
-due_is loose labels timers slot [] = refl
-due_is loose labels timers slot (o ∷ rest) = ap (λ (ns : List ℕ). cond (is_due_island loose (timer_in labels timers) slot o) (slot ∷ ns) ns) (due_is loose labels timers (suc slot) rest)
+ready_is : (loose : Bool) (labels : Labels) (timers : List ℕ) (slot : ℕ) (rest : Labels) → ready_after loose (timer_in labels timers) slot rest ≡ ready_from loose labels timers slot rest
+ready_is loose labels timers slot [] = refl
+ready_is loose labels timers slot (o ∷ rest) = ap (λ (ns : List ℕ). cond (is_ready_island loose (timer_in labels timers) slot o) (slot ∷ ns) ns) (ready_is loose labels timers (suc slot) rest)
 
-pub due_are : (loose : Bool) (labels : Labels) (timers : List ℕ) → due_names loose (timer_in labels timers) labels ≡ ready loose labels timers
-due_are loose labels timers = due_is loose labels timers 0 labels
+pub ready_names_are : (loose : Bool) (labels : Labels) (timers : List ℕ) → ready_names loose (timer_in labels timers) labels ≡ ready loose labels timers
+ready_names_are loose labels timers = ready_is loose labels timers 0 labels

@@ -16,7 +16,7 @@ use Rattle.sleep_wake.specs.declared.change.Change.{Change}
 use Rattle.sleep_wake.specs.declared.change.Change.TheVariants.{Begin, End}
 use Rattle.sleep_wake.specs.Acting.{Acting, AreMovers, IsConsistent, acting, are_awake, awake_label, is_mover_awake, links_of, second_awake}
 use Rattle.sleep_wake.specs.Bodies.{mover_gone, mover_made}
-use Rattle.sleep_wake.specs.Changes.{begun, after_change, each_begun, each_ended, ended, parted, turned, united}
+use Rattle.sleep_wake.specs.Changes.{begun, after_change, each_begun, each_ended, ended, parted, after_changes, united}
 use Rattle.sleep_wake.specs.SleepPhase.{all_put_to_rest, edges_of, picked_to_split, ready, sleep_phase, split_at, split_picked}
 use Rattle.sleep_wake.specs.Sleeping.{islands_woken, rested_at, rested_by, slept_at, slept_by, split_if_loose}
 use Rattle.sleep_wake.specs.Widened.{widened}
@@ -109,9 +109,9 @@ changed_long : {C : Type 0} (number : C → ℕ) (c : Change C) (s : Acting C) �
 changed_long number (Begin m) s = begun_long number m (movers_woken number m.movers s) ∙ both_long number m.movers.first m.movers.second s
 changed_long number (End m) s = ended_long number m (movers_woken number m.movers s) ∙ both_long number m.movers.first m.movers.second s
 
-pub turned_long : {C : Type 0} (number : C → ℕ) (changes : List (Change C)) (s : Acting C) → IsAsLong s (turned number changes s)
-turned_long number [] s = refl
-turned_long number (c ∷ changes) s = turned_long number changes (after_change number c s) ∙ changed_long number c s
+pub after_changes_long : {C : Type 0} (number : C → ℕ) (changes : List (Change C)) (s : Acting C) → IsAsLong s (after_changes number changes s)
+after_changes_long number [] s = refl
+after_changes_long number (c ∷ changes) s = after_changes_long number changes (after_change number c s) ∙ changed_long number c s
 
 rest_long : {C : Type 0} (number : C → ℕ) (name : ℕ) (s : Acting C) → IsAsLong s (put_to_rest number name s)
 unfolding put_to_rest rested
@@ -201,8 +201,8 @@ movers_same a b same m h = record {
   second = λ s e. let o = h.second s e in (o.0, same s ∙ o.1);
 }
 
-pub wide_settled : {C : Type 0} (number : C → ℕ) (slot : ℕ) (s : Acting C) → IsConsistent number s → IsConsistent number (widened slot s)
-wide_settled number slot s h =
+pub wide_consistent : {C : Type 0} (number : C → ℕ) (slot : ℕ) (s : Acting C) → IsConsistent number s → IsConsistent number (widened slot s)
+wide_consistent number slot s h =
     let same : AreSame (padded s.labels (slot + 1)) s.labels = λ k. wide_at s.labels (slot + 1) k in
     record {
       rising = h.rising;

@@ -2,7 +2,7 @@ pub mod ListLemmas
 pub mod AwakeLemmas
 pub mod KeptLemmas
 pub mod PhaseLemmas
-pub mod TurnLemmas
+pub mod ChangeLemmas
 pub mod BetweenLemmas
 pub mod SetLemmas
 pub mod LeastLemmas
@@ -21,5 +21,5 @@ pub mod NameLemmas
 pub mod IndexLemmas
 pub mod GivenLaws
 pub mod LengthLemmas
-pub mod TurnOwn
+pub mod ChangeOwn
 pub mod GatherLemmas

@@ -6,8 +6,9 @@ use Rattle.std.proofs.lemmas.Bool.{false≢true, eq-eqb}
 use Rattle.std.proofs.lemmas.List.Elements.{All-contains, Contains-get_or, Contains-append_left, Contains-append_right}
 use Rattle.std.proofs.lemmas.List.Sorted.{Contains-permutation, IsPermutation-sym}
 use Rattle.graph_colours.specs.declared.member.Member.{Member}
-use Rattle.graph_colours.specs.Members.{AreRising, has_id, inserted, without_member}
-use Rattle.graph_colours.specs.Colours.{all_members, colour_of, with_placed, released, IsColouring}
+use Rattle.graph_colours.specs.Members.{AreRising, inserted, without_member}
+use Rattle.graph_colours.specs.FoundMembers.{has_id, colour_of}
+use Rattle.graph_colours.specs.Colours.{all_members, with_placed, released, IsColouring}
 use Rattle.std.proofs.lemmas.List.Kept.{AllPairs-filter}
 use Rattle.std.proofs.lemmas.List.Folds.{list_any_none}
 use Rattle.graph_colours.proofs.SearchLemmas.{none_passing}

@@ -19,7 +19,7 @@ use Rattle.islands.proofs.SplitLemmas.{IsLabelled, splitting_keeps as splits_kee
 use Rattle.sleep_wake.specs.Acting.{Acting, AreMovers, IsConsistent, links_of, awake_label, is_mover_awake, are_awake}
 use Rattle.sleep_wake.specs.Waking.{released_all, put_to_rest}
 use Rattle.sleep_wake.specs.Bodies.{dropped, mover_gone, mover_made}
-use Rattle.sleep_wake.specs.SleepPhase.{split_at, edges_of, is_island, is_due, least_timer, ready_from, ready, longest_at_rest, longer_at_rest, is_less, picked_to_split, split_picked, all_put_to_rest, ready_put_to_rest}
+use Rattle.sleep_wake.specs.SleepPhase.{split_at, edges_of, is_island, is_time_to_sleep, least_timer, ready_from, ready, longest_at_rest, longer_at_rest, is_less, picked_to_split, split_picked, all_put_to_rest, ready_put_to_rest}
 use Rattle.sleep_wake.specs.Laws.{DroppingKeeps, GoingKeeps, MakingKeeps, SplittingKeeps, SleepPhaseKeeps, EmptyIsConsistent}
 use Rattle.sleep_wake.proofs.ListLemmas.{none_in, filter_in, in_filter, one_of, releases, Releases, rising_filter, link_in, in_links, links_more}
 use Rattle.sleep_wake.proofs.AwakeLemmas.{same_awake, awake_as}
@@ -254,8 +254,8 @@ ready_are : (loose : Bool) (labels : Labels) (timers : List ℕ) (slot : ℕ) (r
 ready_are loose labels timers slot [] at = tt
 ready_are loose labels timers slot (o ∷ rest) at =
     let here : label_at labels slot ≡ o = let same : slot + 0 ≡ slot = omega arith in ap (λ n. label_at labels n) (sym same) ∙ at 0 in
-    all_if (IsNamedIsland loose labels) (is_island loose slot o && is_due (least_timer slot labels timers)) slot (ready_from loose labels timers (suc slot) rest)
-    (λ h. ap (is_island loose slot) here ∙ (and_is (is_island loose slot o) (is_due (least_timer slot labels timers)) h).0)
+    all_if (IsNamedIsland loose labels) (is_island loose slot o && is_time_to_sleep (least_timer slot labels timers)) slot (ready_from loose labels timers (suc slot) rest)
+    (λ h. ap (is_island loose slot) here ∙ (and_is (is_island loose slot o) (is_time_to_sleep (least_timer slot labels timers)) h).0)
     (ready_are loose labels timers (suc slot) rest (λ k. let same : suc slot + k ≡ slot + suc k = omega arith in ap (λ n. label_at labels n) same ∙ at (suc k)))
 
 ready_all : (loose : Bool) (labels : Labels) (timers : List ℕ) → AreAll (IsNamedIsland loose labels) (ready loose labels timers)
@@ -328,20 +328,20 @@ rest_keeps number (n ∷ ns) s w h =
     rest_keeps number ns (put_to_rest number n s) (resting number s n h.0.0 w h.0.1 h.0.2 h.0.3)
     (all_on (MayRest s.labels) (MayRest (with_state n Asleep s.labels)) ns (λ m o. may_after s.labels n m o) h.1)
 
-pub ready_settled : {C : Type 0} (number : C → ℕ) (timers : List ℕ) (s : Acting C) → IsConsistent number s → IsConsistent number (ready_put_to_rest number timers s)
-ready_settled number timers s w =
+pub ready_consistent : {C : Type 0} (number : C → ℕ) (timers : List ℕ) (s : Acting C) → IsConsistent number s → IsConsistent number (ready_put_to_rest number timers s)
+ready_consistent number timers s w =
     rest_keeps number (ready false s.labels timers) s w
     (all_on (IsNamedIsland false s.labels) (MayRest s.labels) (ready false s.labels timers) (λ n h. let o = names s.labels n false h in (o.l, o.at, o.named, o.loosely)) (ready_all false s.labels timers))
 
 pub sleeping_keeps : {C : Type 0} (number : C → ℕ) → SleepPhaseKeeps number
 sleeping_keeps {C} number s timers w =
     let now : Acting C = split_picked (picked_to_split s.labels timers) s in
-    ready_settled number timers now (split_keeps number s (picked_to_split s.labels timers) w (λ n e. picked_is s.labels timers n e))
+    ready_consistent number timers now (split_keeps number s (picked_to_split s.labels timers) w (λ n e. picked_is s.labels timers n e))
 
 -- ---- nothing at all
 
-pub empty_settled : {C : Type 0} (number : C → ℕ) → EmptyIsConsistent number
-empty_settled {C} number lists w none = record {
+pub empty_consistent : {C : Type 0} (number : C → ℕ) → EmptyIsConsistent number
+empty_consistent {C} number lists w none = record {
   rising = pairs_none (λ a b. number a.id < number b.id);
   movers = λ m h. absurd (none_in m h);
   islands = record {

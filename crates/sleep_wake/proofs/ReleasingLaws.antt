@@ -5,14 +5,14 @@ use Rattle.std.specs.List.{list_any}
 use Rattle.std.proofs.lemmas.Bool.{false≢true, eqb-true, eq-eqb}
 use Rattle.std.proofs.lemmas.List.{append-nil, drop_all}
 use Rattle.graph_colours.specs.declared.member.Member.{Member}
-use Rattle.graph_colours.specs.Members.{has_id}
+use Rattle.graph_colours.specs.FoundMembers.{has_id}
 use Rattle.graph_colours.specs.Colours.{all_members}
 use Rattle.islands.proofs.JoinLemmas.{contains_cases, contains_head, contains_tail}
 use Rattle.sleep_wake.specs.Acting.{Acting, IsConsistent}
 use Rattle.sleep_wake.specs.Waking.{released_all}
 use Rattle.sleep_wake.specs.Rooms.{OwnMovers}
 use Rattle.sleep_wake.proofs.ListLemmas.{none_in, filter_in, in_filter, one_of, flat_in}
-use Rattle.sleep_wake.proofs.TurnOwn.{own_of}
+use Rattle.sleep_wake.proofs.ChangeOwn.{own_of}
 use Rattle.sleep_wake.proofs.RestingLaws.{Others, cleared_is}
 
 -- ---- which of two lists of constraints are taken out, where both have the same of those that are there

@@ -5,7 +5,8 @@ use Rattle.std.specs.List.{list_any}
 use Rattle.std.proofs.lemmas.Bool.{false≢true, eqb-true, eq-eqb}
 use Rattle.graph_colours.proofs.PlaceLemmas.{not_same}
 use Rattle.graph_colours.specs.declared.member.Member.{Member}
-use Rattle.graph_colours.specs.Members.{has_id, without_member}
+use Rattle.graph_colours.specs.Members.{without_member}
+use Rattle.graph_colours.specs.FoundMembers.{has_id}
 use Rattle.graph_colours.specs.Colours.{released}
 use Rattle.islands.specs.declared.label.Label.{Label}
 use Rattle.islands.specs.Labels.{Labels, label_at, is_in, is_loose, is_asleep, rested}
@@ -14,10 +15,10 @@ use Rattle.islands.proofs.LabelLemmas.{relabel_at, some_short}
 use Rattle.islands.specs.declared.label.IslandState.TheVariants.{Asleep}
 use Rattle.sleep_wake.specs.Acting.{Acting, acting}
 use Rattle.sleep_wake.specs.Waking.{second_in, has_mover_of, ties_of_mover, released_all, put_to_rest}
-use Rattle.sleep_wake.specs.SleepPhase.{is_due, all_put_to_rest, ready_put_to_rest}
-use Rattle.sleep_wake.specs.Resting.{least_at, AreLeast, is_due_island, due_from, due_names, rests_by, second_rests, is_to_rest, all_rested}
-use Rattle.sleep_wake.proofs.LeastLemmas.{timer_in, due_are}
-use Rattle.sleep_wake.proofs.AgreeLaws.{same_due, same_rests}
+use Rattle.sleep_wake.specs.SleepPhase.{is_time_to_sleep, all_put_to_rest, ready_put_to_rest}
+use Rattle.sleep_wake.specs.Resting.{least_at, AreLeast, is_ready_island, ready_after, ready_names, rests_by, second_rests, is_to_rest, all_rested}
+use Rattle.sleep_wake.proofs.LeastLemmas.{timer_in, ready_names_are}
+use Rattle.sleep_wake.proofs.AgreeLaws.{alike_ready, same_rests}
 use Rattle.sleep_wake.proofs.RestLemmas.{asleep_in, in_rested}
 
 -- ---- constraints taken out of the colours together
@@ -161,45 +162,45 @@ no_more : (x slot : ℕ) (names : List ℕ) (t : Bool) → (x == slot) ≡ false
 no_more x slot names true e = rw e refl
 no_more x slot names false e = refl
 
-below_none : (loose : Bool) (timer : ℕ → Option ℕ) (x slot : ℕ) (rest : Labels) → x < slot → list_any (λ n. x == n) (due_from loose timer slot rest) ≡ false
+below_none : (loose : Bool) (timer : ℕ → Option ℕ) (x slot : ℕ) (rest : Labels) → x < slot → list_any (λ n. x == n) (ready_after loose timer slot rest) ≡ false
 below_none loose timer x slot [] lt = refl
 below_none loose timer x slot (o ∷ rest) lt =
-    no_more x slot (due_from loose timer (suc slot) rest) (is_due_island loose timer slot o) (not_same x slot (λ e. omega (arith, e, lt)))
+    no_more x slot (ready_after loose timer (suc slot) rest) (is_ready_island loose timer slot o) (not_same x slot (λ e. omega (arith, e, lt)))
     ∙ below_none loose timer x (suc slot) rest (omega (arith, lt))
 
 here_first : (x slot : ℕ) (names : List ℕ) (t : Bool) → x ≡ slot → list_any (λ n. x == n) names ≡ false → list_any (λ n. x == n) (cond t (slot ∷ names) names) ≡ t
 here_first x slot names true e none = rw (eq-eqb x slot e) refl
 here_first x slot names false e none = none
 
-named_due : (loose : Bool) (timer : ℕ → Option ℕ) (x slot k : ℕ) (rest : Labels) → x ≡ slot + k → k < length rest → list_any (λ n. x == n) (due_from loose timer slot rest) ≡ is_due_island loose timer x (label_at rest k)
-named_due loose timer x slot k [] e lt = absurd (omega (arith, lt))
-named_due loose timer x slot zero (o ∷ rest) e lt =
+named_ready : (loose : Bool) (timer : ℕ → Option ℕ) (x slot k : ℕ) (rest : Labels) → x ≡ slot + k → k < length rest → list_any (λ n. x == n) (ready_after loose timer slot rest) ≡ is_ready_island loose timer x (label_at rest k)
+named_ready loose timer x slot k [] e lt = absurd (omega (arith, lt))
+named_ready loose timer x slot zero (o ∷ rest) e lt =
     let here : x ≡ slot = omega (arith, e) in
-    here_first x slot (due_from loose timer (suc slot) rest) (is_due_island loose timer slot o) here (below_none loose timer x (suc slot) rest (omega (arith, here)))
-    ∙ ap (λ (n : ℕ). is_due_island loose timer n o) (sym here)
-named_due loose timer x slot (suc k) (o ∷ rest) e lt =
+    here_first x slot (ready_after loose timer (suc slot) rest) (is_ready_island loose timer slot o) here (below_none loose timer x (suc slot) rest (omega (arith, here)))
+    ∙ ap (λ (n : ℕ). is_ready_island loose timer n o) (sym here)
+named_ready loose timer x slot (suc k) (o ∷ rest) e lt =
     let off : (x == slot) ≡ false = not_same x slot (λ q. omega (arith, q, e)) in
-    no_more x slot (due_from loose timer (suc slot) rest) (is_due_island loose timer slot o) off
-    ∙ named_due loose timer x (suc slot) k rest (omega (arith, e)) (omega (arith, lt))
+    no_more x slot (ready_after loose timer (suc slot) rest) (is_ready_island loose timer slot o) off
+    ∙ named_ready loose timer x (suc slot) k rest (omega (arith, e)) (omega (arith, lt))
 
 none_any : (names : List ℕ) → list_any (λ n. false) names ≡ false
 none_any [] = refl
 none_any (n ∷ names) = none_any names
 
-rests_label : (timer : ℕ → Option ℕ) (labels : Labels) (slot : ℕ) (o : Option Label) → label_at labels slot ≡ o → IsPartition labels → list_any (λ n. is_in o n) (due_names false timer labels) ≡ rests_by timer o
-rests_label timer labels slot None e p = none_any (due_names false timer labels)
+rests_label : (timer : ℕ → Option ℕ) (labels : Labels) (slot : ℕ) (o : Option Label) → label_at labels slot ≡ o → IsPartition labels → list_any (λ n. is_in o n) (ready_names false timer labels) ≡ rests_by timer o
+rests_label timer labels slot None e p = none_any (ready_names false timer labels)
 rests_label timer labels slot (Some l) e p =
     let home : label_at labels l.name ≡ Some l = p.named slot l e in
     let lt : l.name < length labels = some_short labels l.name l home in
-    named_due false timer l.name 0 l.name labels (omega arith) lt
-    ∙ ap (λ (o : Option Label). is_due_island false timer l.name o) home
-    ∙ ap (λ (t : Bool). (t && (not (is_loose l.state) && not (is_asleep l.state))) && is_due (timer l.name)) (eq-eqb l.name l.name refl)
+    named_ready false timer l.name 0 l.name labels (omega arith) lt
+    ∙ ap (λ (o : Option Label). is_ready_island false timer l.name o) home
+    ∙ ap (λ (t : Bool). (t && (not (is_loose l.state) && not (is_asleep l.state))) && is_time_to_sleep (timer l.name)) (eq-eqb l.name l.name refl)
 
-rests_slot : (timer : ℕ → Option ℕ) (labels : Labels) (slot : ℕ) → IsPartition labels → list_any (λ n. is_in (label_at labels slot) n) (due_names false timer labels) ≡ rests_by timer (label_at labels slot)
+rests_slot : (timer : ℕ → Option ℕ) (labels : Labels) (slot : ℕ) → IsPartition labels → list_any (λ n. is_in (label_at labels slot) n) (ready_names false timer labels) ≡ rests_by timer (label_at labels slot)
 rests_slot timer labels slot p = rests_label timer labels slot (label_at labels slot) refl p
 
-rests_second : (timer : ℕ → Option ℕ) (labels : Labels) (o : Option ℕ) → IsPartition labels → list_any (λ n. second_in labels n o) (due_names false timer labels) ≡ second_rests timer labels o
-rests_second timer labels None p = none_any (due_names false timer labels)
+rests_second : (timer : ℕ → Option ℕ) (labels : Labels) (o : Option ℕ) → IsPartition labels → list_any (λ n. second_in labels n o) (ready_names false timer labels) ≡ second_rests timer labels o
+rests_second timer labels None p = none_any (ready_names false timer labels)
 rests_second timer labels (Some slot) p = rests_slot timer labels slot p
 
 or_swap : (a b x y : Bool) → ((a || b) || (x || y)) ≡ ((a || x) || (b || y))
@@ -212,26 +213,26 @@ any_or : (f g : ℕ → Bool) (names : List ℕ) → list_any (λ n. f n || g n)
 any_or f g [] = refl
 any_or f g (n ∷ names) = ap (λ (v : Bool). (f n || g n) || v) (any_or f g names) ∙ or_swap (f n) (g n) (list_any f names) (list_any g names)
 
-pub rests_are : {C : Type 0} (timer : ℕ → Option ℕ) (labels : Labels) (m : Member C) → IsPartition labels → of_any labels (due_names false timer labels) m ≡ is_to_rest timer labels m
+pub rests_are : {C : Type 0} (timer : ℕ → Option ℕ) (labels : Labels) (m : Member C) → IsPartition labels → of_any labels (ready_names false timer labels) m ≡ is_to_rest timer labels m
 rests_are timer labels m p =
-    any_or (λ n. is_in (label_at labels m.movers.first) n) (λ n. second_in labels n m.movers.second) (due_names false timer labels)
+    any_or (λ n. is_in (label_at labels m.movers.first) n) (λ n. second_in labels n m.movers.second) (ready_names false timer labels)
     ∙ rw (rests_slot timer labels m.movers.first p, rests_second timer labels m.movers.second p) refl
 
 -- ---- all together
 
 pub rests_together : {C : Type 0} (number : C → ℕ) (timers : List ℕ) (leasts : List (Option ℕ)) (s : Acting C) (labels : Labels) (lists : List (List (Member C))) → IsPartition s.labels → AreLeast s.labels timers leasts
     → lists ≡ released_all number s.lists (filter (is_to_rest (least_at leasts) s.labels) s.ties)
-    → labels ≡ all_rested (due_names false (least_at leasts) s.labels) s.labels
+    → labels ≡ all_rested (ready_names false (least_at leasts) s.labels) s.labels
     → acting s.ties labels lists ≡ ready_put_to_rest number timers s
 rests_together {C} number timers leasts s labels lists p w is_lists is_labels =
     let timer : ℕ → Option ℕ = timer_in s.labels timers in
-    let names : List ℕ = due_names false timer s.labels in
+    let names : List ℕ = ready_names false timer s.labels in
     let test : of_any {C = C} s.labels names ≡ is_to_rest timer s.labels = λ i m. rests_are timer s.labels m p i in
     let told : is_to_rest {C = C} (least_at leasts) s.labels ≡ is_to_rest timer s.labels = same_rests s.labels (least_at leasts) timer w.each in
     let now : Acting C = all_put_to_rest number names s in
     let t : s.ties ≡ now.ties = sym (all_ties number names s) in
     let l : labels ≡ now.labels = is_labels
-    ∙ ap (λ (ns : List ℕ). all_rested ns s.labels) (same_due false s.labels (least_at leasts) timer w.each)
+    ∙ ap (λ (ns : List ℕ). all_rested ns s.labels) (alike_ready false s.labels (least_at leasts) timer w.each)
     ∙ sym (all_labels number names s) in
     let c : lists ≡ now.lists = is_lists
     ∙ ap (λ (q : Member C → Bool). released_all number s.lists (filter q s.ties)) told
@@ -239,4 +240,4 @@ rests_together {C} number timers leasts s labels lists p w is_lists is_labels =
     ∙ ap (λ (q : Member C → Bool). cleared number (filter q s.ties) s.lists) (sym test)
     ∙ sym (all_lists number names s) in
     let each : acting s.ties labels lists ≡ now = λ i. record { ties = t i; labels = l i; lists = c i } in
-    each ∙ ap (λ (ns : List ℕ). all_put_to_rest number ns s) (due_are false s.labels timers)
+    each ∙ ap (λ (ns : List ℕ). all_put_to_rest number ns s) (ready_names_are false s.labels timers)

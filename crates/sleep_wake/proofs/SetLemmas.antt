@@ -6,7 +6,8 @@ use Rattle.std.proofs.lemmas.List.{drop_more}
 use Rattle.std.specs.List.Sorted.{IsPermutation}
 use Rattle.std.proofs.lemmas.List.Sorted.{length_permutation}
 use Rattle.graph_colours.specs.declared.member.Member.{Member}
-use Rattle.graph_colours.specs.Colours.{all_members, colour_of, with_placed}
+use Rattle.graph_colours.specs.Colours.{all_members, with_placed}
+use Rattle.graph_colours.specs.FoundMembers.{colour_of}
 use Rattle.graph_colours.proofs.ListLemmas.{pairs_tail}
 use Rattle.graph_colours.proofs.ColouringLemmas.{placed_others}
 use Rattle.islands.specs.declared.label.Label.{Label}

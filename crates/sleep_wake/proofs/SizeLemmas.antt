@@ -9,6 +9,7 @@ use Rattle.graph_colours.specs.declared.member.Movers.{Movers}
 use Rattle.graph_colours.specs.declared.member.Member.{Member}
 use Rattle.graph_colours.specs.Movers.{has_mover}
 use Rattle.graph_colours.specs.Members.{inserted, without_member}
+use Rattle.graph_colours.specs.Colours.{with_placed, released}
 use Rattle.graph_colours.proofs.ListLemmas.{same_inserted}
 use Rattle.islands.specs.declared.label.IslandState.TheVariants.{Whole, Loose, Asleep}
 use Rattle.islands.specs.declared.label.Label.{Label}
@@ -143,6 +144,19 @@ ended_size number m s = parted_size m.movers.second m.movers.first s.labels
 pub ended_fewer : {C : Type 0} (number : C → ℕ) (m : Member C) (s : Acting C) → length (ended number m s).ties ≤ length s.ties
 unfolding ended
 ended_fewer number m s = without_fewer number m.id s.ties
+
+pub begun_is : {C : Type 0} (number : C → ℕ) (m : Member C) (s : Acting C) (ties : List (Member C)) (labels : Labels) (lists : List (List (Member C))) → ties ≡ inserted number m s.ties → labels ≡ united m.movers.second m.movers.first s.labels → lists ≡ with_placed number m s.lists → acting ties labels lists ≡ begun number m s
+unfolding begun
+begun_is number m s ties labels lists more together placed = λ i. record { ties = more i; labels = together i; lists = placed i }
+
+pub ended_is : {C : Type 0} (number : C → ℕ) (m : Member C) (s : Acting C) (ties : List (Member C)) (labels : Labels) (lists : List (List (Member C))) → ties ≡ without_member number m.id s.ties → labels ≡ parted m.movers.second m.movers.first s.labels → lists ≡ released number m.id s.lists → acting ties labels lists ≡ ended number m s
+unfolding ended
+ended_is number m s ties labels lists fewer apart out = λ i. record { ties = fewer i; labels = apart i; lists = out i }
+
+-- the island of the mover whose slot names it
+pub woken_is : {C : Type 0} (number : C → ℕ) (l : Label) (s : Acting C) → label_at s.labels l.name ≡ Some l → is_asleep l.state ≡ true → woken_at number l.name s ≡ set_woken number l.name s
+unfolding woken_at
+woken_is {C} number l s here down = ap (λ (o : Option Label). woken_by number o s) here ∙ ap (λ (t : Bool). cond t (set_woken number l.name s) s) down
 
 pub made_is : {C : Type 0} (slot : ℕ) (s : Acting C) (labels : Labels) → labels ≡ added s.labels slot → acting s.ties labels s.lists ≡ mover_made slot s
 unfolding mover_made

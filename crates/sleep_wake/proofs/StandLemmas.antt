@@ -25,8 +25,8 @@ pub record SameRoom (coloured after : ℕ) (c d : Capacity) : Type 0 where
   pub leasts : c.leasts ≤ d.leasts
 
 pub stands : {C : Type 0} (number : C → ℕ) (s new : Acting C) (room slots : ℕ) (c d : Capacity) → IsStanding number s room slots c → IsConsistent number new → length new.ties ≤ room → length new.labels ≤ slots → SameRoom (length (all_members s.lists)) (length (all_members new.lists)) c d → IsStanding number new room slots d
-stands number s new room slots c d w settled enough few r = record {
-  settled = settled;
+stands number s new room slots c d w consistent enough few r = record {
+  consistent = consistent;
   enough = enough;
   few = few;
   rooms = record {
@@ -45,9 +45,9 @@ stands number s new room slots c d w settled enough few r = record {
 
 -- the same where the constraints and the number of labels stay
 pub stands_on : {C : Type 0} (number : C → ℕ) (s new : Acting C) (room slots : ℕ) (c d : Capacity) → IsStanding number s room slots c → IsConsistent number new → new.ties ≡ s.ties → length new.labels ≡ length s.labels → SameRoom (length (all_members s.lists)) (length (all_members new.lists)) c d → IsStanding number new room slots d
-stands_on {C} number s new room slots c d w settled ties few r =
+stands_on {C} number s new room slots c d w consistent ties few r =
     let n : length new.ties ≡ length s.ties = ap (λ (l : List (Member C)). length l) ties in
-    stands number s new room slots c d w settled (omega (arith, n, w.enough)) (omega (arith, few, w.few)) r
+    stands number s new room slots c d w consistent (omega (arith, n, w.enough)) (omega (arith, few, w.few)) r
 
 -- movers with labels are below the bound
 second_below : (labels : Labels) (slots : ℕ) (o : Option ℕ) → length labels ≤ slots → ((slot : ℕ) → o ≡ Some slot → slot < length labels) → IfSome o (λ slot. slot < slots)

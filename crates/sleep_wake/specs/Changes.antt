@@ -47,9 +47,9 @@ after_change number (Begin m) s = begun number m (movers_woken number m.movers s
 after_change number (End m) s = ended number m (movers_woken number m.movers s)
 
 -- the changes one after the other
-abbrev pub turned : {C : Type 0} → (C → ℕ) → List (Change C) → Acting C → Acting C
-turned number [] s = s
-turned number (c ∷ changes) s = turned number changes (after_change number c s)
+abbrev pub after_changes : {C : Type 0} → (C → ℕ) → List (Change C) → Acting C → Acting C
+after_changes number [] s = s
+after_changes number (c ∷ changes) s = after_changes number changes (after_change number c s)
 
 -- ---- changes in a list that ascends by number
 

@@ -6,7 +6,7 @@ use Rattle.islands.specs.declared.label.IslandState.TheVariants.{Loose, Asleep}
 use Rattle.islands.specs.declared.label.Label.{Label}
 use Rattle.sleep_wake.specs.Acting.{Acting}
 use Rattle.sleep_wake.specs.declared.change.Change.TheVariants.{End}
-use Rattle.sleep_wake.specs.Changes.{turned}
+use Rattle.sleep_wake.specs.Changes.{after_changes}
 use Rattle.sleep_wake.specs.SleepPhase.{sleep_phase}
 
 -- a constraint between the movers in two slots
@@ -33,7 +33,7 @@ three_loose = record { ties = between 5 0 2 ∷ []; labels = label_of 0 Loose �
 
 -- the constraint of two sleepers ends: both wake, in one loose island
 abbrev pub EndWakes : Type 0
-EndWakes = turned own_number (End (between 5 0 1) ∷ []) two_asleep ≡ record { ties = []; labels = label_of 0 Loose ∷ label_of 0 Loose ∷ []; lists = colourless }
+EndWakes = after_changes own_number (End (between 5 0 1) ∷ []) two_asleep ≡ record { ties = []; labels = label_of 0 Loose ∷ label_of 0 Loose ∷ []; lists = colourless }
 
 -- a loose island comes apart, and both parts fall asleep in the same phase
 abbrev pub SplitFallsAsleep : Type 0

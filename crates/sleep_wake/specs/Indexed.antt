@@ -40,8 +40,8 @@ is_other movers slot = not (movers.first == slot) && is_slot movers.second slot
 
 -- what is kept beside each other: the constraints ascend, where the lists hold they have those of each mover, and where they don't, or it says so, no
 -- edit of the constraints is put off
-pub record IsIndexed {C : Type 0} (number : C → ℕ) (ties : List (Member C)) (pending : ℕ) (settled holds : Bool) (lists : List (List (Member C))) : Type 0 where
+pub record IsIndexed {C : Type 0} (number : C → ℕ) (ties : List (Member C)) (pending : ℕ) (flushed holds : Bool) (lists : List (List (Member C))) : Type 0 where
   pub rising : AreRising number ties
   pub by_mover : holds ≡ true → AreByMover ties lists
-  pub rest : settled ≡ true → pending ≡ 0
+  pub rest : flushed ≡ true → pending ≡ 0
   pub lapsed : holds ≡ false → pending ≡ 0

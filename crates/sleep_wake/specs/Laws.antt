@@ -1,7 +1,8 @@
--- What keeps a world settled, and what being settled means.
+-- What keeps a world consistent, and what being consistent means.
 use Rattle.std.specs.Prelude.{◌≡◌, ℕ, ◌==◌, ◌||◌, ◌&&◌, not, is_some, ◌↔◌, ◌⊎◌, Bool, true, false, List, [], Some, None, Contains}
 use Rattle.graph_colours.specs.declared.member.Member.{Member}
-use Rattle.graph_colours.specs.Members.{AreRising, has_id}
+use Rattle.graph_colours.specs.Members.{AreRising}
+use Rattle.graph_colours.specs.FoundMembers.{has_id}
 use Rattle.graph_colours.specs.Colours.{all_members, IsColouring}
 use Rattle.islands.specs.declared.label.Label.{Label}
 use Rattle.islands.specs.Links.{Linked, Joined}
@@ -10,13 +11,13 @@ use Rattle.sleep_wake.specs.Acting.{Acting, AreMovers, IsConsistent, links_of, i
 use Rattle.sleep_wake.specs.Waking.{woken_at, put_to_rest}
 use Rattle.sleep_wake.specs.declared.change.Change.{Change}
 use Rattle.sleep_wake.specs.declared.change.Change.TheVariants.{Begin, End}
-use Rattle.sleep_wake.specs.Changes.{each_begun, each_ended, ended, begun, turned}
+use Rattle.sleep_wake.specs.Changes.{each_begun, each_ended, ended, begun, after_changes}
 use Rattle.sleep_wake.specs.ChangeLists.{CanBegin, CanEnd, AreChanges, AreChangesOf, changes_between}
 use Rattle.sleep_wake.specs.Bodies.{dropped, mover_gone, mover_made}
 use Rattle.sleep_wake.specs.Sleeping.{sleeping_names, islands_woken, slept_at}
 use Rattle.sleep_wake.specs.SleepPhase.{split_at, sleep_phase}
 
--- ---- what being settled means
+-- ---- what being consistent means
 
 -- The island of a sleeping mover isn't loose, and its members are all that are joined to the mover.
 abbrev pub SleepersAreOneComponent : {C : Type 0} → (C → ℕ) → Type 0
@@ -45,8 +46,8 @@ EndingKeeps {C} number = (s : Acting C) (m : Member C) → IsConsistent number s
 abbrev pub BeginningKeeps : {C : Type 0} → (C → ℕ) → Type 0
 BeginningKeeps {C} number = (s : Acting C) (m : Member C) → IsConsistent number s → has_id number m.id s.ties ≡ false → are_awake s.labels m.movers ≡ true → IsConsistent number (begun number m s)
 
-abbrev pub TurningKeeps : {C : Type 0} → (C → ℕ) → Type 0
-TurningKeeps {C} number = (s : Acting C) (changes : List (Change C)) → IsConsistent number s → AreChanges number s.labels s.ties changes → IsConsistent number (turned number changes s)
+abbrev pub ChangingKeeps : {C : Type 0} → (C → ℕ) → Type 0
+ChangingKeeps {C} number = (s : Acting C) (changes : List (Change C)) → IsConsistent number s → AreChanges number s.labels s.ties changes → IsConsistent number (after_changes number changes s)
 
 -- ---- which constraints there are after changes
 
@@ -57,18 +58,18 @@ ChangesFold {C} number = (labels : Labels) (ties : List (Member C)) (changes : L
 -- those that were there and don't end, and those that begin, whoever wakes
 abbrev pub TiesAfter : {C : Type 0} → (C → ℕ) → Type 0
 TiesAfter {C} number = (s : Acting C) (labels : Labels) (changes : List (Change C)) (x : Member C) → AreRising number s.ties → AreChangesOf number labels s.ties changes
-    → Contains (turned number changes s).ties x ↔ ((Contains s.ties x × (Contains changes (End x) → ⊥)) ⊎ Contains changes (Begin x))
+    → Contains (after_changes number changes s).ties x ↔ ((Contains s.ties x × (Contains changes (End x) → ⊥)) ⊎ Contains changes (Begin x))
 
 -- constraints that ascend are one list if they are the same
 abbrev pub OneOrder : {C : Type 0} → (C → ℕ) → Type 0
 OneOrder {C} number = (old new : List (Member C)) → AreRising number old → AreRising number new → ((x : Member C) → Contains old x ↔ Contains new x) → old ≡ new
 
 -- the changes between the constraints and others lead to those: each that stays has the movers it had, and all have movers
-abbrev pub TurnsInto : {C : Type 0} → (C → ℕ) → Type 0
-TurnsInto {C} number = (s : Acting C) (new : List (Member C)) → IsConsistent number s → AreRising number new
+abbrev pub ChangesLeadTo : {C : Type 0} → (C → ℕ) → Type 0
+ChangesLeadTo {C} number = (s : Acting C) (new : List (Member C)) → IsConsistent number s → AreRising number new
     → ((x y : Member C) → Contains s.ties x → Contains new y → number x.id ≡ number y.id → x ≡ y)
     → ((m : Member C) → Contains new m → AreMovers s.labels m.movers)
-    → IsConsistent number (turned number (changes_between number s.ties new) s) × ((turned number (changes_between number s.ties new) s).ties ≡ new)
+    → IsConsistent number (after_changes number (changes_between number s.ties new) s) × ((after_changes number (changes_between number s.ties new) s).ties ≡ new)
 
 -- ---- bodies
 
@@ -84,7 +85,7 @@ GoingKeeps {C} number = (s : Acting C) (slot : ℕ) → IsConsistent number s �
 abbrev pub MakingKeeps : {C : Type 0} → (C → ℕ) → Type 0
 MakingKeeps {C} number = (s : Acting C) (slot : ℕ) → IsConsistent number s → label_at s.labels slot ≡ None → IsConsistent number (mover_made slot s)
 
--- nothing at all is settled
+-- nothing at all is consistent
 abbrev pub EmptyIsConsistent : {C : Type 0} → (C → ℕ) → Type 0
 EmptyIsConsistent {C} number = (lists : List (List (Member C))) → IsColouring number lists → all_members lists ≡ [] → let empty : Acting C = record { ties = []; labels = []; lists = lists } in IsConsistent number empty
 
@@ -124,7 +125,7 @@ pub record MoversStay {C : Type 0} (number : C → ℕ) : Type 0 where
   pub waking : (s : Acting C) (names : List ℕ) → HaveSameMovers s (islands_woken number names s)
   pub begun : (s : Acting C) (ms : List (Member C)) → HaveSameMovers s (each_begun number ms s)
   pub ended : (s : Acting C) (ms : List (Member C)) → HaveSameMovers s (each_ended number ms s)
-  pub turned : (s : Acting C) (changes : List (Change C)) → HaveSameMovers s (turned number changes s)
+  pub after_changes : (s : Acting C) (changes : List (Change C)) → HaveSameMovers s (after_changes number changes s)
   pub slept : (s : Acting C) (slot : ℕ) → IsConsistent number s → HaveSameMovers s (slept_at number slot s)
   pub phase : (s : Acting C) (timers : List ℕ) → IsConsistent number s → HaveSameMovers s (sleep_phase number timers s)
 
@@ -144,7 +145,7 @@ pub record AwakeStayAwake {C : Type 0} (number : C → ℕ) : Type 0 where
   pub waking : (s : Acting C) (names : List ℕ) → IsConsistent number s → NobodyFallsAsleep s (islands_woken number names s)
   pub begun : (s : Acting C) (ms : List (Member C)) → IsConsistent number s → CanBegin number ms s → NobodyFallsAsleep s (each_begun number ms s)
   pub ended : (s : Acting C) (ms : List (Member C)) → IsConsistent number s → CanEnd number ms s → NobodyFallsAsleep s (each_ended number ms s)
-  pub turned : (s : Acting C) (changes : List (Change C)) → IsConsistent number s → AreChanges number s.labels s.ties changes → NobodyFallsAsleep s (turned number changes s)
+  pub after_changes : (s : Acting C) (changes : List (Change C)) → IsConsistent number s → AreChanges number s.labels s.ties changes → NobodyFallsAsleep s (after_changes number changes s)
 
 -- The label of an awake mover stays as it is where others wake.
 abbrev pub WakingLeavesTheAwake : {C : Type 0} → (C → ℕ) → Type 0

@@ -5,7 +5,7 @@ use Rattle.graph_colours.specs.declared.member.Movers.{Movers}
 use Rattle.graph_colours.specs.declared.member.Member.{Member}
 use Rattle.islands.specs.declared.label.Label.{Label}
 use Rattle.islands.specs.Labels.{Labels, label_at, is_loose, is_asleep, rested}
-use Rattle.sleep_wake.specs.SleepPhase.{lesser, least_timer, is_due, is_island, longer_at_rest, longest_at_rest, ticks_to_sleep}
+use Rattle.sleep_wake.specs.SleepPhase.{lesser, least_timer, is_time_to_sleep, is_island, longer_at_rest, longest_at_rest, ticks_to_sleep}
 
 -- ---- the least timer of each island
 
@@ -34,31 +34,31 @@ pub record AreLeast (labels : Labels) (timers : List ℕ) (leasts : List (Option
 -- ---- which islands are ready, where `timer` has the least timer of each
 
 -- a mover with this timer, if it has one, doesn't keep its island from being due
-abbrev pub may_be_due : Option ℕ → Bool
-may_be_due None = true
-may_be_due (Some t) = nat_le ticks_to_sleep t
+abbrev pub may_be_ready : Option ℕ → Bool
+may_be_ready None = true
+may_be_ready (Some t) = nat_le ticks_to_sleep t
 
-abbrev pub is_due_island : Bool → (ℕ → Option ℕ) → ℕ → Option Label → Bool
-is_due_island loose timer slot o = is_island loose slot o && is_due (timer slot)
+abbrev pub is_ready_island : Bool → (ℕ → Option ℕ) → ℕ → Option Label → Bool
+is_ready_island loose timer slot o = is_island loose slot o && is_time_to_sleep (timer slot)
 
 -- where the list begins with this slot
-abbrev pub due_from : Bool → (ℕ → Option ℕ) → ℕ → Labels → List ℕ
-due_from loose timer slot [] = []
-due_from loose timer slot (o ∷ rest) = cond (is_due_island loose timer slot o) (slot ∷ due_from loose timer (suc slot) rest) (due_from loose timer (suc slot) rest)
+abbrev pub ready_after : Bool → (ℕ → Option ℕ) → ℕ → Labels → List ℕ
+ready_after loose timer slot [] = []
+ready_after loose timer slot (o ∷ rest) = cond (is_ready_island loose timer slot o) (slot ∷ ready_after loose timer (suc slot) rest) (ready_after loose timer (suc slot) rest)
 
 -- the names of the loose islands that are ready, or of the whole ones, ascending
-abbrev pub due_names : Bool → (ℕ → Option ℕ) → Labels → List ℕ
-due_names loose timer labels = due_from loose timer 0 labels
+abbrev pub ready_names : Bool → (ℕ → Option ℕ) → Labels → List ℕ
+ready_names loose timer labels = ready_after loose timer 0 labels
 
 -- ---- the island to split
 
 -- the best so far, once the label in a slot was looked at too
 abbrev pub weighed_by : (ℕ → Option ℕ) → Option ℕ → ℕ → Option Label → Option ℕ
-weighed_by timer best slot o = cond (is_due_island true timer slot o) (longer_at_rest timer best slot) best
+weighed_by timer best slot o = cond (is_ready_island true timer slot o) (longer_at_rest timer best slot) best
 
 -- of the loose islands that are ready, the one with the greatest least timer, the lowest of those
-abbrev pub longest_due : (ℕ → Option ℕ) → Labels → Option ℕ
-longest_due timer labels = longest_at_rest timer None (due_names true timer labels)
+abbrev pub longest_ready : (ℕ → Option ℕ) → Labels → Option ℕ
+longest_ready timer labels = longest_at_rest timer None (ready_names true timer labels)
 
 -- ---- what falls asleep
 
@@ -70,7 +70,7 @@ is_whole (Some l) = not (is_loose l.state) && not (is_asleep l.state)
 -- a mover with this label is in a whole island that is awake and ready
 abbrev pub rests_by : (ℕ → Option ℕ) → Option Label → Bool
 rests_by timer None = false
-rests_by timer (Some l) = (not (is_loose l.state) && not (is_asleep l.state)) && is_due (timer l.name)
+rests_by timer (Some l) = (not (is_loose l.state) && not (is_asleep l.state)) && is_time_to_sleep (timer l.name)
 
 abbrev pub second_rests : (ℕ → Option ℕ) → Labels → Option ℕ → Bool
 second_rests timer labels None = false

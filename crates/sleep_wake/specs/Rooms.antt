@@ -3,7 +3,8 @@ use Rattle.std.specs.Prelude.{◌≡◌, ℕ, Some, ◌≤◌, List, length, Non
 use Rattle.graph_colours.specs.declared.member.Member.{Member}
 use Rattle.graph_colours.specs.Movers.{AreBelow}
 use Rattle.graph_colours.specs.Members.{AreRising}
-use Rattle.graph_colours.specs.Colours.{all_members, colour_of}
+use Rattle.graph_colours.specs.Colours.{all_members}
+use Rattle.graph_colours.specs.FoundMembers.{colour_of}
 use Rattle.graph_colours.specs.Own.{AreOwn}
 
 -- none has a colour yet, and there is room for all

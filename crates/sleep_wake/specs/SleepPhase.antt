@@ -36,9 +36,9 @@ least_timer name [] timers = None
 least_timer name (o ∷ labels) [] = None
 least_timer name (o ∷ labels) (t ∷ timers) = cond (is_in o name) (Some (lesser t (least_timer name labels timers))) (least_timer name labels timers)
 
-abbrev pub is_due : Option ℕ → Bool
-is_due None = false
-is_due (Some t) = nat_le ticks_to_sleep t
+abbrev pub is_time_to_sleep : Option ℕ → Bool
+is_time_to_sleep None = false
+is_time_to_sleep (Some t) = nat_le ticks_to_sleep t
 
 -- the label is that of an awake island of this name, a loose one or a whole one
 abbrev pub is_island : Bool → ℕ → Option Label → Bool
@@ -48,7 +48,7 @@ is_island false name (Some l) = (l.name == name) && (not (is_loose l.state) && n
 
 -- it is, and its movers have been slow for long enough
 abbrev pub is_ready : Bool → Labels → List ℕ → ℕ → Option Label → Bool
-is_ready loose labels timers name o = is_island loose name o && is_due (least_timer name labels timers)
+is_ready loose labels timers name o = is_island loose name o && is_time_to_sleep (least_timer name labels timers)
 
 -- where the list begins with this slot
 abbrev pub ready_from : Bool → Labels → List ℕ → ℕ → Labels → List ℕ

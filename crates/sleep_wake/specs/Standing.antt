@@ -37,9 +37,9 @@ pub record HasRoomFor (coloured room slots : ℕ) (c : Capacity) : Type 0 where
   pub gathering_slots : slots ≤ c.gathering_slots
   pub leasts : slots ≤ c.leasts
 
--- the sets are settled, no more constraints and slots are there than there is room for, and the parts have that room
+-- the sets are consistent, no more constraints and slots are there than there is room for, and the parts have that room
 pub record IsStanding {C : Type 0} (number : C → ℕ) (s : Acting C) (room slots : ℕ) (c : Capacity) : Type 0 where
-  pub settled : IsConsistent number s
+  pub consistent : IsConsistent number s
   pub enough : length s.ties ≤ room
   pub few : length s.labels ≤ slots
   pub rooms : HasRoomFor (length (all_members s.lists)) room slots c

@@ -6,7 +6,8 @@ ghost use Rattle.graph_colours.specs.declared.member.Movers.{Movers as TheMovers
 ghost use Rattle.graph_colours.specs.Given.{members_of};
 ghost use Rattle.graph_colours.specs.Movers.{is_slot, has_mover};
 ghost use Rattle.graph_colours.specs.Colours.{list_at};
-ghost use Rattle.graph_colours.specs.Members.{AreRising, inserted, without_member, movers_of};
+ghost use Rattle.graph_colours.specs.Members.{AreRising, inserted, without_member};
+ghost use Rattle.graph_colours.specs.FoundMembers.{movers_of};
 ghost use Rattle.sleep_wake.specs.Indexed.{ties_of, AreByMover, AreAllRising, AreChangedWhere, AreAlike, IsAdded, IsTakenOut, is_other};
 
 use fixed_geom::Refusal;

@@ -1,6 +1,6 @@
-//! What keeps a world settled, and what being settled means. Each function does nothing; its contract is a law.
+//! What keeps a world consistent, and what being consistent means. Each function does nothing; its contract is a law.
 
-ghost use Rattle.sleep_wake.specs.Laws.{SleepersAreOneComponent, LinkedStandTogether, WakingKeeps, RestingKeeps, EndingKeeps, BeginningKeeps, TurningKeeps, ChangesFold, TiesAfter, OneOrder, TurnsInto, DroppingKeeps, GoingKeeps, MakingKeeps, EmptyIsConsistent, SplittingKeeps, SleepPhaseKeeps, WakingNamedKeeps, BeginningEachKeeps, EndingEachKeeps, SleepKeeps, MoversStay, MoversComeAndGo, AwakeStayAwake, WakingLeavesTheAwake, TheNamedAreAwake, TheAwakeAct};
+ghost use Rattle.sleep_wake.specs.Laws.{SleepersAreOneComponent, LinkedStandTogether, WakingKeeps, RestingKeeps, EndingKeeps, BeginningKeeps, ChangingKeeps, ChangesFold, TiesAfter, OneOrder, ChangesLeadTo, DroppingKeeps, GoingKeeps, MakingKeeps, EmptyIsConsistent, SplittingKeeps, SleepPhaseKeeps, WakingNamedKeeps, BeginningEachKeeps, EndingEachKeeps, SleepKeeps, MoversStay, MoversComeAndGo, AwakeStayAwake, WakingLeavesTheAwake, TheNamedAreAwake, TheAwakeAct};
 
 use graph_colours::Id;
 
@@ -39,8 +39,8 @@ pub fn beginning_keeps<C: Id>()
 {}
 
 /// Constraints may begin and end one after the other, whoever sleeps: each wakes its movers at its turn.
-pub fn turning_keeps<C: Id>()
-    ensures { TurningKeeps C.number }
+pub fn changing_keeps<C: Id>()
+    ensures { ChangingKeeps C.number }
 {}
 
 /// Changes of constraints that are all different may come in any order.
@@ -60,9 +60,9 @@ pub fn one_order<C: Id>()
 {}
 
 /// From the constraints of one tick to those of the next: what begins and ends between the two lists, one after the
-/// other, leads from the first list to the second and keeps the world settled.
-pub fn turns_into_the_new_constraints<C: Id>()
-    ensures { TurnsInto C.number }
+/// other, leads from the first list to the second and keeps the world consistent.
+pub fn changes_lead_to_the_new_constraints<C: Id>()
+    ensures { ChangesLeadTo C.number }
 {}
 
 /// A body that is no mover may go with its constraints of one mover.
@@ -80,7 +80,7 @@ pub fn making_keeps<C: Id>()
     ensures { MakingKeeps C.number }
 {}
 
-/// A world with no movers and no constraints is settled.
+/// A world with no movers and no constraints is consistent.
 pub fn empty_is_consistent<C: Id>()
     ensures { EmptyIsConsistent C.number }
 {}

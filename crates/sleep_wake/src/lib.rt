@@ -12,10 +12,9 @@
 
 mod by_mover;
 mod change;
-mod changing;
 pub mod examples;
 mod gathering;
-mod growing;
+mod graph;
 pub mod laws;
 mod listing;
 mod names;
@@ -25,6 +24,7 @@ mod sets;
 mod splits;
 mod ties;
 mod wake_and_sleep;
+mod work;
 
 pub use change::Change;
 pub use names::{push_some, sort_once};

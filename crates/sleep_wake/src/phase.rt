@@ -3,9 +3,9 @@
 ghost use Rattle.std.specs.Prelude.{◌≡◌, ℕ, ◌≤◌, ◌<◌, ◌&&◌, true, false, cond, length, slice_set, vec_capacity, None, Some, Contains};
 ghost use Rattle.islands.specs.Labels.{label_at};
 ghost use Rattle.islands.specs.Partition.{IsPartition};
-ghost use Rattle.sleep_wake.specs.SleepPhase.{lesser, is_due, is_island, is_less, longer_at_rest, picked_to_split};
+ghost use Rattle.sleep_wake.specs.SleepPhase.{lesser, is_time_to_sleep, is_island, is_less, longer_at_rest, picked_to_split};
 ghost use Rattle.sleep_wake.specs.AwakeSlots.{AreAwakeSlots};
-ghost use Rattle.sleep_wake.specs.Resting.{AreLeast, least_at, lowered, forgotten, noted, is_due_island, weighed_by, longest_due, rests_by, second_rests, movers_rest, due_names, all_rested};
+ghost use Rattle.sleep_wake.specs.Resting.{AreLeast, least_at, lowered, forgotten, noted, is_ready_island, weighed_by, longest_ready, rests_by, second_rests, movers_rest, ready_names, all_rested};
 
 use graph_colours::Movers;
 use islands::Islands;
@@ -124,8 +124,8 @@ fn is_loose_island(islands: &Islands, slot: u32) -> bool
     }
 }
 
-fn is_due(timer: Option<u64>) -> bool
-    ensures { result ≡ is_due timer }
+fn is_time_to_sleep(timer: Option<u64>) -> bool
+    ensures { result ≡ is_time_to_sleep timer }
 {
     match timer {
         None => false,
@@ -135,16 +135,16 @@ fn is_due(timer: Option<u64>) -> bool
 
 /// Whether the slot names a whole island that is awake and has been slow for long enough.
 fn is_ready(islands: &Islands, leasts: &[Option<u64>], slot: u32) -> bool
-    ensures { result ≡ is_due_island false (least_at leasts.now) slot (label_at islands.now.labels slot) }
+    ensures { result ≡ is_ready_island false (least_at leasts.now) slot (label_at islands.now.labels slot) }
 {
-    is_whole_island(islands, slot) && is_due(least_at(leasts, slot))
+    is_whole_island(islands, slot) && is_time_to_sleep(least_at(leasts, slot))
 }
 
 /// Whether the slot names a loose island that has been slow for long enough.
 fn is_ready_to_split(islands: &Islands, leasts: &[Option<u64>], slot: u32) -> bool
-    ensures { result ≡ is_due_island true (least_at leasts.now) slot (label_at islands.now.labels slot) }
+    ensures { result ≡ is_ready_island true (least_at leasts.now) slot (label_at islands.now.labels slot) }
 {
-    is_loose_island(islands, slot) && is_due(least_at(leasts, slot))
+    is_loose_island(islands, slot) && is_time_to_sleep(least_at(leasts, slot))
 }
 
 // ---- the island to split
@@ -185,9 +185,9 @@ fn weighed(islands: &Islands, leasts: &[Option<u64>], best: Option<u32>, slot: u
 
 /// The loose island that a sleep phase splits: of those that are ready the one with the greatest least
 /// timer, and of these the lowest. `None` where none is ready.
-fn longest_due(islands: &Islands, leasts: &[Option<u64>], awake: &[u32]) -> Option<u32>
+fn longest_ready(islands: &Islands, leasts: &[Option<u64>], awake: &[u32]) -> Option<u32>
     requires { AreAwakeSlots islands.now.labels awake.now }
-    ensures { result ≡ longest_due (least_at leasts.now) islands.now.labels }
+    ensures { result ≡ longest_ready (least_at leasts.now) islands.now.labels }
 {
     let mut best = None;
     for place in 0..awake.len() {
@@ -211,7 +211,7 @@ pub(crate) fn pick_split(
     ensures capacity { vec_capacity leasts.old ≤ vec_capacity leasts.new }
 {
     list_leasts(leasts, islands, timers, awake);
-    longest_due(islands, leasts, awake)
+    longest_ready(islands, leasts, awake)
 }
 
 // ---- the islands that fall asleep
@@ -225,7 +225,7 @@ fn is_resting(islands: &Islands, leasts: &[Option<u64>], slot: u32) -> bool
         Some(label) => {
             !label.state.is_loose()
                 && !label.state.is_asleep()
-                && is_due(least_at(leasts, label.name))
+                && is_time_to_sleep(least_at(leasts, label.name))
         }
     }
 }
@@ -249,7 +249,7 @@ pub(crate) fn are_resting(islands: &Islands, leasts: &[Option<u64>], movers: Mov
 /// Puts each whole island that is ready to rest.
 pub(crate) fn rest_each(islands: &mut Islands, leasts: &[Option<u64>], awake: &[u32])
     requires awake { AreAwakeSlots islands.old.labels awake.now }
-    ensures labels { islands.new.labels ≡ all_rested (due_names false (least_at leasts.now) islands.old.labels) islands.old.labels }
+    ensures labels { islands.new.labels ≡ all_rested (ready_names false (least_at leasts.now) islands.old.labels) islands.old.labels }
     ensures room { islands.new.room ≡ islands.old.room }
 {
     for place in 0..awake.len() {

@@ -1,16 +1,15 @@
 //! The whole islands that are ready fall asleep together, and their constraints give up their colours.
 
-ghost use Rattle.std.specs.Prelude.{◌≡◌, ◌≤◌, ◌+◌, ◌++◌, ◌∷◌, [], true, length, filter, vec_capacity};
+ghost use Rattle.std.specs.Prelude.{◌≡◌, ◌≤◌, ◌+◌, ◌++◌, ◌∷◌, [], true, length, filter};
 ghost use Rattle.graph_colours.specs.Colours.{all_members};
 ghost use Rattle.sleep_wake.specs.Acting.{acting, IsConsistent};
 ghost use Rattle.sleep_wake.specs.Waking.{released_all};
-ghost use Rattle.sleep_wake.specs.SleepPhase.{ready_put_to_rest};
-ghost use Rattle.sleep_wake.specs.AwakeSlots.{AreAwakeSlots};
 ghost use Rattle.sleep_wake.specs.Resting.{least_at, is_to_rest};
 ghost use Rattle.sleep_wake.specs.Rooms.{OwnMovers};
 
-use crate::phase::{are_resting, list_leasts, rest_each};
+use crate::phase::are_resting;
 use crate::ties::Ties;
+use crate::wake_and_sleep::release_each;
 use graph_colours::{Colours, Id, Member, OVERFLOW};
 use islands::Islands;
 
@@ -65,19 +64,6 @@ fn list_resting<C: Id>(
     true
 }
 
-/// Takes the colours of these constraints.
-fn release_each<C: Id>(colours: &mut Colours<C>, members: &[Member<C>])
-    requires own { OwnMovers C.number members.now colours.old.lists }
-    ensures lists { colours.new.lists ≡ released_all C.number colours.old.lists members.now }
-    ensures slots { colours.new.slots ≡ colours.old.slots }
-    ensures room { colours.new.room + length (all_members colours.new.lists) ≡ colours.old.room + length (all_members colours.old.lists) }
-{
-    for place in 0..members.len() {
-        let member = members[place];
-        colours.release_member(member);
-    }
-}
-
 /// Takes the colours of those of the ties that have a mover in an island that is ready.
 fn release_among<C: Id>(
     islands: &Islands,
@@ -100,14 +86,14 @@ fn release_among<C: Id>(
 
 /// Takes the colours of the constraints of all whole islands that are ready. They are looked for among those that act, since these islands are awake;
 /// among all ties only where the list has no room for them.
-fn release_resting<C: Id>(
+pub(crate) fn release_resting<C: Id>(
     islands: &Islands,
     colours: &mut Colours<C>,
     ties: &mut Ties<C>,
     leasts: &[Option<u64>],
     listed: &mut Vec<Member<C>>,
 )
-    requires settled { IsConsistent C.number (acting ties.old.items islands.now.labels colours.old.lists) }
+    requires consistent { IsConsistent C.number (acting ties.old.items islands.now.labels colours.old.lists) }
     requires pending { colours.old.pending ≡ 0 }
     ensures ties { ties.new.items ≡ ties.old.items }
     ensures ties_capacity { ties.old.capacity ≤ ties.new.capacity }
@@ -121,33 +107,4 @@ fn release_resting<C: Id>(
         ties.flush(listed);
         release_among(islands, colours, ties.as_slice(), leasts);
     }
-}
-
-// ---- what falls asleep
-
-/// Puts all whole islands that are ready to rest, and takes the colours of their constraints: all together, and not one after the other, so that it
-/// takes time by the awake movers, whose slots are told, and by the constraints that act. There is room for the least timers.
-pub(crate) fn rest_ready<C: Id>(
-    islands: &mut Islands,
-    colours: &mut Colours<C>,
-    ties: &mut Ties<C>,
-    timers: &[u64],
-    awake: &[u32],
-    leasts: &mut Vec<Option<u64>>,
-    listed: &mut Vec<Member<C>>,
-)
-    requires settled { IsConsistent C.number (acting ties.old.items islands.old.labels colours.old.lists) }
-    requires pending { colours.old.pending ≡ 0 }
-    requires leasts { length islands.old.labels ≤ vec_capacity leasts.old }
-    requires awake { AreAwakeSlots islands.old.labels awake.now }
-    ensures ties_capacity { ties.old.capacity ≤ ties.new.capacity }
-    ensures at_rest { acting ties.new.items islands.new.labels colours.new.lists ≡ ready_put_to_rest C.number timers.now (acting ties.old.items islands.old.labels colours.old.lists) }
-    ensures islands_room { islands.new.room ≡ islands.old.room }
-    ensures slots { colours.new.slots ≡ colours.old.slots }
-    ensures room { colours.new.room + length (all_members colours.new.lists) ≡ colours.old.room + length (all_members colours.old.lists) }
-    ensures capacity { vec_capacity leasts.old ≤ vec_capacity leasts.new }
-{
-    list_leasts(leasts, islands, timers, awake);
-    release_resting(islands, colours, ties, leasts, listed);
-    rest_each(islands, leasts, awake);
 }

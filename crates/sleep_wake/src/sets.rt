@@ -1,18 +1,17 @@
 //! The constraints, islands and colours of a world, kept together.
 
+mod changing;
 mod from_parts;
 
-ghost use Rattle.std.specs.Prelude.{◌≡◌, ◌<◌, ◌≤◌, ◌+◌, ℕ, List, true, false, length, filter, replicate, [], IfOk, OnOk, OnErr, Some, None, Contains, option_map};
+ghost use Rattle.std.specs.Prelude.{◌≡◌, ◌<◌, ◌≤◌, ◌+◌, ℕ, List, true, false, length, filter, replicate, [], IfOk, OnOk, OnErr, Some, None, option_map};
 ghost use Rattle.std.specs.Result.{IsOkUnless};
 ghost use Rattle.graph_colours.specs.declared.limits.TheConstants.{COLOURS};
-ghost use Rattle.graph_colours.specs.declared.member.Member.{Member as TheMember};
-ghost use Rattle.graph_colours.specs.Members.{AreRising, has_id, with_number};
+ghost use Rattle.graph_colours.specs.Members.{AreRising};
+ghost use Rattle.graph_colours.specs.FoundMembers.{has_id, with_number};
 ghost use Rattle.graph_colours.specs.Movers.{has_mover};
-ghost use Rattle.islands.specs.Labels.{label_at};
-ghost use Rattle.sleep_wake.specs.Acting.{acting, is_mover_awake, are_awake, AreMovers, IsConsistent};
-ghost use Rattle.sleep_wake.specs.Waking.{woken_at, movers_woken, put_to_rest};
-ghost use Rattle.sleep_wake.specs.Changes.{begun, ended, each_begun, each_ended, turned};
-ghost use Rattle.sleep_wake.specs.ChangeLists.{CanBegin, CanEnd, begin_count, AreChanges};
+ghost use Rattle.islands.specs.Labels.{label_at, is_asleep};
+ghost use Rattle.sleep_wake.specs.Acting.{acting, is_mover_awake, are_awake, IsConsistent};
+ghost use Rattle.sleep_wake.specs.Waking.{set_woken, woken_at, movers_woken, put_to_rest};
 ghost use Rattle.sleep_wake.specs.Bodies.{mover_made, mover_gone};
 ghost use Rattle.sleep_wake.specs.Widened.{widened};
 ghost use Rattle.sleep_wake.specs.SleepPhase.{is_island, split_at, picked_to_split, split_picked, sleep_phase, ready_put_to_rest};
@@ -20,20 +19,18 @@ ghost use Rattle.sleep_wake.specs.AwakeSlots.{AreAwakeSlots, AgreeAwake};
 ghost use Rattle.sleep_wake.specs.Sleeping.{sleeping_names, islands_woken, split_if_loose, rested_at, slept_at};
 ghost use Rattle.sleep_wake.specs.Resting.{is_whole};
 
-use crate::change::Change;
-use crate::changing::{begin, begin_each, end, end_each, turn};
-use crate::gathering::Gathering;
-use crate::growing::grow;
+use crate::graph::Graph;
 use crate::listing::list_awake;
 use crate::names::list_names;
-use crate::phase::pick_split;
-use crate::resting::rest_ready;
-use crate::splits::split_set;
+use crate::phase::{list_leasts, pick_split, rest_each};
+use crate::resting::release_resting;
+use crate::splits::list_edges;
 use crate::ties::Ties;
-use crate::wake_and_sleep::{are_awake, fall_asleep, is_awake, wake_movers, wake_set};
+use crate::wake_and_sleep::{are_awake, is_awake, place_each, release_each};
+use crate::work::Work;
 use fixed_geom::Refusal;
 use graph_colours::{Colours, Id, Member, Movers};
-use islands::{Islands, Label, SplitScratch};
+use islands::{Islands, Label};
 use std::alloc::Global;
 use std::marker::Model;
 
@@ -45,19 +42,8 @@ use std::marker::Model;
 /// `awake_slots` can be refused memory.
 #[derive(Drop)]
 pub struct Sets<C: Id> {
-    // Ascending by number.
-    ties: Ties<C>,
-    colours: Colours<C>,
-    islands: Islands,
-    // Where ties lie while their list is edited.
-    spare: Vec<Member<C>>,
-    // What a split works on.
-    edges: Vec<(u32, u32)>,
-    scratch: SplitScratch,
-    // Where the constraints of an island are gathered.
-    gathering: Gathering<C>,
-    // By name the least timer of each island, in a sleep phase.
-    leasts: Vec<Option<u64>>,
+    graph: Graph<C>,
+    work: Work<C>,
     room: usize,
     slots: usize,
 }
@@ -69,9 +55,9 @@ impl<C: Id> Model for Sets<C> {
 
     ghost Value = { Standing C };
 
-    ghost view = { λ a. record { acting = acting a.ties.items a.islands.labels a.colours.lists; room = a.room; slots = a.slots; pending = a.colours.pending } };
+    ghost view = { λ a. record { acting = acting a.graph.ties.items a.graph.islands.labels a.graph.colours.lists; room = a.room; slots = a.slots; pending = a.graph.colours.pending } };
 
-    ghost invariant = { λ a. IsStanding C.number (acting a.ties.items a.islands.labels a.colours.lists) a.room a.slots (record { ties = a.ties.capacity; colours = a.colours.room; colour_slots = a.colours.slots; islands = a.islands.room; edges = vec_capacity a.edges; scratch_slots = a.scratch.slots; links = a.scratch.links; gathering_ties = a.gathering.ties; gathering_slots = a.gathering.slots; leasts = vec_capacity a.leasts }) };
+    ghost invariant = { λ a. IsStanding C.number (acting a.graph.ties.items a.graph.islands.labels a.graph.colours.lists) a.room a.slots (record { ties = a.graph.ties.capacity; colours = a.graph.colours.room; colour_slots = a.graph.colours.slots; islands = a.graph.islands.room; edges = vec_capacity a.work.edges; scratch_slots = a.work.scratch.slots; links = a.work.scratch.links; gathering_ties = a.work.gathering.ties; gathering_slots = a.work.gathering.slots; leasts = vec_capacity a.work.leasts }) };
 }
 
 impl<C: Id> Sets<C> {
@@ -84,14 +70,12 @@ impl<C: Id> Sets<C> {
         ensures memory_only { IsOkUnless result Refusal.NoMemory }
     {
         Ok(Sets {
-            ties: Ties::new(alloc),
-            colours: Colours::new(alloc)?,
-            islands: Islands::new(alloc),
-            spare: Vec::new(alloc),
-            edges: Vec::new(alloc),
-            scratch: SplitScratch::new(alloc),
-            gathering: Gathering::new(alloc),
-            leasts: Vec::new(alloc),
+            graph: Graph {
+                ties: Ties::new(alloc),
+                colours: Colours::new(alloc)?,
+                islands: Islands::new(alloc),
+            },
+            work: Work::new(alloc),
             room: 0,
             slots: 0,
         })
@@ -105,36 +89,14 @@ impl<C: Id> Sets<C> {
         ensures pending { IfOk result (λ copied. copied.pending ≡ 0) }
         ensures memory_only { IsOkUnless result Refusal.NoMemory }
     {
-        let alloc = *self.spare.allocator();
-        let mut ties = self.ties.try_copy(alloc)?;
-        let mut colours = self.colours.try_copy()?;
-        let mut spare = Vec::new(alloc);
-        let mut islands = self.islands.try_copy()?;
-        let mut edges = Vec::new(alloc);
-        let mut scratch = SplitScratch::new(alloc);
-        let mut gathering = Gathering::new(alloc);
-        let mut leasts = Vec::new(alloc);
-        let room = grow(
-            &mut ties,
-            &mut spare,
-            &mut colours,
-            &mut islands,
-            &mut edges,
-            &mut scratch,
-            &mut gathering,
-            &mut leasts,
-            0,
-            self.slots,
-        )?;
+        let alloc = *self.work.spare.allocator();
+        let mut graph = self.graph.try_copy(alloc)?;
+        let mut work = Work::new(alloc);
+        let room = graph.reserve(0, self.slots)?;
+        work.reserve(room, self.slots)?;
         Ok(Sets {
-            ties,
-            colours,
-            islands,
-            spare,
-            edges,
-            scratch,
-            gathering,
-            leasts,
+            graph,
+            work,
             room,
             slots: self.slots,
         })
@@ -151,21 +113,11 @@ impl<C: Id> Sets<C> {
         ensures refused { OnErr result (self.new ≡ self.old) }
         ensures memory_only { IsOkUnless result Refusal.NoMemory }
     {
-        let room = grow(
-            &mut self.ties,
-            &mut self.spare,
-            &mut self.colours,
-            &mut self.islands,
-            &mut self.edges,
-            &mut self.scratch,
-            &mut self.gathering,
-            &mut self.leasts,
-            constraints,
-            slots,
-        )?;
+        let room = self.graph.reserve(constraints, slots)?;
+        self.work.reserve(room, slots)?;
         self.room = self.room.max(room);
         self.slots = self.slots.max(slots);
-        self.ties.index(self.slots);
+        self.graph.ties.index(self.slots);
         Ok(())
     }
 
@@ -174,26 +126,26 @@ impl<C: Id> Sets<C> {
     /// How many constraints there are, whether their movers are awake or asleep.
     pub fn tie_count(&self) -> usize
         ensures value { result ≡ length self.now.acting.ties }
-        ensures settled { IsConsistent C.number self.now.acting }
+        ensures consistent { IsConsistent C.number self.now.acting }
         ensures enough { length self.now.acting.ties ≤ self.now.room }
     {
-        self.ties.len()
+        self.graph.ties.len()
     }
 
     /// The constraint whose id has this number.
     pub fn tie_with(&self, number: u128) -> Option<Member<C>>
         ensures { result ≡ with_number C.number number self.now.acting.ties }
     {
-        self.ties.with_number(number)
+        self.graph.ties.with_number(number)
     }
 
-    /// All constraints, ascending by number. Refused 1 where memory is wanting.
-    pub fn list_ties(&self) -> Result<Vec<Member<C>>, Refusal>
+    /// All constraints, ascending by number, in the memory of `room`, whatever is in it. Refused 1 where memory is wanting.
+    pub fn list_ties(&self, room: Vec<Member<C>>) -> Result<Vec<Member<C>>, Refusal>
         ensures items { IfOk result (λ ties. ties.items ≡ self.now.acting.ties) }
         ensures rising { IfOk result (λ ties. AreRising C.number ties.items) }
         ensures memory_only { IsOkUnless result Refusal.NoMemory }
     {
-        self.ties.to_members(*self.spare.allocator())
+        self.graph.ties.to_members(room)
     }
 
     /// The constraints of the mover in the slot, ascending. Refused 1 where memory is wanting.
@@ -201,11 +153,11 @@ impl<C: Id> Sets<C> {
         ensures ties { IfOk result (λ ties. ties.items ≡ filter (λ m. has_mover m.movers slot) self.now.acting.ties) }
         ensures memory_only { IsOkUnless result Refusal.NoMemory }
     {
-        self.ties.ties_of(*self.spare.allocator(), slot)
+        self.graph.ties.ties_of(*self.work.spare.allocator(), slot)
     }
 
     /// What holds of all sets: a law.
-    pub fn know_settled(&self)
+    pub fn know_consistent(&self)
         ensures { IsConsistent C.number self.now.acting }
     {
         let _ = self.tie_count();
@@ -216,7 +168,7 @@ impl<C: Id> Sets<C> {
         ensures lists { result.now.lists ≡ self.now.acting.lists }
         ensures pending { result.now.pending ≡ self.now.pending }
     {
-        &self.colours
+        &self.graph.colours
     }
 
     /// Makes the edits of the colours that were put off. It costs nothing where none is.
@@ -226,14 +178,14 @@ impl<C: Id> Sets<C> {
         ensures slots { self.new.slots ≡ self.old.slots }
         ensures pending { self.new.pending ≡ 0 }
     {
-        self.colours.flush();
+        self.graph.colours.flush();
     }
 
     /// The islands of the movers.
     pub fn islands(&self) -> &Islands
         ensures { result.now.labels ≡ self.now.acting.labels }
     {
-        &self.islands
+        &self.graph.islands
     }
 
     /// The label of a mover's island; `None` where there is no mover.
@@ -241,35 +193,35 @@ impl<C: Id> Sets<C> {
         ensures value { result ≡ label_at self.now.acting.labels slot }
         ensures few { length self.now.acting.labels ≤ self.now.slots }
     {
-        self.islands.label_of(slot)
+        self.graph.islands.label_of(slot)
     }
 
     /// The name of a mover's island, which is its lowest slot; `None` where there is no mover.
     pub fn name_of(&self, slot: u32) -> Option<u32>
         ensures { result ≡ option_map (λ l. l.name) (label_at self.now.acting.labels slot) }
     {
-        self.islands.name_of(slot)
+        self.graph.islands.name_of(slot)
     }
 
     /// Whether a mover is in the slot, and awake.
     pub fn is_awake(&self, slot: u32) -> bool
         ensures { result ≡ is_mover_awake self.now.acting.labels slot }
     {
-        is_awake(&self.islands, slot)
+        is_awake(&self.graph.islands, slot)
     }
 
     /// Whether all movers of a constraint are awake.
     pub fn are_awake(&self, movers: Movers) -> bool
         ensures { result ≡ are_awake self.now.acting.labels movers }
     {
-        are_awake(&self.islands, movers)
+        are_awake(&self.graph.islands, movers)
     }
 
     /// Whether there is a constraint of this id.
     pub fn has(&self, id: C) -> bool
         ensures { result ≡ has_id C.number id self.now.acting.ties }
     {
-        self.ties.has_id(id)
+        self.graph.ties.has_id(id)
     }
 
     /// The names of the sleeping islands of the movers in these slots, ascending and each once. Refused 1 where memory is
@@ -278,7 +230,7 @@ impl<C: Id> Sets<C> {
         ensures value { IfOk result (λ names. names.items ≡ sleeping_names self.now.acting.labels slots.now) }
         ensures memory_only { IsOkUnless result Refusal.NoMemory }
     {
-        list_names(*self.spare.allocator(), &self.islands, slots)
+        list_names(*self.work.spare.allocator(), &self.graph.islands, slots)
     }
 
     /// The slots of the awake movers, ascending, as a sleep phase is told them. All slots are gone through. Refused 1 where memory is wanting.
@@ -286,7 +238,7 @@ impl<C: Id> Sets<C> {
         ensures awake { IfOk result (λ slots. AreAwakeSlots self.now.acting.labels slots.items) }
         ensures memory_only { IsOkUnless result Refusal.NoMemory }
     {
-        list_awake(*self.spare.allocator(), &self.islands)
+        list_awake(*self.work.spare.allocator(), &self.graph.islands)
     }
 
     // ---- movers come and go
@@ -300,7 +252,7 @@ impl<C: Id> Sets<C> {
         ensures room { self.new.room ≡ self.old.room }
         ensures slots { self.new.slots ≡ self.old.slots }
     {
-        self.islands.add(slot);
+        self.graph.islands.add(slot);
     }
 
     /// Lets the slots of which it is known whether they have a mover go up to this one at least.
@@ -310,7 +262,7 @@ impl<C: Id> Sets<C> {
         ensures room { self.new.room ≡ self.old.room }
         ensures slots { self.new.slots ≡ self.old.slots }
     {
-        self.islands.widen(slot);
+        self.graph.islands.widen(slot);
     }
 
     /// Takes an awake mover that is in no constraint out of its island. Those that it leaves behind are loose.
@@ -321,24 +273,41 @@ impl<C: Id> Sets<C> {
         ensures room { self.new.room ≡ self.old.room }
         ensures slots { self.new.slots ≡ self.old.slots }
     {
-        self.islands.take_out(slot);
+        self.graph.islands.take_out(slot);
     }
 
     // ---- islands wake
 
-    /// Wakes the island of the mover in the slot, if it sleeps: its constraints take colours in their order.
+    /// Wakes the island of the mover in the slot, if it sleeps: its constraints take colours in their order. Takes no memory: there is room for all
+    /// constraints that have no colour.
+    #[tactic(auto, unfolding(crate::specs::Waking::woken_at))]
     pub fn wake(&mut self, slot: u32)
         ensures acting { self.new.acting ≡ woken_at C.number slot self.old.acting }
         ensures room { self.new.room ≡ self.old.room }
         ensures slots { self.new.slots ≡ self.old.slots }
     {
-        wake_set(
-            &mut self.islands,
-            &mut self.colours,
-            &self.ties,
-            &mut self.gathering,
-            slot,
-        );
+        self.know_consistent();
+        if let Some(label) = self.label_of(slot)
+            && label.state.is_asleep()
+        {
+            self.wake_island(label);
+        }
+    }
+
+    /// Wakes the island of this label, which sleeps: its movers are awake, and its constraints have colours.
+    fn wake_island(&mut self, label: Label)
+        requires island { label_at self.old.acting.labels label.name ≡ Some label }
+        requires asleep { is_asleep label.state ≡ true }
+        ensures acting { self.new.acting ≡ set_woken C.number label.name self.old.acting }
+        ensures room { self.new.room ≡ self.old.room }
+        ensures slots { self.new.slots ≡ self.old.slots }
+    {
+        let name = label.name;
+        self.work
+            .gathering
+            .gather(&self.graph.islands, &self.graph.ties, name);
+        place_each(&mut self.graph.colours, self.work.gathering.list());
+        self.graph.islands.wake(name);
     }
 
     /// Wakes the islands of a constraint's movers, those that sleep, the first one's first.
@@ -347,13 +316,10 @@ impl<C: Id> Sets<C> {
         ensures room { self.new.room ≡ self.old.room }
         ensures slots { self.new.slots ≡ self.old.slots }
     {
-        wake_movers(
-            &mut self.islands,
-            &mut self.colours,
-            &self.ties,
-            &mut self.gathering,
-            movers,
-        );
+        self.wake(movers.first);
+        if let Some(second) = movers.second {
+            self.wake(second);
+        }
     }
 
     /// Wakes the islands of these names, those that sleep, one after the other.
@@ -367,95 +333,6 @@ impl<C: Id> Sets<C> {
         }
     }
 
-    // ---- constraints begin and end
-
-    /// A constraint comes whose movers are awake: the islands of two movers are merged, and it takes the least colour that is
-    /// free.
-    pub fn begin(&mut self, member: Member<C>)
-        requires fresh { has_id C.number member.id self.old.acting.ties ≡ false }
-        requires awake { are_awake self.old.acting.labels member.movers ≡ true }
-        requires room { length self.old.acting.ties < self.old.room }
-        ensures acting { self.new.acting ≡ begun C.number member self.old.acting }
-        ensures room { self.new.room ≡ self.old.room }
-        ensures slots { self.new.slots ≡ self.old.slots }
-    {
-        begin(
-            &mut self.islands,
-            &mut self.colours,
-            &mut self.ties,
-            &mut self.spare,
-            member,
-        );
-    }
-
-    /// A constraint goes whose movers are awake: it gives up its colour, and the island of two movers gets loose.
-    pub fn end(&mut self, member: Member<C>)
-        requires there { Contains self.old.acting.ties member }
-        requires awake { are_awake self.old.acting.labels member.movers ≡ true }
-        ensures acting { self.new.acting ≡ ended C.number member self.old.acting }
-        ensures room { self.new.room ≡ self.old.room }
-        ensures slots { self.new.slots ≡ self.old.slots }
-    {
-        end(
-            &mut self.islands,
-            &mut self.colours,
-            &mut self.ties,
-            &mut self.spare,
-            member,
-        );
-    }
-
-    /// Constraints come whose movers are awake, one after the other.
-    pub fn begin_each(&mut self, members: &[Member<C>])
-        requires can { CanBegin C.number members.now self.old.acting }
-        requires room { length self.old.acting.ties + length members.now ≤ self.old.room }
-        ensures acting { self.new.acting ≡ each_begun C.number members.now self.old.acting }
-        ensures room { self.new.room ≡ self.old.room }
-        ensures slots { self.new.slots ≡ self.old.slots }
-    {
-        begin_each(
-            &mut self.islands,
-            &mut self.colours,
-            &mut self.ties,
-            &mut self.spare,
-            members,
-        );
-    }
-
-    /// Constraints go whose movers are awake, one after the other.
-    pub fn end_each(&mut self, members: &[Member<C>])
-        requires can { CanEnd C.number members.now self.old.acting }
-        ensures acting { self.new.acting ≡ each_ended C.number members.now self.old.acting }
-        ensures room { self.new.room ≡ self.old.room }
-        ensures slots { self.new.slots ≡ self.old.slots }
-    {
-        end_each(
-            &mut self.islands,
-            &mut self.colours,
-            &mut self.ties,
-            &mut self.spare,
-            members,
-        );
-    }
-
-    /// Constraints begin and end, each at its turn, as the contacts of a step do. The sleeping movers of each wake before it.
-    pub fn turn(&mut self, changes: &[Change<C>])
-        requires can { AreChanges C.number self.old.acting.labels self.old.acting.ties changes.now }
-        requires room { length self.old.acting.ties + begin_count changes.now ≤ self.old.room }
-        ensures acting { self.new.acting ≡ turned C.number changes.now self.old.acting }
-        ensures room { self.new.room ≡ self.old.room }
-        ensures slots { self.new.slots ≡ self.old.slots }
-    {
-        turn(
-            &mut self.islands,
-            &mut self.colours,
-            &mut self.ties,
-            &mut self.spare,
-            &mut self.gathering,
-            changes,
-        );
-    }
-
     // ---- islands fall asleep
 
     /// Puts a whole island that is awake to rest, by its name: its constraints give up their colours.
@@ -465,13 +342,11 @@ impl<C: Id> Sets<C> {
         ensures room { self.new.room ≡ self.old.room }
         ensures slots { self.new.slots ≡ self.old.slots }
     {
-        fall_asleep(
-            &mut self.islands,
-            &mut self.colours,
-            &self.ties,
-            &mut self.gathering,
-            name,
-        );
+        self.work
+            .gathering
+            .gather(&self.graph.islands, &self.graph.ties, name);
+        release_each(&mut self.graph.colours, self.work.gathering.list());
+        self.graph.islands.rest(name);
     }
 
     /// Replaces a loose island by its components, by its name. No constraint changes.
@@ -482,14 +357,18 @@ impl<C: Id> Sets<C> {
         ensures room { self.new.room ≡ self.old.room }
         ensures slots { self.new.slots ≡ self.old.slots }
     {
-        split_set(
-            &mut self.islands,
-            &self.ties,
-            &mut self.gathering,
+        self.work
+            .gathering
+            .gather(&self.graph.islands, &self.graph.ties, name);
+        list_edges(
+            &mut self.work.edges,
+            &self.graph.islands,
+            self.work.gathering.list(),
             name,
-            &mut self.edges,
-            &mut self.scratch,
         );
+        self.graph
+            .islands
+            .split(name, &self.work.edges, &mut self.work.scratch);
     }
 
     /// Puts a mover to sleep with its island, which is split first where it is loose. One that sleeps stays as it is.
@@ -499,7 +378,7 @@ impl<C: Id> Sets<C> {
         ensures room { self.new.room ≡ self.old.room }
         ensures slots { self.new.slots ≡ self.old.slots }
     {
-        self.know_settled();
+        self.know_consistent();
         if let Some(label) = self.label_of(slot)
             && !label.state.is_asleep()
         {
@@ -527,7 +406,7 @@ impl<C: Id> Sets<C> {
         ensures room { self.new.room ≡ self.old.room }
         ensures slots { self.new.slots ≡ self.old.slots }
     {
-        self.know_settled();
+        self.know_consistent();
         if let Some(label) = self.label_of(slot) {
             self.put_to_rest(label.name);
         }
@@ -544,7 +423,7 @@ impl<C: Id> Sets<C> {
         ensures room { self.new.room ≡ self.old.room }
         ensures slots { self.new.slots ≡ self.old.slots }
     {
-        self.know_settled();
+        self.know_consistent();
         self.split_ready(timers, awake);
         self.flush();
         self.rest_ready(timers, awake);
@@ -568,10 +447,11 @@ impl<C: Id> Sets<C> {
         ensures picked { result ≡ picked_to_split self.old.acting.labels timers.now }
         ensures same { self.new ≡ self.old }
     {
-        pick_split(&mut self.leasts, &self.islands, timers, awake)
+        pick_split(&mut self.work.leasts, &self.graph.islands, timers, awake)
     }
 
-    /// Each whole island that is ready falls asleep. No edit of the colours is put off.
+    /// Each whole island that is ready falls asleep: all together, and not one after the other, so that it takes time by the awake movers, whose slots
+    /// are told, and by the constraints that act. No edit of the colours is put off.
     fn rest_ready(&mut self, timers: &[u64], awake: &[u32])
         requires awake { AreAwakeSlots self.old.acting.labels awake.now }
         requires rest { self.old.pending ≡ 0 }
@@ -579,14 +459,14 @@ impl<C: Id> Sets<C> {
         ensures room { self.new.room ≡ self.old.room }
         ensures slots { self.new.slots ≡ self.old.slots }
     {
-        rest_ready(
-            &mut self.islands,
-            &mut self.colours,
-            &mut self.ties,
-            timers,
-            awake,
-            &mut self.leasts,
-            &mut self.spare,
+        list_leasts(&mut self.work.leasts, &self.graph.islands, timers, awake);
+        release_resting(
+            &self.graph.islands,
+            &mut self.graph.colours,
+            &mut self.graph.ties,
+            &self.work.leasts,
+            &mut self.work.spare,
         );
+        rest_each(&mut self.graph.islands, &self.work.leasts, awake);
     }
 }

@@ -3,7 +3,8 @@
 ghost use Rattle.std.specs.Prelude.{◌≡◌, ◌<◌, ◌≤◌, [], true, false, length, IfOk, IfSome, OnOk, is_some};
 ghost use Rattle.std.specs.Result.{IsOkUnless};
 ghost use Rattle.graph_colours.specs.Given.{members_of};
-ghost use Rattle.graph_colours.specs.Members.{AreRising, has_id, inserted, without_member, movers_of, with_number};
+ghost use Rattle.graph_colours.specs.Members.{AreRising, inserted, without_member};
+ghost use Rattle.graph_colours.specs.FoundMembers.{has_id, movers_of, with_number};
 ghost use Rattle.sleep_wake.specs.Indexed.{ties_of, AreByMover};
 
 use crate::by_mover::{add, copy_at, pick, rebuild, take_out, widen};
@@ -20,7 +21,7 @@ use std::marker::Model;
 pub(crate) struct Ties<C: Id> {
     list: EditedList<C>,
     // Whether it is known that no edit is put off.
-    settled: bool,
+    flushed: bool,
     // By slot the constraints of the mover there, ascending, where `holds` says so.
     by_mover: Vec<Vec<Member<C>>>,
     holds: bool,
@@ -35,7 +36,7 @@ impl<C: Id> Model for Ties<C> {
 
     ghost view = { λ a. a.list };
 
-    ghost invariant = { λ a. IsIndexed C.number a.list.items a.list.pending a.settled a.holds (members_of a.by_mover.items) };
+    ghost invariant = { λ a. IsIndexed C.number a.list.items a.list.pending a.flushed a.holds (members_of a.by_mover.items) };
 }
 
 /// Makes the edits of the constraints that were put off, where the lists of the movers don't hold.
@@ -70,7 +71,7 @@ impl<C: Id> Ties<C> {
     {
         Ties {
             list: EditedList::new(alloc),
-            settled: true,
+            flushed: true,
             by_mover: Vec::new(alloc),
             holds: true,
         }
@@ -85,7 +86,7 @@ impl<C: Id> Ties<C> {
     {
         Ok(Ties {
             list: EditedList::from_members(alloc, members)?,
-            settled: true,
+            flushed: true,
             by_mover: Vec::new(alloc),
             holds: false,
         })
@@ -99,7 +100,7 @@ impl<C: Id> Ties<C> {
     {
         Ok(Ties {
             list: self.list.try_copy(alloc)?,
-            settled: true,
+            flushed: true,
             by_mover: Vec::new(alloc),
             holds: false,
         })
@@ -124,7 +125,7 @@ impl<C: Id> Ties<C> {
         ensures capacity { self.old.capacity ≤ self.new.capacity }
     {
         self.list.insert(member, spare);
-        self.settled = false;
+        self.flushed = false;
         self.holds = add(&mut self.by_mover, self.holds, member);
         flush_lapsed(&mut self.list, self.holds, spare);
     }
@@ -136,7 +137,7 @@ impl<C: Id> Ties<C> {
         ensures capacity { self.old.capacity ≤ self.new.capacity }
     {
         let movers = self.list.remove(id, spare);
-        self.settled = false;
+        self.flushed = false;
         take_out(&mut self.by_mover, self.holds, id, movers);
         flush_lapsed(&mut self.list, self.holds, spare);
         movers
@@ -149,14 +150,14 @@ impl<C: Id> Ties<C> {
         ensures capacity { self.old.capacity ≤ self.new.capacity }
     {
         self.list.flush(spare);
-        self.settled = true;
+        self.flushed = true;
     }
 
     /// Whether it is known that no edit is put off.
     pub(crate) fn is_flushed(&self) -> bool
         ensures { result ≡ true → self.now.pending ≡ 0 }
     {
-        self.settled
+        self.flushed
     }
 
     // ---- all constraints
@@ -182,13 +183,13 @@ impl<C: Id> Ties<C> {
         self.list.has_id(id)
     }
 
-    /// The constraints, ascending. Refused 1 where memory is wanting.
-    pub(crate) fn to_members(&self, alloc: Global) -> Result<Vec<Member<C>>, Refusal>
+    /// The constraints, ascending, in the memory of `room`, whatever is in it. Refused 1 where memory is wanting.
+    pub(crate) fn to_members(&self, room: Vec<Member<C>>) -> Result<Vec<Member<C>>, Refusal>
         ensures items { IfOk result (λ members. members.items ≡ self.now.items) }
         ensures rising { IfOk result (λ members. AreRising C.number members.items) }
         ensures memory_only { IsOkUnless result Refusal.NoMemory }
     {
-        self.list.to_members(alloc)
+        self.list.to_members(room)
     }
 
     /// The constraints, ascending, where no edit is put off.

@@ -5,7 +5,7 @@ use Rattle.std.specs.List.{filter_map, cons_option}
 use Rattle.std.proofs.lemmas.Bool.{false≢true}
 use Rattle.std.proofs.lemmas.List.{map-append}
 use Rattle.std.proofs.lemmas.List.Elements.{filter_map-append}
-use Rattle.body_handles.specs.declared.places.Place.{Place}
+use Rattle.body_handles.specs.declared.slot_table.SlotEntry.{SlotEntry}
 use Rattle.contacts.proofs.Members.{IsIn}
 use Rattle.contacts.specs.declared.constraint.Constraint.{Constraint}
 use Rattle.contacts_base.specs.declared.contact.ContactEntry.{ContactEntry}
@@ -118,15 +118,15 @@ next_beside bodies slot b bonds on still =
     ∙ firsts (cond (is_bond_of slot b) (tie_of bodies b) None) rest
     ∙ ap (λ (o : Option ℕ). cons_option o (first_movers rest)) (beside_by bodies slot b.a b.b b.id (b.a == slot) (b.b == slot) on still refl refl)
 
-joined_beside : (bodies : List (Option Body)) (slot n : ℕ) (places : List Place) (joints : List (Option BodyJoint)) → is_enabled bodies slot ≡ true → moves bodies slot ≡ false → length joints ≤ length places
-    → first_movers (ties_in bodies (filter (is_bond_of slot) (joint_bonds_from n places joints))) ≡ filter_map (joined_by bodies slot) joints
+joined_beside : (bodies : List (Option Body)) (slot n : ℕ) (slot_entries : List SlotEntry) (joints : List (Option BodyJoint)) → is_enabled bodies slot ≡ true → moves bodies slot ≡ false → length joints ≤ length slot_entries
+    → first_movers (ties_in bodies (filter (is_bond_of slot) (joint_bonds_from n slot_entries joints))) ≡ filter_map (joined_by bodies slot) joints
 joined_beside bodies slot n [] [] on still le = refl
 joined_beside bodies slot n [] (o ∷ joints) on still le = absurd (omega (arith, le))
-joined_beside bodies slot n (p ∷ places) [] on still le = refl
-joined_beside bodies slot n (p ∷ places) (None ∷ joints) on still le = joined_beside bodies slot (suc n) places joints on still (omega (arith, le))
-joined_beside bodies slot n (p ∷ places) (Some j ∷ joints) on still le =
-    next_beside bodies slot (joint_bond (record { slot = n; generation = p.generation }) j) (joint_bonds_from (suc n) places joints) on still
-    ∙ ap (λ (l : List ℕ). cons_option (mover_beside bodies slot j.a j.b) l) (joined_beside bodies slot (suc n) places joints on still (omega (arith, le)))
+joined_beside bodies slot n (p ∷ slot_entries) [] on still le = refl
+joined_beside bodies slot n (p ∷ slot_entries) (None ∷ joints) on still le = joined_beside bodies slot (suc n) slot_entries joints on still (omega (arith, le))
+joined_beside bodies slot n (p ∷ slot_entries) (Some j ∷ joints) on still le =
+    next_beside bodies slot (joint_bond (record { slot = n; generation = p.generation }) j) (joint_bonds_from (suc n) slot_entries joints) on still
+    ∙ ap (λ (l : List ℕ). cons_option (mover_beside bodies slot j.a j.b) l) (joined_beside bodies slot (suc n) slot_entries joints on still (omega (arith, le)))
 
 touched_next : (bodies : List (Option Body)) (slot : ℕ) (e : ContactEntry) (es : List ContactEntry) (t : Bool) (found : List ℕ) → is_enabled bodies slot ≡ true → moves bodies slot ≡ false
     → first_movers (ties_in bodies (filter (is_bond_of slot) (map contact_bond (map (λ (e : ContactEntry). e.key) es)))) ≡ found
@@ -142,7 +142,7 @@ touched_beside bodies slot [] on still = refl
 touched_beside bodies slot (e ∷ es) on still =
     touched_next bodies slot e (filter (λ (e : ContactEntry). touches e.contact) es) (touches e.contact) (filter_map (touched_with bodies slot) es) on still (touched_beside bodies slot es on still)
 
-beside_picked : (slot : ℕ) (bodies : List (Option Body)) (s : JointSlots) (contacts : List ContactEntry) → length s.joints ≤ length s.places → is_enabled bodies slot ≡ true → moves bodies slot ≡ false
+beside_picked : (slot : ℕ) (bodies : List (Option Body)) (s : JointSlots) (contacts : List ContactEntry) → length s.joints ≤ length s.slot_entries → is_enabled bodies slot ≡ true → moves bodies slot ≡ false
     → first_movers (ties_at slot bodies s contacts) ≡ neighbours bodies s.joints contacts slot
 unfolding ties_at joined_to touched_by
 beside_picked slot bodies s contacts le on still =
@@ -151,7 +151,7 @@ beside_picked slot bodies s contacts le on still =
     ap (λ (l : List Bond). first_movers (ties_in bodies l)) (filter_append (is_bond_of slot) (joint_bonds s) (map contact_bond (touching_keys contacts)))
     ∙ ap first_movers (filter_map-append (tie_of bodies) joints others)
     ∙ map-append (λ (m : Member Constraint). m.movers.first) (ties_in bodies joints) (ties_in bodies others)
-    ∙ ap₂ (λ (xs ys : List ℕ). xs ++ ys) (joined_beside bodies slot 0 s.places s.joints on still le) (touched_beside bodies slot contacts on still)
+    ∙ ap₂ (λ (xs ys : List ℕ). xs ++ ys) (joined_beside bodies slot 0 s.slot_entries s.joints on still le) (touched_beside bodies slot contacts on still)
 
 -- ---- whom a change of the body wakes
 
@@ -167,6 +167,6 @@ stirred_same (Some b) slot xs ys same = by_both slot xs ys (is_mover b) b.enable
 pub stirred_picked : laws.StirredArePicked
 unfolding stirred_among stirred_by
 stirred_picked slot bodies s contacts matched =
-    let le : length s.joints ≤ length s.places = let e = matched.slots in omega (arith, e) in
+    let le : length s.joints ≤ length s.slot_entries = let e = matched.slots in omega (arith, e) in
     stirred_same (body_at bodies slot) slot (first_movers (ties_among slot s.joints (ties_of bodies s contacts))) (neighbours bodies s.joints contacts slot)
     (λ on still. ap first_movers (ties_picked slot bodies s contacts) ∙ beside_picked slot bodies s contacts le on still)

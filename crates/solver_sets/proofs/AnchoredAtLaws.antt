@@ -15,7 +15,8 @@ use Rattle.contacts.proofs.Members.{Each}
 use Rattle.contacts_base.proofs.MergeLaws.{drop_next}
 use Rattle.contacts.proofs.Rising.{IsRising, rising_from_increasing}
 use Rattle.graph_colours.specs.declared.member.Member.{Member}
-use Rattle.graph_colours.specs.Members.{AreRising, with_number}
+use Rattle.graph_colours.specs.Members.{AreRising}
+use Rattle.graph_colours.specs.FoundMembers.{with_number}
 use Rattle.graph_colours.proofs.PlaceLemmas.{is_same, not_same, same_from}
 use Rattle.graph_colours.proofs.ListLemmas.{pairs_none, pairs_tail}
 use Rattle.islands.proofs.JoinLemmas.{contains_cases, contains_head, contains_tail}

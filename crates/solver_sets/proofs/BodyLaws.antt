@@ -5,7 +5,7 @@ use Rattle.std.proofs.lemmas.List.{length-set}
 use Rattle.std.proofs.lemmas.List.Elements.{All-contains}
 use Rattle.std.proofs.lemmas.Option.{none-some, same_Some}
 use Rattle.body_handles.specs.declared.handle.Handle.{Handle}
-use Rattle.body_handles.specs.Places.{IsLive, places_without}
+use Rattle.body_handles.specs.SlotEntries.{IsLive, slot_entries_without}
 use Rattle.graph_colours.specs.declared.member.Member.{Member}
 use Rattle.graph_colours.specs.declared.member.Movers.{Movers}
 use Rattle.graph_colours.specs.Movers.{has_mover}
@@ -172,7 +172,7 @@ unfolding ties_of
 disabling slot old new s joints contacts are rising alike off ends =
     let left : List ContactEntry = contacts_without slot contacts in
     let after : List Bond = bonds_of s left in
-    let same : joint_bonds (slots_of s.places joints) ≡ joint_bonds s = same_bonds s (slots_of s.places joints) refl ends in
+    let same : joint_bonds (slots_of s.slot_entries joints) ≡ joint_bonds s = same_bonds s (slots_of s.slot_entries joints) refl ends in
     ap (λ (bonds : List Bond). ties_in new (bonds ++ map contact_bond (touching_keys left))) same
     ∙ ties_left slot old new s contacts after are rising (record {
       rising = bonds_rise s left are (rising_without_slot slot contacts rising);
@@ -189,15 +189,15 @@ record AreGone (body n : ℕ) (old new : JointSlots) : Type 0 where
   slots : AreJointSlots new
   long : length new.joints ≡ length old.joints
   gone : (k : ℕ) (j : BodyJoint) → k < n → joint_at new.joints k ≡ Some j → is_joint_of body j ≡ false
-  from : (k : ℕ) (j : BodyJoint) → joint_at new.joints k ≡ Some j → (joint_at old.joints k ≡ Some j) × (slice_get new.places k ≡ slice_get old.places k)
-  kept : (k : ℕ) (j : BodyJoint) → joint_at old.joints k ≡ Some j → is_joint_of body j ≡ false → (joint_at new.joints k ≡ Some j) × (slice_get new.places k ≡ slice_get old.places k)
+  from : (k : ℕ) (j : BodyJoint) → joint_at new.joints k ≡ Some j → (joint_at old.joints k ≡ Some j) × (slice_get new.slot_entries k ≡ slice_get old.slot_entries k)
+  kept : (k : ℕ) (j : BodyJoint) → joint_at old.joints k ≡ Some j → is_joint_of body j ≡ false → (joint_at new.joints k ≡ Some j) × (slice_get new.slot_entries k ≡ slice_get old.slot_entries k)
 
-gone_step : (body n : ℕ) (old s : JointSlots) → AreGone body n old s → is_end_in body (joint_at s.joints n) ≡ true → AreGone body (suc n) old (unjoined (handle_at s.places n) s)
+gone_step : (body n : ℕ) (old s : JointSlots) → AreGone body n old s → is_end_in body (joint_at s.joints n) ≡ true → AreGone body (suc n) old (unjoined (handle_at s.slot_entries n) s)
 gone_step body n old s g end =
-    let h : Handle = handle_at s.places n in
-    let live : IsLive s.places h = live_at (slice_get s.places n) h.generation (handle_live s.places s.joints body n g.slots.matched end) in
+    let h : Handle = handle_at s.slot_entries n in
+    let live : IsLive s.slot_entries h = live_at (slice_get s.slot_entries n) h.generation (handle_live s.slot_entries s.joints body n g.slots.matched end) in
     let other_joint : (k : ℕ) → k ≢ n → joint_at (slice_set s.joints n None) k ≡ joint_at s.joints k = λ k far. item_at-set_other s.joints n None k far in
-    let other_place : (k : ℕ) → k ≢ n → slice_get (places_without s.places h) k ≡ slice_get s.places k = λ k far. slice_get-set_other s.places n k (record { generation = h.generation + 1; live = false }) far in
+    let other_place : (k : ℕ) → k ≢ n → slice_get (slot_entries_without s.slot_entries h) k ≡ slice_get s.slot_entries k = λ k far. slice_get-set_other s.slot_entries n k (record { generation = h.generation + 1; live = false }) far in
     let here : (k : ℕ) (j : BodyJoint) → joint_at (slice_set s.joints n None) k ≡ Some j → k ≢ n = λ k j at same. none-some j (sym (item_at-set_none s.joints n) ∙ sym (ap (joint_at (slice_set s.joints n None)) same) ∙ at) in
     record {
       slots = slots_unjoined s h live g.slots;
@@ -226,7 +226,7 @@ gone_up body zero s are = record { slots = are; long = refl; gone = λ k j lt at
 gone_up body (suc n) s are =
     let before : JointSlots = unjoined_up body n s in
     let g : AreGone body n s before = gone_up body n s are in
-    by_test (λ (r : JointSlots). AreGone body (suc n) s r) (is_end_in body (joint_at before.joints n)) (unjoined (handle_at before.places n) before) before
+    by_test (λ (r : JointSlots). AreGone body (suc n) s r) (is_end_in body (joint_at before.joints n)) (unjoined (handle_at before.slot_entries n) before) before
     (λ q. gone_step body n s before g q) (λ q. gone_passed body n s before g q)
 
 gone_all : (body : ℕ) (s : JointSlots) → AreJointSlots s → AreGone body (length s.joints) s (unjoined_all body s)

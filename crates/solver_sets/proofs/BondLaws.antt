@@ -2,9 +2,9 @@
 use Rattle.std.proofs.Common.{◌≡◌, ◌⊎◌, ℕ, zero, suc, ◌+◌, ◌*◌, ◌^◌, ◌<◌, ◌≤◌, true, List, [], ◌∷◌, length, map, filter, Option, Some, None, All, slice_get, inl, inr, refl, sym, ap, ap₂, ◌∙◌, subst, arith}
 use Rattle.std.proofs.lemmas.Option.{get_or_from_slice_get, none-some, same_Some, slice_get_within}
 use Rattle.body_handles.specs.declared.handle.Handle.{Handle}
-use Rattle.body_handles.specs.declared.places.Place.{Place}
-use Rattle.body_handles.specs.Places.{IsPlace}
-use Rattle.body_handles.proofs.LowestLemmas.{no_place}
+use Rattle.body_handles.specs.declared.slot_table.SlotEntry.{SlotEntry}
+use Rattle.body_handles.specs.SlotEntries.{IsSlotEntry}
+use Rattle.body_handles.proofs.LowestLemmas.{no_slot_entry}
 use Rattle.contacts.proofs.Members.{IsIn, in_append, in_left, in_right}
 use Rattle.contacts.proofs.Rising.{rising_from_increasing, IsRising}
 use Rattle.contacts_base.specs.declared.contact.ContactEntry.{ContactEntry}
@@ -25,65 +25,65 @@ abbrev handle_of : ℕ → ℕ → Handle
 handle_of slot generation = record { slot = slot; generation = generation }
 
 -- the bond is that of a joint in a slot of these lists, of which the first is the slot n
-pub record IsJointFrom (n : ℕ) (places : List Place) (joints : List (Option BodyJoint)) (b : Bond) : Type 0 where
+pub record IsJointFrom (n : ℕ) (slot_entries : List SlotEntry) (joints : List (Option BodyJoint)) (b : Bond) : Type 0 where
   pub index : ℕ
   pub slot : ℕ
-  pub place : Place
+  pub place : SlotEntry
   pub joint : BodyJoint
-  pub at_place : slice_get places index ≡ Some place
+  pub at_place : slice_get slot_entries index ≡ Some place
   pub at_joint : joint_at joints index ≡ Some joint
   pub counts : slot ≡ n + index
   pub is : b ≡ joint_bond (record { slot = slot; generation = place.generation }) joint
 
-shifted : (n : ℕ) (p : Place) (places : List Place) (o : Option BodyJoint) (joints : List (Option BodyJoint)) (b : Bond) → IsJointFrom (suc n) places joints b → IsJointFrom n (p ∷ places) (o ∷ joints) b
-shifted n p places o joints b h = record { index = suc h.index; slot = h.slot; place = h.place; joint = h.joint; at_place = h.at_place; at_joint = h.at_joint; counts = let e = h.counts in omega (arith, e); is = h.is }
+shifted : (n : ℕ) (p : SlotEntry) (slot_entries : List SlotEntry) (o : Option BodyJoint) (joints : List (Option BodyJoint)) (b : Bond) → IsJointFrom (suc n) slot_entries joints b → IsJointFrom n (p ∷ slot_entries) (o ∷ joints) b
+shifted n p slot_entries o joints b h = record { index = suc h.index; slot = h.slot; place = h.place; joint = h.joint; at_place = h.at_place; at_joint = h.at_joint; counts = let e = h.counts in omega (arith, e); is = h.is }
 
-in_before : (n : ℕ) (p : Place) (places : List Place) (o : Option BodyJoint) (joints : List (Option BodyJoint)) (b : Bond) → IsIn b (bond_before (record { slot = n; generation = p.generation }) o (joint_bonds_from (suc n) places joints))
-    → (IsIn b (joint_bonds_from (suc n) places joints) → IsJointFrom (suc n) places joints b) → IsJointFrom n (p ∷ places) (o ∷ joints) b
-in_before n p places None joints b h rest = shifted n p places None joints b (rest h)
-in_before n p places (Some j) joints b h rest = elim h [
+in_before : (n : ℕ) (p : SlotEntry) (slot_entries : List SlotEntry) (o : Option BodyJoint) (joints : List (Option BodyJoint)) (b : Bond) → IsIn b (bond_before (record { slot = n; generation = p.generation }) o (joint_bonds_from (suc n) slot_entries joints))
+    → (IsIn b (joint_bonds_from (suc n) slot_entries joints) → IsJointFrom (suc n) slot_entries joints b) → IsJointFrom n (p ∷ slot_entries) (o ∷ joints) b
+in_before n p slot_entries None joints b h rest = shifted n p slot_entries None joints b (rest h)
+in_before n p slot_entries (Some j) joints b h rest = elim h [
   | inl e ↦ record { index = 0; slot = n; place = p; joint = j; at_place = refl; at_joint = refl; counts = omega arith; is = e }
-  | inr q ↦ shifted n p places (Some j) joints b (rest q)
+  | inr q ↦ shifted n p slot_entries (Some j) joints b (rest q)
 ]
 
-in_joints_from : (n : ℕ) (places : List Place) (joints : List (Option BodyJoint)) (b : Bond) → IsIn b (joint_bonds_from n places joints) → IsJointFrom n places joints b
+in_joints_from : (n : ℕ) (slot_entries : List SlotEntry) (joints : List (Option BodyJoint)) (b : Bond) → IsIn b (joint_bonds_from n slot_entries joints) → IsJointFrom n slot_entries joints b
 in_joints_from n [] joints b h = absurd h
-in_joints_from n (p ∷ places) [] b h = absurd h
-in_joints_from n (p ∷ places) (o ∷ joints) b h = in_before n p places o joints b h (in_joints_from (suc n) places joints b)
+in_joints_from n (p ∷ slot_entries) [] b h = absurd h
+in_joints_from n (p ∷ slot_entries) (o ∷ joints) b h = in_before n p slot_entries o joints b h (in_joints_from (suc n) slot_entries joints b)
 
 before_in : (h : Handle) (o : Option BodyJoint) (bonds : List Bond) (b : Bond) → IsIn b bonds → IsIn b (bond_before h o bonds)
 before_in h None bonds b q = q
 before_in h (Some j) bonds b q = inr q
 
-joints_in_from : (n : ℕ) (places : List Place) (joints : List (Option BodyJoint)) (k m : ℕ) (p : Place) (j : BodyJoint) → slice_get places k ≡ Some p → joint_at joints k ≡ Some j → m ≡ n + k → IsIn (joint_bond (record { slot = m; generation = p.generation }) j) (joint_bonds_from n places joints)
+joints_in_from : (n : ℕ) (slot_entries : List SlotEntry) (joints : List (Option BodyJoint)) (k m : ℕ) (p : SlotEntry) (j : BodyJoint) → slice_get slot_entries k ≡ Some p → joint_at joints k ≡ Some j → m ≡ n + k → IsIn (joint_bond (record { slot = m; generation = p.generation }) j) (joint_bonds_from n slot_entries joints)
 joints_in_from n [] joints k m p j at e counts = absurd (none-some p at)
-joints_in_from n (q ∷ places) [] k m p j at e counts = absurd (none-some j e)
-joints_in_from n (q ∷ places) (o ∷ joints) zero m p j at e counts =
+joints_in_from n (q ∷ slot_entries) [] k m p j at e counts = absurd (none-some j e)
+joints_in_from n (q ∷ slot_entries) (o ∷ joints) zero m p j at e counts =
     let same : q ≡ p = same_Some q p at in
     let here : n ≡ m = omega (arith, counts) in
-    subst (λ (v : Option BodyJoint). IsIn (joint_bond (record { slot = m; generation = p.generation }) j) (bond_before (record { slot = n; generation = q.generation }) v (joint_bonds_from (suc n) places joints))) (sym e)
-    (inl (ap₂ (λ (s g : ℕ). joint_bond (handle_of s g) j) (sym here) (sym (ap (λ (v : Place). v.generation) same))))
-joints_in_from n (q ∷ places) (o ∷ joints) (suc k) m p j at e counts =
-    before_in (record { slot = n; generation = q.generation }) o (joint_bonds_from (suc n) places joints) (joint_bond (record { slot = m; generation = p.generation }) j)
-    (joints_in_from (suc n) places joints k m p j at e (omega (arith, counts)))
+    subst (λ (v : Option BodyJoint). IsIn (joint_bond (record { slot = m; generation = p.generation }) j) (bond_before (record { slot = n; generation = q.generation }) v (joint_bonds_from (suc n) slot_entries joints))) (sym e)
+    (inl (ap₂ (λ (s g : ℕ). joint_bond (handle_of s g) j) (sym here) (sym (ap (λ (v : SlotEntry). v.generation) same))))
+joints_in_from n (q ∷ slot_entries) (o ∷ joints) (suc k) m p j at e counts =
+    before_in (record { slot = n; generation = q.generation }) o (joint_bonds_from (suc n) slot_entries joints) (joint_bond (record { slot = m; generation = p.generation }) j)
+    (joints_in_from (suc n) slot_entries joints k m p j at e (omega (arith, counts)))
 
 -- the bond is that of a joint
 pub record IsJointBond (s : JointSlots) (b : Bond) : Type 0 where
   pub slot : ℕ
-  pub place : Place
+  pub place : SlotEntry
   pub joint : BodyJoint
-  pub at_place : slice_get s.places slot ≡ Some place
+  pub at_place : slice_get s.slot_entries slot ≡ Some place
   pub at_joint : joint_at s.joints slot ≡ Some joint
   pub is : b ≡ joint_bond (record { slot = slot; generation = place.generation }) joint
 
 pub in_joints : (s : JointSlots) (b : Bond) → IsIn b (joint_bonds s) → IsJointBond s b
 in_joints s b h =
-    let o = in_joints_from 0 s.places s.joints b h in
+    let o = in_joints_from 0 s.slot_entries s.joints b h in
     let e : o.index ≡ o.slot = let c = o.counts in omega (arith, c) in
-    record { slot = o.slot; place = o.place; joint = o.joint; at_place = sym (ap (slice_get s.places) e) ∙ o.at_place; at_joint = sym (ap (joint_at s.joints) e) ∙ o.at_joint; is = o.is }
+    record { slot = o.slot; place = o.place; joint = o.joint; at_place = sym (ap (slice_get s.slot_entries) e) ∙ o.at_place; at_joint = sym (ap (joint_at s.joints) e) ∙ o.at_joint; is = o.is }
 
 pub joints_in : (s : JointSlots) (b : Bond) → IsJointBond s b → IsIn b (joint_bonds s)
-joints_in s b h = subst (λ (v : Bond). IsIn v (joint_bonds s)) (sym h.is) (joints_in_from 0 s.places s.joints h.slot h.slot h.place h.joint h.at_place h.at_joint (omega arith))
+joints_in s b h = subst (λ (v : Bond). IsIn v (joint_bonds s)) (sym h.is) (joints_in_from 0 s.slot_entries s.joints h.slot h.slot h.place h.joint h.at_place h.at_joint (omega arith))
 
 -- ---- the bonds of contacts
 
@@ -124,27 +124,27 @@ bonds_in s contacts b h = elim h [
 abbrev pub bond_number : Bond → ℕ
 bond_number b = constraint_number b.id
 
-pub place_is : (places : List Place) (k : ℕ) (p : Place) → All IsPlace places → slice_get places k ≡ Some p → IsPlace p
-place_is places k p all at = subst IsPlace (get_or_from_slice_get places k p no_place at) (all k no_place (slice_get_within places k p at))
+pub place_is : (slot_entries : List SlotEntry) (k : ℕ) (p : SlotEntry) → All IsSlotEntry slot_entries → slice_get slot_entries k ≡ Some p → IsSlotEntry p
+place_is slot_entries k p all at = subst IsSlotEntry (get_or_from_slice_get slot_entries k p no_slot_entry at) (all k no_slot_entry (slice_get_within slot_entries k p at))
 
-joints_rise_from : (n : ℕ) (places : List Place) (joints : List (Option BodyJoint)) → All IsPlace places → Rises bond_number (joint_bonds_from n places joints)
+joints_rise_from : (n : ℕ) (slot_entries : List SlotEntry) (joints : List (Option BodyJoint)) → All IsSlotEntry slot_entries → Rises bond_number (joint_bonds_from n slot_entries joints)
 joints_rise_from n [] joints all = tt
-joints_rise_from n (p ∷ places) [] all = tt
-joints_rise_from n (p ∷ places) (o ∷ joints) all =
-    by_option o (joint_bonds_from (suc n) places joints) (λ b h. let q = in_joints_from (suc n) places joints b h in
-    let is : IsPlace p = all 0 no_place (omega arith) in
+joints_rise_from n (p ∷ slot_entries) [] all = tt
+joints_rise_from n (p ∷ slot_entries) (o ∷ joints) all =
+    by_option o (joint_bonds_from (suc n) slot_entries joints) (λ b h. let q = in_joints_from (suc n) slot_entries joints b h in
+    let is : IsSlotEntry p = all 0 no_slot_entry (omega arith) in
     let bounded = is.bounded in
     let counts = q.counts in
     let number : bond_number b ≡ q.slot * 2 ^ 32 + q.place.generation = ap bond_number q.is in
     omega (arith, bounded, counts, number))
-    (joints_rise_from (suc n) places joints (λ k d lt. all (suc k) d (omega arith)))
+    (joints_rise_from (suc n) slot_entries joints (λ k d lt. all (suc k) d (omega arith)))
   where
     by_option : (o : Option BodyJoint) (bonds : List Bond) → ((b : Bond) → IsIn b bonds → n * 2 ^ 32 + p.generation < bond_number b) → Rises bond_number bonds → Rises bond_number (bond_before (record { slot = n; generation = p.generation }) o bonds)
     by_option None bonds h r = r
     by_option (Some j) bonds h r = (h, r)
 
 pub joints_rise : (s : JointSlots) → AreJointSlots s → Rises bond_number (joint_bonds s)
-joints_rise s are = joints_rise_from 0 s.places s.joints are.places
+joints_rise s are = joints_rise_from 0 s.slot_entries s.joints are.slot_entries
 
 entries_rise : (contacts : List ContactEntry) → IsRising (map number_of contacts) → Rises number_of contacts
 entries_rise [] r = tt
@@ -169,11 +169,11 @@ contacts_rise contacts rising =
 -- a joint's number is below those of all contacts
 pub joint_below : (s : JointSlots) (b : Bond) → AreJointSlots s → IsJointBond s b → bond_number b < 2 ^ 80
 joint_below s b are h =
-    let is : IsPlace h.place = place_is s.places h.slot h.place are.places h.at_place in
+    let is : IsSlotEntry h.place = place_is s.slot_entries h.slot h.place are.slot_entries h.at_place in
     let bounded = is.bounded in
     let slots = are.matched.slots in
     let few = are.matched.few in
-    let within : h.slot < length s.places = slice_get_within s.places h.slot h.place h.at_place in
+    let within : h.slot < length s.slot_entries = slice_get_within s.slot_entries h.slot h.place h.at_place in
     let number : bond_number b ≡ h.slot * 2 ^ 32 + h.place.generation = ap bond_number h.is in
     omega (arith, bounded, slots, few, within, number)
 

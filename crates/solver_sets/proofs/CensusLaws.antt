@@ -6,7 +6,7 @@ use Rattle.std.specs.List.Sorted.{IsNonDecreasingBy}
 use Rattle.std.proofs.Math.Numerals.{add-one}
 use Rattle.std.proofs.lemmas.List.{append-nil, append_assoc}
 use Rattle.body_handles.specs.declared.handle.Handle.{Handle}
-use Rattle.body_handles.specs.declared.places.Place.{Place}
+use Rattle.body_handles.specs.declared.slot_table.SlotEntry.{SlotEntry}
 use Rattle.graph_colours.proofs.Cases.{true_or_false}
 use Rattle.graph_colours.proofs.PlaceLemmas.{is_lower, is_same, not_lower, not_same, same_from}
 use Rattle.contacts.proofs.Members.{IsIn}
@@ -83,30 +83,30 @@ named_listed c item (sets.Sleeping n) h = pairs_from_rises name (with_sleeper n 
 
 -- ---- what is in slots
 
-pub standings_step : {X : Type 0} (item : Handle → Item) (set : X → SetName) (places : List Place) (xs : List (Option X)) (i : ℕ) (p : Place) (d : Option X) → i < length places → i < length xs
-    → standings_from item set i (drop i places) (drop i xs) ≡ cons_option (standing_if item set (record { slot = i; generation = (get_or places i p).generation }) (get_or xs i d)) (standings_from item set (i + 1) (drop (i + 1) places) (drop (i + 1) xs))
-standings_step {X} item set places xs i p d lt short =
-    let h : Handle = record { slot = i; generation = (get_or places i p).generation } in
-    rw (drop_is places i p lt, drop_is xs i d short) (ap (λ (k : ℕ). cons_option (standing_if item set h (get_or xs i d)) (standings_from item set k (drop (i + 1) places) (drop (i + 1) xs))) (sym (add-one i)))
+pub standings_step : {X : Type 0} (item : Handle → Item) (set : X → SetName) (slot_entries : List SlotEntry) (xs : List (Option X)) (i : ℕ) (p : SlotEntry) (d : Option X) → i < length slot_entries → i < length xs
+    → standings_from item set i (drop i slot_entries) (drop i xs) ≡ cons_option (standing_if item set (record { slot = i; generation = (get_or slot_entries i p).generation }) (get_or xs i d)) (standings_from item set (i + 1) (drop (i + 1) slot_entries) (drop (i + 1) xs))
+standings_step {X} item set slot_entries xs i p d lt short =
+    let h : Handle = record { slot = i; generation = (get_or slot_entries i p).generation } in
+    rw (drop_is slot_entries i p lt, drop_is xs i d short) (ap (λ (k : ℕ). cons_option (standing_if item set h (get_or xs i d)) (standings_from item set k (drop (i + 1) slot_entries) (drop (i + 1) xs))) (sym (add-one i)))
 
-pub slot_listed : {X : Type 0} (item : Handle → Item) (set : X → SetName) (places : List Place) (xs : List (Option X)) (i : ℕ) (p : Place) (x : X) (c next : Census) → i < length places → i < length xs → get_or xs i (Some x) ≡ Some x
-    → next ≡ listed_in c (item (record { slot = i; generation = (get_or places i p).generation })) (set x)
-    → with_all next (standings_from item set (i + 1) (drop (i + 1) places) (drop (i + 1) xs)) ≡ with_all c (standings_from item set i (drop i places) (drop i xs))
-slot_listed {X} item set places xs i p x c next lt short here is =
-    let h : Handle = record { slot = i; generation = (get_or places i p).generation } in
-    let rest : List Standing = standings_from item set (i + 1) (drop (i + 1) places) (drop (i + 1) xs) in
+pub slot_listed : {X : Type 0} (item : Handle → Item) (set : X → SetName) (slot_entries : List SlotEntry) (xs : List (Option X)) (i : ℕ) (p : SlotEntry) (x : X) (c next : Census) → i < length slot_entries → i < length xs → get_or xs i (Some x) ≡ Some x
+    → next ≡ listed_in c (item (record { slot = i; generation = (get_or slot_entries i p).generation })) (set x)
+    → with_all next (standings_from item set (i + 1) (drop (i + 1) slot_entries) (drop (i + 1) xs)) ≡ with_all c (standings_from item set i (drop i slot_entries) (drop i xs))
+slot_listed {X} item set slot_entries xs i p x c next lt short here is =
+    let h : Handle = record { slot = i; generation = (get_or slot_entries i p).generation } in
+    let rest : List Standing = standings_from item set (i + 1) (drop (i + 1) slot_entries) (drop (i + 1) xs) in
     ap (λ (k : Census). with_all k rest) is
-    ∙ sym (ap (with_all c) (standings_step item set places xs i p (Some x) lt short ∙ ap (λ (o : Option X). cons_option (standing_if item set h o) rest) here))
+    ∙ sym (ap (with_all c) (standings_step item set slot_entries xs i p (Some x) lt short ∙ ap (λ (o : Option X). cons_option (standing_if item set h o) rest) here))
 
-pub slot_passed : {X : Type 0} (item : Handle → Item) (set : X → SetName) (places : List Place) (xs : List (Option X)) (i : ℕ) (p : Place) (c : Census) → i < length places → i < length xs → get_or xs i None ≡ None
-    → with_all c (standings_from item set (i + 1) (drop (i + 1) places) (drop (i + 1) xs)) ≡ with_all c (standings_from item set i (drop i places) (drop i xs))
-slot_passed {X} item set places xs i p c lt short here =
-    let h : Handle = record { slot = i; generation = (get_or places i p).generation } in
-    let rest : List Standing = standings_from item set (i + 1) (drop (i + 1) places) (drop (i + 1) xs) in
-    sym (ap (with_all c) (standings_step item set places xs i p None lt short ∙ ap (λ (o : Option X). cons_option (standing_if item set h o) rest) here))
+pub slot_passed : {X : Type 0} (item : Handle → Item) (set : X → SetName) (slot_entries : List SlotEntry) (xs : List (Option X)) (i : ℕ) (p : SlotEntry) (c : Census) → i < length slot_entries → i < length xs → get_or xs i None ≡ None
+    → with_all c (standings_from item set (i + 1) (drop (i + 1) slot_entries) (drop (i + 1) xs)) ≡ with_all c (standings_from item set i (drop i slot_entries) (drop i xs))
+slot_passed {X} item set slot_entries xs i p c lt short here =
+    let h : Handle = record { slot = i; generation = (get_or slot_entries i p).generation } in
+    let rest : List Standing = standings_from item set (i + 1) (drop (i + 1) slot_entries) (drop (i + 1) xs) in
+    sym (ap (with_all c) (standings_step item set slot_entries xs i p None lt short ∙ ap (λ (o : Option X). cons_option (standing_if item set h o) rest) here))
 
-pub slots_end : {X : Type 0} (item : Handle → Item) (set : X → SetName) (places : List Place) (xs : List (Option X)) (i : ℕ) (c all : Census) → length places ≤ i → with_all c (standings_from item set i (drop i places) (drop i xs)) ≡ all → c ≡ all
-slots_end item set places xs i c all le e = ap (λ (ps : List Place). with_all c (standings_from item set i ps (drop i xs))) (sym (drop_past places i le)) ∙ e
+pub slots_end : {X : Type 0} (item : Handle → Item) (set : X → SetName) (slot_entries : List SlotEntry) (xs : List (Option X)) (i : ℕ) (c all : Census) → length slot_entries ≤ i → with_all c (standings_from item set i (drop i slot_entries) (drop i xs)) ≡ all → c ≡ all
+slots_end item set slot_entries xs i c all le e = ap (λ (ps : List SlotEntry). with_all c (standings_from item set i ps (drop i xs))) (sym (drop_past slot_entries i le)) ∙ e
 
 -- ---- one item more
 

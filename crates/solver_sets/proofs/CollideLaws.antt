@@ -5,7 +5,7 @@ use Rattle.std.proofs.lemmas.List.{length-map}
 use Rattle.std.proofs.lemmas.List.Elements.{All-contains}
 use Rattle.std.proofs.lemmas.Option.{none-some, same_Some}
 use Rattle.graph_colours.specs.declared.member.Member.{Member}
-use Rattle.graph_colours.specs.Members.{has_id}
+use Rattle.graph_colours.specs.FoundMembers.{has_id}
 use Rattle.graph_colours.proofs.Cases.{by_test, true_or_false, not_true}
 use Rattle.graph_colours.proofs.PlaceLemmas.{is_same, not_same, same_from}
 use Rattle.contacts_base.specs.declared.key.ShapeId.{ShapeId}
@@ -25,12 +25,12 @@ use Rattle.sleep_wake.specs.declared.change.Change.TheVariants.{Begin, End}
 use Rattle.sleep_wake.specs.Changes.{begins_inserted, change_inserted}
 use Rattle.sleep_wake.specs.ChangeLists.{begin_count, changes_between, only_in, AreChanges}
 use Rattle.sleep_wake.proofs.ListLemmas.{has_from, rising_filter}
-use Rattle.sleep_wake.proofs.TurnLemmas.{changes_fold}
+use Rattle.sleep_wake.proofs.ChangeLemmas.{changes_fold}
 use Rattle.sleep_wake.proofs.BetweenLemmas.{changes_are}
 use Rattle.plain_world.specs.declared.body.Body.{Body}
 use Rattle.solver_sets.specs.Laws as laws
 use Rattle.solver_sets.specs.Alike.{AreJointSlots}
-use Rattle.solver_sets.specs.Ties.{Bond, IsNamed, IsNamedConstraint, IsNamedHandle, JointSlots, bonds_of, contact_bond, key_changes, key_ties, tie_of, ties_of}
+use Rattle.solver_sets.specs.Ties.{Bond, IsKeyWithin, IsConstraintWithin, IsHandleWithin, JointSlots, bonds_of, contact_bond, key_changes, key_ties, tie_of, ties_of}
 use Rattle.solver_sets.proofs.BondLaws.{bond_number, bonds_in, contact_above, in_bonds, joint_below, joints_in, joints_rise, rises_from_keys}
 use Rattle.solver_sets.proofs.ListLaws.{Rises, filter_in, in_filter, in_map, in_mapped, length_map, map_in, mapped_in, only_one, pairs_from_rises, rises_map, rises_mapped, same_members}
 use Rattle.solver_sets.proofs.MemberLaws.{no_id}
@@ -41,7 +41,7 @@ use Rattle.solver_sets.proofs.TieLaws.{in_ties, tie_is, tie_number, ties_have_la
 same_id : (a b : ShapeId) → a.slot ≡ b.slot → a.index ≡ b.index → a ≡ b
 same_id a b p q = ap₂ (λ (slot index : ℕ). record { slot = slot; index = index }) p q
 
-pub same_key : (a b : ContactKey) → IsNamed a → IsNamed b → key_number a ≡ key_number b → a ≡ b
+pub same_key : (a b : ContactKey) → IsKeyWithin a → IsKeyWithin b → key_number a ≡ key_number b → a ≡ b
 same_key a b p q e =
     let i = p.first in
     let j = p.second in
@@ -53,7 +53,7 @@ same_key a b p q e =
     (same_id a.first b.first (omega (arith, i, j, k, x, y, z, e)) (omega (arith, i, j, k, x, y, z, e)))
     (same_id a.second b.second (omega (arith, i, j, k, x, y, z, e)) (omega (arith, i, j, k, x, y, z, e)))
 
-same_handle : (a b : Handle) → IsNamedHandle a → IsNamedHandle b → joint_number a ≡ joint_number b → a ≡ b
+same_handle : (a b : Handle) → IsHandleWithin a → IsHandleWithin b → joint_number a ≡ joint_number b → a ≡ b
 same_handle a b p q e =
     let i = p.slot in
     let j = p.generation in
@@ -61,7 +61,7 @@ same_handle a b p q e =
     let y = q.generation in
     ap₂ (λ (slot generation : ℕ). record { slot = slot; generation = generation }) (omega (arith, i, j, x, y, e)) (omega (arith, i, j, x, y, e))
 
-pub same_constraint : (a b : Constraint) → IsNamedConstraint a → IsNamedConstraint b → constraint_number a ≡ constraint_number b → a ≡ b
+pub same_constraint : (a b : Constraint) → IsConstraintWithin a → IsConstraintWithin b → constraint_number a ≡ constraint_number b → a ≡ b
 same_constraint (Joint h) (Joint k) p q e = ap Joint (same_handle h k p q e)
 same_constraint (Joint h) (Contact key) p q e = let i = p.slot in let j = p.generation in absurd (omega (arith, i, j, e))
 same_constraint (Contact key) (Joint h) p q e = let i = q.slot in let j = q.generation in absurd (omega (arith, i, j, e))
@@ -130,11 +130,11 @@ key_ties_rise bodies keys r = ties_rise_in bodies (map contact_bond keys) (rises
 
 -- ---- the ties that begin
 
-named_in : (es : List ContactEntry) (e : ContactEntry) → All (λ (e : ContactEntry). IsNamed e.key) es → IsIn e es → IsNamed e.key
-named_in es e all h = All-contains (λ (e : ContactEntry). IsNamed e.key) es e all (contains_from_in es e h)
+named_in : (es : List ContactEntry) (e : ContactEntry) → All (λ (e : ContactEntry). IsKeyWithin e.key) es → IsIn e es → IsKeyWithin e.key
+named_in es e all h = All-contains (λ (e : ContactEntry). IsKeyWithin e.key) es e all (contains_from_in es e h)
 
 -- a tie that isn't among the others is one of a contact that begins
-begins_tie : (bodies : List (Option Body)) (s : JointSlots) (old new : List ContactEntry) (m : Member Constraint) → All (λ (e : ContactEntry). IsNamed e.key) old → All (λ (e : ContactEntry). IsNamed e.key) new
+begins_tie : (bodies : List (Option Body)) (s : JointSlots) (old new : List ContactEntry) (m : Member Constraint) → All (λ (e : ContactEntry). IsKeyWithin e.key) old → All (λ (e : ContactEntry). IsKeyWithin e.key) new
     → IsIn m (ties_of bodies s new) → has_id constraint_number m.id (ties_of bodies s old) ≡ false → IsIn m (key_ties bodies (keys_touching_only_in old new))
 begins_tie bodies s old new m all every h fresh =
     let o = in_ties bodies s new m h in
@@ -174,7 +174,7 @@ tie_begins bodies s old new m are rising h =
           ]),
     )
 
-only_ties : (bodies : List (Option Body)) (s : JointSlots) (old new : List ContactEntry) → AreJointSlots s → AreKeysRising old → AreKeysRising new → All (λ (e : ContactEntry). IsNamed e.key) old → All (λ (e : ContactEntry). IsNamed e.key) new
+only_ties : (bodies : List (Option Body)) (s : JointSlots) (old new : List ContactEntry) → AreJointSlots s → AreKeysRising old → AreKeysRising new → All (λ (e : ContactEntry). IsKeyWithin e.key) old → All (λ (e : ContactEntry). IsKeyWithin e.key) new
     → key_ties bodies (keys_touching_only_in old new) ≡ only_in constraint_number (ties_of bodies s old) (ties_of bodies s new)
 only_ties bodies s old new are r q all every =
     let before : List (Member Constraint) = ties_of bodies s old in
@@ -186,15 +186,15 @@ only_ties bodies s old new are r q all every =
     (λ m h. let o = tie_begins bodies s old new m are r h in filter_in fresh after m o.0 (ap not o.1))
     (λ m h. let o = in_filter fresh after m h in begins_tie bodies s old new m all every o.0 (not_true (has_id constraint_number m.id before) o.1))
 
-pub keys_turn : laws.KeysTurn
+pub keys_change : laws.KeysChange
 unfolding key_changes
-keys_turn bodies s old new are r q all every =
+keys_change bodies s old new are r q all every =
     ap₂ (λ (begins ends : List (Member Constraint)). begins_inserted constraint_number begins (map (λ m. End m) ends))
     (only_ties bodies s old new are r q all every) (only_ties bodies s new old are q r every all)
 
 -- ---- the same names
 
-bonds_same : (s : JointSlots) (old new : List ContactEntry) (a b : Bond) → AreJointSlots s → All (λ (e : ContactEntry). IsNamed e.key) old → All (λ (e : ContactEntry). IsNamed e.key) new → IsIn a (bonds_of s old) → IsIn b (bonds_of s new) → bond_number a ≡ bond_number b → a ≡ b
+bonds_same : (s : JointSlots) (old new : List ContactEntry) (a b : Bond) → AreJointSlots s → All (λ (e : ContactEntry). IsKeyWithin e.key) old → All (λ (e : ContactEntry). IsKeyWithin e.key) new → IsIn a (bonds_of s old) → IsIn b (bonds_of s new) → bond_number a ≡ bond_number b → a ≡ b
 bonds_same s old new a b are all every h k e = elim (in_bonds s old a h) [
   | inl p ↦ elim (in_bonds s new b k) [
     | inl q ↦ only_one bond_number _ a b (joints_rise s are) (joints_in s a p) (joints_in s b q) e
@@ -210,7 +210,7 @@ bonds_same s old new a b are all every h k e = elim (in_bonds s old a h) [
   ]
 ]
 
-pub same_names : laws.SameNamesSameTies
+pub same_names : laws.SameIdsSameTies
 same_names bodies s old new x y are all every h k e =
     let o = in_ties bodies s old x (in_from_contains (ties_of bodies s old) x h) in
     let p = in_ties bodies s new y (in_from_contains (ties_of bodies s new) y k) in
@@ -221,11 +221,11 @@ same_names bodies s old new x y are all every h k e =
 
 -- ---- they may turn
 
-pub keys_can_turn : laws.KeysCanTurn
-keys_can_turn bodies s old new labels are r q all every tied =
+pub keys_can_change : laws.KeysCanChange
+keys_can_change bodies s old new labels are r q all every tied =
     let before : List (Member Constraint) = ties_of bodies s old in
     let after : List (Member Constraint) = ties_of bodies s new in
-    subst (λ (changes : List (Change Constraint)). AreChanges constraint_number labels before changes) (sym (keys_turn bodies s old new are r q all every))
+    subst (λ (changes : List (Change Constraint)). AreChanges constraint_number labels before changes) (sym (keys_change bodies s old new are r q all every))
     (changes_fold constraint_number labels before (changes_between constraint_number before after)
     (changes_are constraint_number labels before after (ties_rise bodies s old are r) (ties_rise bodies s new are q) (λ m h. ties_have_labels bodies s new labels m tied h)))
 

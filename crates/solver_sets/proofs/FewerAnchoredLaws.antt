@@ -10,13 +10,13 @@ use Rattle.graph_colours.specs.Movers.{has_mover}
 use Rattle.islands.proofs.JoinLemmas.{contains_head, contains_tail}
 use Rattle.sleep_wake.specs.Acting.{Acting}
 use Rattle.sleep_wake.specs.Bodies.{mover_gone}
-use Rattle.sleep_wake.specs.Changes.{begun, after_change, each_begun, each_ended, ended, turned}
+use Rattle.sleep_wake.specs.Changes.{begun, after_change, each_begun, each_ended, ended, after_changes}
 use Rattle.sleep_wake.specs.Waking.{movers_woken}
 use Rattle.sleep_wake.specs.declared.change.Change.{Change}
 use Rattle.sleep_wake.specs.declared.change.Change.TheVariants.{Begin, End}
 use Rattle.sleep_wake.proofs.ListLemmas.{filter_in, inserted_in, without_in}
 use Rattle.sleep_wake.proofs.SizeLemmas.{both_ties}
-use Rattle.solver_sets.specs.Anchors.{Tell, begins_of, is_anchored}
+use Rattle.solver_sets.specs.Anchors.{AreComplete, begins_of, is_anchored}
 
 abbrev pub Ties : Type 0
 Ties = List (Member Constraint)
@@ -25,8 +25,8 @@ Ties = List (Member Constraint)
 abbrev pub AreFewer : Ties → Ties → Type 0
 AreFewer old new = (m : Member Constraint) → Contains new m → (slot : ℕ) → is_anchored slot m ≡ true → Contains old m
 
-pub tell_fewer : (holds : Bool) (lists : List (List ℕ)) (old new : Ties) → AreFewer old new → Tell holds lists old → Tell holds lists new
-tell_fewer holds lists old new fewer tell q m h slot on = tell q m (fewer m h slot on) slot on
+pub complete_with_fewer : (holds : Bool) (lists : List (List ℕ)) (old new : Ties) → AreFewer old new → AreComplete holds lists old → AreComplete holds lists new
+complete_with_fewer holds lists old new fewer tell q m h slot on = tell q m (fewer m h slot on) slot on
 
 pub fewer_same : (old new : Ties) → new ≡ old → AreFewer old new
 fewer_same old new e m h slot on = subst (λ (l : Ties). Contains l m) e h
@@ -99,26 +99,26 @@ fewer_begun ms s none x h slot on = elim (each_begun_in ms s x h) [
 
 -- ---- changes, each at its turn
 
-turned_in : (changes : List (Change Constraint)) (s : Acting Constraint) (x : Member Constraint) → Contains (turned constraint_number changes s).ties x → Contains s.ties x ⊎ Contains (begins_of changes) x
-turned_in [] s x h = inl h
-turned_in (Begin m ∷ changes) s x h =
+changed_in : (changes : List (Change Constraint)) (s : Acting Constraint) (x : Member Constraint) → Contains (after_changes constraint_number changes s).ties x → Contains s.ties x ⊎ Contains (begins_of changes) x
+changed_in [] s x h = inl h
+changed_in (Begin m ∷ changes) s x h =
     let now : Acting Constraint = movers_woken constraint_number m.movers s in
-    elim (turned_in changes (after_change constraint_number (Begin m) s) x h) [
+    elim (changed_in changes (after_change constraint_number (Begin m) s) x h) [
       | inl k ↦ elim (begun_in m now x k) [
         | inl e ↦ inr (subst (λ (v : Member Constraint). Contains (m ∷ begins_of changes) v) e (contains_head m (begins_of changes)))
         | inr q ↦ inl (subst (λ (l : Ties). Contains l x) (both_ties constraint_number m.movers s) q)
       ]
       | inr k ↦ inr (contains_tail m (begins_of changes) x k)
     ]
-turned_in (End m ∷ changes) s x h =
+changed_in (End m ∷ changes) s x h =
     let now : Acting Constraint = movers_woken constraint_number m.movers s in
-    elim (turned_in changes (after_change constraint_number (End m) s) x h) [
+    elim (changed_in changes (after_change constraint_number (End m) s) x h) [
       | inl k ↦ inl (subst (λ (l : Ties). Contains l x) (both_ties constraint_number m.movers s) (ended_in m now x k))
       | inr k ↦ inr k
     ]
 
-pub fewer_turned : (changes : List (Change Constraint)) (s : Acting Constraint) → AreFewer (s.ties ++ begins_of changes) (turned constraint_number changes s).ties
-fewer_turned changes s x h slot on = elim (turned_in changes s x h) [
+pub fewer_changed : (changes : List (Change Constraint)) (s : Acting Constraint) → AreFewer (s.ties ++ begins_of changes) (after_changes constraint_number changes s).ties
+fewer_changed changes s x h slot on = elim (changed_in changes s x h) [
   | inl k ↦ Contains-append_left s.ties (begins_of changes) x k
   | inr k ↦ Contains-append_right s.ties (begins_of changes) x k
 ]

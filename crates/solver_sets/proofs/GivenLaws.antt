@@ -5,7 +5,7 @@ use Rattle.std.specs.Option.{option_to_list}
 use Rattle.std.proofs.lemmas.List.{append-nil, append_assoc}
 use Rattle.std.proofs.lemmas.List.Elements.{filter_map-append}
 use Rattle.body_handles.specs.declared.handle.Handle.{Handle}
-use Rattle.body_handles.specs.declared.places.Place.{Place}
+use Rattle.body_handles.specs.declared.slot_table.SlotEntry.{SlotEntry}
 use Rattle.graph_colours.specs.declared.member.Member.{Member}
 use Rattle.contacts.specs.declared.constraint.Constraint.{Constraint}
 use Rattle.contacts.specs.declared.constraint.Constraint.TheVariants.{Joint, Contact}
@@ -20,35 +20,35 @@ use Rattle.solver_sets.proofs.ListingLaws.{cons_is, drop_is, drop_past}
 
 -- ---- ties of joints
 
-pub bond_ties_from : List (Option Body) → ℕ → List Place → List (Option BodyJoint) → List (Member Constraint)
-bond_ties_from bodies n places joints = ties_in bodies (joint_bonds_from n places joints)
+pub bond_ties_from : List (Option Body) → ℕ → List SlotEntry → List (Option BodyJoint) → List (Member Constraint)
+bond_ties_from bodies n slot_entries joints = ties_in bodies (joint_bonds_from n slot_entries joints)
 
 tie_before : (bodies : List (Option Body)) (h : Handle) (o : Option BodyJoint) (bonds : List Bond) → ties_in bodies (bond_before h o bonds) ≡ option_to_list (joint_tie_in bodies h o) ++ ties_in bodies bonds
 tie_before bodies h None bonds = refl
 tie_before bodies h (Some j) bonds = cons_is (tie_of bodies (joint_bond h j)) (ties_in bodies bonds)
 
-pub bond_tie_step : (bodies : List (Option Body)) (i : ℕ) (places : List Place) (joints : List (Option BodyJoint)) (p : Place) (d o : Option BodyJoint) (now next : List (Member Constraint)) (tie : Option (Member Constraint))
-    → i < length places → i < length joints → next ≡ now ++ option_to_list tie → o ≡ get_or joints i d → tie ≡ joint_tie_in bodies (record { slot = i; generation = (get_or places i p).generation }) o
-    → next ++ bond_ties_from bodies (i + 1) (drop (i + 1) places) (drop (i + 1) joints) ≡ now ++ bond_ties_from bodies i (drop i places) (drop i joints)
+pub bond_tie_step : (bodies : List (Option Body)) (i : ℕ) (slot_entries : List SlotEntry) (joints : List (Option BodyJoint)) (p : SlotEntry) (d o : Option BodyJoint) (now next : List (Member Constraint)) (tie : Option (Member Constraint))
+    → i < length slot_entries → i < length joints → next ≡ now ++ option_to_list tie → o ≡ get_or joints i d → tie ≡ joint_tie_in bodies (record { slot = i; generation = (get_or slot_entries i p).generation }) o
+    → next ++ bond_ties_from bodies (i + 1) (drop (i + 1) slot_entries) (drop (i + 1) joints) ≡ now ++ bond_ties_from bodies i (drop i slot_entries) (drop i joints)
 unfolding bond_ties_from
-bond_tie_step bodies i places joints p d o now next tie lt short pushed at is =
-    let later : List Bond = joint_bonds_from (i + 1) (drop (i + 1) places) (drop (i + 1) joints) in
+bond_tie_step bodies i slot_entries joints p d o now next tie lt short pushed at is =
+    let later : List Bond = joint_bonds_from (i + 1) (drop (i + 1) slot_entries) (drop (i + 1) joints) in
     let rest : List (Member Constraint) = ties_in bodies later in
-    let h : Handle = record { slot = i; generation = (get_or places i p).generation } in
+    let h : Handle = record { slot = i; generation = (get_or slot_entries i p).generation } in
     let one : List (Member Constraint) = option_to_list (joint_tie_in bodies h (get_or joints i d)) in
-    let split : joint_bonds_from i (drop i places) (drop i joints) ≡ bond_before h (get_or joints i d) later =
-    rw (drop_is places i p lt, drop_is joints i d short) (ap (λ (k : ℕ). bond_before h (get_or joints i d) (joint_bonds_from k (drop (i + 1) places) (drop (i + 1) joints))) (sym (add-one i))) in
-    let here : ties_in bodies (joint_bonds_from i (drop i places) (drop i joints)) ≡ one ++ rest = ap (ties_in bodies) split ∙ tie_before bodies h (get_or joints i d) later in
+    let split : joint_bonds_from i (drop i slot_entries) (drop i joints) ≡ bond_before h (get_or joints i d) later =
+    rw (drop_is slot_entries i p lt, drop_is joints i d short) (ap (λ (k : ℕ). bond_before h (get_or joints i d) (joint_bonds_from k (drop (i + 1) slot_entries) (drop (i + 1) joints))) (sym (add-one i))) in
+    let here : ties_in bodies (joint_bonds_from i (drop i slot_entries) (drop i joints)) ≡ one ++ rest = ap (ties_in bodies) split ∙ tie_before bodies h (get_or joints i d) later in
     ap (λ (l : List (Member Constraint)). l ++ rest) (pushed ∙ ap (λ (t : Option (Member Constraint)). now ++ option_to_list t) (is ∙ ap (joint_tie_in bodies h) at))
     ∙ append_assoc now one rest
     ∙ ap (λ (l : List (Member Constraint)). now ++ l) (sym here)
 
-pub bond_ties_end : (bodies : List (Option Body)) (i : ℕ) (places : List Place) (joints : List (Option BodyJoint)) (now : List (Member Constraint)) → length places ≤ i
-    → now ++ bond_ties_from bodies i (drop i places) (drop i joints) ≡ bond_ties_from bodies 0 places joints → now ≡ ties_in bodies (joint_bonds (slots_of places joints))
+pub bond_ties_end : (bodies : List (Option Body)) (i : ℕ) (slot_entries : List SlotEntry) (joints : List (Option BodyJoint)) (now : List (Member Constraint)) → length slot_entries ≤ i
+    → now ++ bond_ties_from bodies i (drop i slot_entries) (drop i joints) ≡ bond_ties_from bodies 0 slot_entries joints → now ≡ ties_in bodies (joint_bonds (slots_of slot_entries joints))
 unfolding bond_ties_from
-bond_ties_end bodies i places joints now le e =
+bond_ties_end bodies i slot_entries joints now le e =
     sym (append-nil now)
-    ∙ ap (λ (ps : List Place). now ++ ties_in bodies (joint_bonds_from i ps (drop i joints))) (sym (drop_past places i le))
+    ∙ ap (λ (ps : List SlotEntry). now ++ ties_in bodies (joint_bonds_from i ps (drop i joints))) (sym (drop_past slot_entries i le))
     ∙ e
 
 -- ---- ties of contacts

@@ -3,14 +3,15 @@ use Rattle.std.proofs.Common.{◌≡◌, ◌≢◌, ◌⊎◌, ℕ, ◌+◌, ◌
 use Rattle.std.proofs.lemmas.Bool.{cases_eq}
 use Rattle.std.proofs.lemmas.Option.{none-some, same_Some, slice_get_within}
 use Rattle.body_handles.specs.declared.handle.Handle.{Handle}
-use Rattle.body_handles.specs.declared.places.Place.{Place}
-use Rattle.body_handles.specs.declared.places.TheConstants.{MAX_SLOTS}
-use Rattle.body_handles.specs.Places.{generation_at, generation_of, is_live, is_live_at, lowest, places_without, IsLive, IsPlace}
+use Rattle.body_handles.specs.declared.slot_table.SlotEntry.{SlotEntry}
+use Rattle.body_handles.specs.declared.slot_table.TheConstants.{MAX_SLOTS}
+use Rattle.body_handles.specs.SlotEntries.{generation_at, generation_of, is_live, is_live_at, lowest, slot_entries_without, IsLive, IsSlotEntry}
 use Rattle.body_handles.proofs.LowestLemmas.{lowest-le-length}
-use Rattle.body_handles.proofs.TableLemmas.{IsPlace-given, IsTable-given, IsTable-taken}
+use Rattle.body_handles.proofs.TableLemmas.{IsSlotEntry-given, IsTable-given, IsTable-taken}
 use Rattle.graph_colours.specs.declared.member.Member.{Member}
 use Rattle.graph_colours.specs.declared.member.Movers.{Movers}
-use Rattle.graph_colours.specs.Members.{AreRising, has_id, inserted, without_member}
+use Rattle.graph_colours.specs.Members.{AreRising, inserted, without_member}
+use Rattle.graph_colours.specs.FoundMembers.{has_id}
 use Rattle.graph_colours.proofs.Cases.{true_or_false}
 use Rattle.graph_colours.proofs.ListLemmas.{rising_inserted, rising_without}
 use Rattle.graph_colours.proofs.PlaceLemmas.{is_same, same_from}
@@ -22,7 +23,7 @@ use Rattle.contacts.proofs.Members.{IsIn, contains_from_in}
 use Rattle.plain_world.specs.declared.body.Body.{Body}
 use Rattle.plain_world.specs.declared.joint.BodyJoint.{BodyJoint}
 use Rattle.plain_world.specs.Joints.{is_end_in, joint_at}
-use Rattle.plain_world.specs.Slots.{AreMatched, is_taken_place, item_in, with_item}
+use Rattle.plain_world.specs.Slots.{AreMatched, is_taken_entry, item_in, with_item}
 use Rattle.solver_sets.specs.Joining.{handle_at, joined_with, unjoined}
 use Rattle.solver_sets.specs.Laws as laws
 use Rattle.solver_sets.specs.Alike.{AreJointSlots}
@@ -35,27 +36,27 @@ use Rattle.solver_sets.proofs.TieLaws.{in_ties, is_tie, tie_is, ties_in_of, ties
 
 -- ---- which handles are live
 
-live_place : (n g : ℕ) (live : Bool) → (live && (n == g)) ≡ true → ◌≡◌ {A = Option Place} (Some (record { generation = n; live = live })) (Some (record { generation = g; live = true }))
+live_place : (n g : ℕ) (live : Bool) → (live && (n == g)) ≡ true → ◌≡◌ {A = Option SlotEntry} (Some (record { generation = n; live = live })) (Some (record { generation = g; live = true }))
 live_place n g true e = ap (λ (k : ℕ). Some (record { generation = k; live = true })) (same_from n g e)
 live_place n g false e = absurd (true_or_false false e refl)
 
-pub live_at : (o : Option Place) (g : ℕ) → is_live_at o g ≡ true → o ≡ Some (record { generation = g; live = true })
+pub live_at : (o : Option SlotEntry) (g : ℕ) → is_live_at o g ≡ true → o ≡ Some (record { generation = g; live = true })
 live_at None g e = absurd (true_or_false false e refl)
 live_at (Some p) g e = live_place p.generation g p.live e
 
-taken_live : (o : Option Place) → is_taken_place o ≡ true → is_live_at o (generation_of o) ≡ true
+taken_live : (o : Option SlotEntry) → is_taken_entry o ≡ true → is_live_at o (generation_of o) ≡ true
 taken_live None e = absurd (true_or_false false e refl)
 taken_live (Some p) e = rw (e, is_same p.generation p.generation refl) refl
 
 -- ---- a joint that goes
 
-pub matched_unjoined : (places : List Place) (joints : List (Option BodyJoint)) (h : Handle) → AreMatched places joints → AreMatched (places_without places h) (slice_set joints h.slot None)
-matched_unjoined places joints h m = AreMatched-set places joints h.slot (record { generation = h.generation + 1; live = false }) None refl m
+pub matched_unjoined : (slot_entries : List SlotEntry) (joints : List (Option BodyJoint)) (h : Handle) → AreMatched slot_entries joints → AreMatched (slot_entries_without slot_entries h) (slice_set joints h.slot None)
+matched_unjoined slot_entries joints h m = AreMatched-set slot_entries joints h.slot (record { generation = h.generation + 1; live = false }) None refl m
 
 -- what stands in a taken slot has its handle
-pub handle_live : (places : List Place) (joints : List (Option BodyJoint)) (body slot : ℕ) → AreMatched places joints → is_end_in body (joint_at joints slot) ≡ true → is_live places (handle_at places slot) ≡ true
-handle_live places joints body slot m end =
-    taken_live (slice_get places slot) (sym (m.taken slot) ∙ some_end (joint_at joints slot) end)
+pub handle_live : (slot_entries : List SlotEntry) (joints : List (Option BodyJoint)) (body slot : ℕ) → AreMatched slot_entries joints → is_end_in body (joint_at joints slot) ≡ true → is_live slot_entries (handle_at slot_entries slot) ≡ true
+handle_live slot_entries joints body slot m end =
+    taken_live (slice_get slot_entries slot) (sym (m.taken slot) ∙ some_end (joint_at joints slot) end)
   where
     some_end : (o : Option BodyJoint) → is_end_in body o ≡ true → is_some o ≡ true
     some_end None e = e
@@ -65,70 +66,70 @@ handle_live places joints body slot m end =
 
 -- what the slots hold once a joint is made: the joint in its own slot, and what was there in each other
 pub record AreJoined (old new : JointSlots) (h : Handle) (j : BodyJoint) : Type 0 where
-  pub own_place : slice_get new.places h.slot ≡ Some (record { generation = h.generation; live = true })
+  pub own_place : slice_get new.slot_entries h.slot ≡ Some (record { generation = h.generation; live = true })
   pub own : joint_at new.joints h.slot ≡ Some j
   pub free : joint_at old.joints h.slot ≡ None
-  pub places : (k : ℕ) → k ≢ h.slot → slice_get new.places k ≡ slice_get old.places k
+  pub slot_entries : (k : ℕ) → k ≢ h.slot → slice_get new.slot_entries k ≡ slice_get old.slot_entries k
   pub joints : (k : ℕ) → k ≢ h.slot → joint_at new.joints k ≡ joint_at old.joints k
 
-pub free_joint : (places : List Place) (joints : List (Option BodyJoint)) → AreMatched places joints → joint_at joints (lowest places) ≡ None
-free_joint places joints m = none_if (joint_at joints (lowest places)) (m.taken (lowest places) ∙ lowest-free places)
+pub free_joint : (slot_entries : List SlotEntry) (joints : List (Option BodyJoint)) → AreMatched slot_entries joints → joint_at joints (lowest slot_entries) ≡ None
+free_joint slot_entries joints m = none_if (joint_at joints (lowest slot_entries)) (m.taken (lowest slot_entries) ∙ lowest-free slot_entries)
 
-pub are_joined : (js : JointSlots) (j : BodyJoint) → AreMatched js.places js.joints → AreJoined js (joined_with j js) (handle_at js.places (lowest js.places)) j
+pub are_joined : (js : JointSlots) (j : BodyJoint) → AreMatched js.slot_entries js.joints → AreJoined js (joined_with j js) (handle_at js.slot_entries (lowest js.slot_entries)) j
 are_joined js j m =
-    let slot : ℕ = lowest js.places in
-    let least : slot ≤ length js.places = lowest-le-length js.places in
-    let long : length js.places ≡ length js.joints = m.slots in
-    let below_places : nat_lt slot (length js.places) ≡ true → slot < length js.places = λ q. ltb-true slot (length js.places) q in
-    let at_places : nat_lt slot (length js.places) ≡ false → slot ≡ length js.places = λ q. let past = ltb-false slot (length js.places) q in omega (arith, least, past) in
+    let slot : ℕ = lowest js.slot_entries in
+    let least : slot ≤ length js.slot_entries = lowest-le-length js.slot_entries in
+    let long : length js.slot_entries ≡ length js.joints = m.slots in
+    let below_places : nat_lt slot (length js.slot_entries) ≡ true → slot < length js.slot_entries = λ q. ltb-true slot (length js.slot_entries) q in
+    let at_places : nat_lt slot (length js.slot_entries) ≡ false → slot ≡ length js.slot_entries = λ q. let past = ltb-false slot (length js.slot_entries) q in omega (arith, least, past) in
     let below_joints : nat_lt slot (length js.joints) ≡ true → slot < length js.joints = λ q. ltb-true slot (length js.joints) q in
     let at_joints : nat_lt slot (length js.joints) ≡ false → slot ≡ length js.joints = λ q. let past = ltb-false slot (length js.joints) q in omega (arith, least, long, past) in
     record {
-      own_place = slice_get-with_own (nat_lt slot (length js.places)) js.places slot (record { generation = generation_at js.places slot; live = true }) below_places at_places;
+      own_place = slice_get-with_own (nat_lt slot (length js.slot_entries)) js.slot_entries slot (record { generation = generation_at js.slot_entries slot; live = true }) below_places at_places;
       own = ap item_in (slice_get-with_own (nat_lt slot (length js.joints)) js.joints slot (Some j) below_joints at_joints);
-      free = free_joint js.places js.joints m;
-      places = λ k far. slice_get-with (nat_lt slot (length js.places)) js.places slot k (record { generation = generation_at js.places slot; live = true }) at_places far;
+      free = free_joint js.slot_entries js.joints m;
+      slot_entries = λ k far. slice_get-with (nat_lt slot (length js.slot_entries)) js.slot_entries slot k (record { generation = generation_at js.slot_entries slot; live = true }) at_places far;
       joints = λ k far. ap item_in (slice_get-with (nat_lt slot (length js.joints)) js.joints slot k (Some j) at_joints far);
     }
 
-matched_joined : (t : Bool) (places : List Place) (joints : List (Option BodyJoint)) (slot : ℕ) (p : Place) (j : BodyJoint) → p.live ≡ true → (t ≡ false → length joints < MAX_SLOTS) → AreMatched places joints
-    → AreMatched (cond t (slice_set places slot p) (places ++ p ∷ [])) (cond t (slice_set joints slot (Some j)) (joints ++ Some j ∷ []))
-matched_joined true places joints slot p j live few m = AreMatched-set places joints slot p (Some j) (sym live) m
-matched_joined false places joints slot p j live few m = AreMatched-push places joints p (Some j) (sym live) (few refl) m
+matched_joined : (t : Bool) (slot_entries : List SlotEntry) (joints : List (Option BodyJoint)) (slot : ℕ) (p : SlotEntry) (j : BodyJoint) → p.live ≡ true → (t ≡ false → length joints < MAX_SLOTS) → AreMatched slot_entries joints
+    → AreMatched (cond t (slice_set slot_entries slot p) (slot_entries ++ p ∷ [])) (cond t (slice_set joints slot (Some j)) (joints ++ Some j ∷ []))
+matched_joined true slot_entries joints slot p j live few m = AreMatched-set slot_entries joints slot p (Some j) (sym live) m
+matched_joined false slot_entries joints slot p j live few m = AreMatched-push slot_entries joints p (Some j) (sym live) (few refl) m
 
-pub matched_with : (js : JointSlots) (j : BodyJoint) → lowest js.places < MAX_SLOTS → AreMatched js.places js.joints → AreMatched (joined_with j js).places (joined_with j js).joints
+pub matched_with : (js : JointSlots) (j : BodyJoint) → lowest js.slot_entries < MAX_SLOTS → AreMatched js.slot_entries js.joints → AreMatched (joined_with j js).slot_entries (joined_with j js).joints
 matched_with js j free m =
-    let slot : ℕ = lowest js.places in
-    let p : Place = record { generation = generation_at js.places slot; live = true } in
-    subst (λ (n : ℕ). AreMatched (cond (nat_lt slot n) (slice_set js.places slot p) (js.places ++ p ∷ [])) (with_item js.joints slot j)) (sym m.slots)
-    (matched_joined (nat_lt slot (length js.joints)) js.places js.joints slot p j refl (λ q. let past = ltb-false slot (length js.joints) q in omega (arith, past, free)) m)
+    let slot : ℕ = lowest js.slot_entries in
+    let p : SlotEntry = record { generation = generation_at js.slot_entries slot; live = true } in
+    subst (λ (n : ℕ). AreMatched (cond (nat_lt slot n) (slice_set js.slot_entries slot p) (js.slot_entries ++ p ∷ [])) (with_item js.joints slot j)) (sym m.slots)
+    (matched_joined (nat_lt slot (length js.joints)) js.slot_entries js.joints slot p j refl (λ q. let past = ltb-false slot (length js.joints) q in omega (arith, past, free)) m)
 
-slots_joined : (s : JointSlots) (j : BodyJoint) → lowest s.places < MAX_SLOTS → AreJointSlots s → AreJointSlots (joined_with j s)
+slots_joined : (s : JointSlots) (j : BodyJoint) → lowest s.slot_entries < MAX_SLOTS → AreJointSlots s → AreJointSlots (joined_with j s)
 slots_joined s j free are =
     let long = are.matched.slots in
     let few = are.matched.few in
     record {
       matched = matched_with s j free are.matched;
-      places = (IsTable-given s.places are.places (omega (arith, long, few)) free).each;
+      slot_entries = (IsTable-given s.slot_entries are.slot_entries (omega (arith, long, few)) free).each;
     }
 
 -- a new joint's number is none of those before
-new_generation : (s : JointSlots) → AreJointSlots s → generation_at s.places (lowest s.places) < 2 ^ 32
+new_generation : (s : JointSlots) → AreJointSlots s → generation_at s.slot_entries (lowest s.slot_entries) < 2 ^ 32
 new_generation s are =
-    let is : IsPlace (record { generation = generation_at s.places (lowest s.places); live = true }) = IsPlace-given s.places are.places in
+    let is : IsSlotEntry (record { generation = generation_at s.slot_entries (lowest s.slot_entries); live = true }) = IsSlotEntry-given s.slot_entries are.slot_entries in
     let bounded = is.bounded in
     omega (arith, bounded)
 
-far_from_new : (s : JointSlots) (contacts : List ContactEntry) (b : Bond) → AreJointSlots s → lowest s.places < MAX_SLOTS → IsIn b (bonds_of s contacts) → bond_number b ≢ joint_number (handle_at s.places (lowest s.places))
+far_from_new : (s : JointSlots) (contacts : List ContactEntry) (b : Bond) → AreJointSlots s → lowest s.slot_entries < MAX_SLOTS → IsIn b (bonds_of s contacts) → bond_number b ≢ joint_number (handle_at s.slot_entries (lowest s.slot_entries))
 far_from_new s contacts b are free h e =
-    let generation : generation_at s.places (lowest s.places) < 2 ^ 32 = new_generation s are in
+    let generation : generation_at s.slot_entries (lowest s.slot_entries) < 2 ^ 32 = new_generation s are in
     elim (in_bonds s contacts b h) [
       | inl p ↦
-          let is : IsPlace p.place = place_is s.places p.slot p.place are.places p.at_place in
+          let is : IsSlotEntry p.place = place_is s.slot_entries p.slot p.place are.slot_entries p.at_place in
           let bounded = is.bounded in
           let number : bond_number b ≡ p.slot * 2 ^ 32 + p.place.generation = ap bond_number p.is in
-          let same : p.slot ≡ lowest s.places = omega (arith, bounded, number, generation, e) in
-          none-some p.joint (sym (free_joint s.places s.joints are.matched) ∙ sym (ap (joint_at s.joints) same) ∙ p.at_joint)
+          let same : p.slot ≡ lowest s.slot_entries = omega (arith, bounded, number, generation, e) in
+          none-some p.joint (sym (free_joint s.slot_entries s.joints are.matched) ∙ sym (ap (joint_at s.joints) same) ∙ p.at_joint)
       | inr q ↦ let high = contact_above contacts b q in omega (arith, high, generation, free, e)
     ]
 
@@ -137,10 +138,10 @@ bond_joined : (s : JointSlots) (contacts : List ContactEntry) (new : JointSlots)
 bond_joined s contacts new h j b are k = elim (in_bonds new contacts b k) [
   | inl p ↦ elim (cases_eq p.slot h.slot) [
     | inl same ↦
-        let place : record { generation = h.generation; live = true } ≡ p.place = same_Some (record { generation = h.generation; live = true }) p.place (sym are.own_place ∙ sym (ap (slice_get new.places) same) ∙ p.at_place) in
+        let place : record { generation = h.generation; live = true } ≡ p.place = same_Some (record { generation = h.generation; live = true }) p.place (sym are.own_place ∙ sym (ap (slice_get new.slot_entries) same) ∙ p.at_place) in
         let joint : j ≡ p.joint = same_Some j p.joint (sym are.own ∙ sym (ap (joint_at new.joints) same) ∙ p.at_joint) in
-        inl (p.is ∙ ap₂ (λ (g : Handle) (i : BodyJoint). joint_bond g i) (ap₂ (λ (slot generation : ℕ). record { slot = slot; generation = generation }) same (sym (ap (λ (v : Place). v.generation) place))) (sym joint))
-    | inr far ↦ inr (bonds_in s contacts b (inl (record { slot = p.slot; place = p.place; joint = p.joint; at_place = sym (are.places p.slot far) ∙ p.at_place; at_joint = sym (are.joints p.slot far) ∙ p.at_joint; is = p.is })))
+        inl (p.is ∙ ap₂ (λ (g : Handle) (i : BodyJoint). joint_bond g i) (ap₂ (λ (slot generation : ℕ). record { slot = slot; generation = generation }) same (sym (ap (λ (v : SlotEntry). v.generation) place))) (sym joint))
+    | inr far ↦ inr (bonds_in s contacts b (inl (record { slot = p.slot; place = p.place; joint = p.joint; at_place = sym (are.slot_entries p.slot far) ∙ p.at_place; at_joint = sym (are.joints p.slot far) ∙ p.at_joint; is = p.is })))
   ]
   | inr q ↦ inr (bonds_in s contacts b (inr q))
 ]
@@ -151,7 +152,7 @@ joined_bond s contacts new h j b are k = elim k [
   | inr q ↦ elim (in_bonds s contacts b q) [
     | inl p ↦
         let far : p.slot ≢ h.slot = λ same. none-some p.joint (sym are.free ∙ sym (ap (joint_at s.joints) same) ∙ p.at_joint) in
-        bonds_in new contacts b (inl (record { slot = p.slot; place = p.place; joint = p.joint; at_place = are.places p.slot far ∙ p.at_place; at_joint = are.joints p.slot far ∙ p.at_joint; is = p.is }))
+        bonds_in new contacts b (inl (record { slot = p.slot; place = p.place; joint = p.joint; at_place = are.slot_entries p.slot far ∙ p.at_place; at_joint = are.joints p.slot far ∙ p.at_joint; is = p.is }))
     | inr r ↦ bonds_in new contacts b (inr r)
   ]
 ]
@@ -182,7 +183,7 @@ with_tie_is h (Some v) old new r q fresh f g =
 
 pub joining : laws.JoiningAddsTies
 joining bodies s contacts j are rising free =
-    let h : Handle = handle_at s.places (lowest s.places) in
+    let h : Handle = handle_at s.slot_entries (lowest s.slot_entries) in
     let new : JointSlots = joined_with j s in
     let slots : AreJointSlots new = slots_joined s j free are in
     let made : AreJoined s new h j = are_joined s j are.matched in
@@ -197,29 +198,29 @@ joining bodies s contacts j are rising free =
 
 -- ---- a joint that goes
 
-pub slots_unjoined : (s : JointSlots) (h : Handle) → IsLive s.places h → AreJointSlots s → AreJointSlots (unjoined h s)
+pub slots_unjoined : (s : JointSlots) (h : Handle) → IsLive s.slot_entries h → AreJointSlots s → AreJointSlots (unjoined h s)
 slots_unjoined s h at are =
     let long = are.matched.slots in
     let few = are.matched.few in
     record {
-      matched = matched_unjoined s.places s.joints h are.matched;
-      places = (IsTable-taken s.places h 0 0 (record { each = are.places; few = omega (arith, long, few); none_below = omega arith }) at (omega arith) (omega arith)).each;
+      matched = matched_unjoined s.slot_entries s.joints h are.matched;
+      slot_entries = (IsTable-taken s.slot_entries h 0 0 (record { each = are.slot_entries; few = omega (arith, long, few); none_below = omega arith }) at (omega arith) (omega arith)).each;
     }
 
 -- the bond of the joint that goes
-bond_gone : (s : JointSlots) (contacts : List ContactEntry) (h : Handle) (j : BodyJoint) → IsLive s.places h → joint_at s.joints h.slot ≡ Some j → IsIn (joint_bond h j) (bonds_of s contacts)
+bond_gone : (s : JointSlots) (contacts : List ContactEntry) (h : Handle) (j : BodyJoint) → IsLive s.slot_entries h → joint_at s.joints h.slot ≡ Some j → IsIn (joint_bond h j) (bonds_of s contacts)
 bond_gone s contacts h j live at = bonds_in s contacts (joint_bond h j) (inl (record { slot = h.slot; place = record { generation = h.generation; live = true }; joint = j; at_place = live; at_joint = at; is = refl }))
 
-unjoined_bond : (s : JointSlots) (contacts : List ContactEntry) (h : Handle) (b : Bond) → AreJointSlots s → IsLive s.places h → IsIn b (bonds_of (unjoined h s) contacts) → IsIn b (bonds_of s contacts) × (bond_number b ≢ joint_number h)
+unjoined_bond : (s : JointSlots) (contacts : List ContactEntry) (h : Handle) (b : Bond) → AreJointSlots s → IsLive s.slot_entries h → IsIn b (bonds_of (unjoined h s) contacts) → IsIn b (bonds_of s contacts) × (bond_number b ≢ joint_number h)
 unjoined_bond s contacts h b are live k =
-    let place : IsPlace (record { generation = h.generation; live = true }) = place_is s.places h.slot (record { generation = h.generation; live = true }) are.places live in
+    let place : IsSlotEntry (record { generation = h.generation; live = true }) = place_is s.slot_entries h.slot (record { generation = h.generation; live = true }) are.slot_entries live in
     let short = place.bounded in
     elim (in_bonds (unjoined h s) contacts b k) [
       | inl p ↦
           let far : p.slot ≢ h.slot = λ same. none-some p.joint (sym (item_at-set_none s.joints h.slot) ∙ sym (ap (joint_at (slice_set s.joints h.slot None)) same) ∙ p.at_joint) in
-          let at_place : slice_get s.places p.slot ≡ Some p.place = sym (slice_get-set_other s.places h.slot p.slot (record { generation = h.generation + 1; live = false }) far) ∙ p.at_place in
+          let at_place : slice_get s.slot_entries p.slot ≡ Some p.place = sym (slice_get-set_other s.slot_entries h.slot p.slot (record { generation = h.generation + 1; live = false }) far) ∙ p.at_place in
           let at_joint : joint_at s.joints p.slot ≡ Some p.joint = sym (item_at-set_other s.joints h.slot None p.slot far) ∙ p.at_joint in
-          let is : IsPlace p.place = place_is s.places p.slot p.place are.places at_place in
+          let is : IsSlotEntry p.place = place_is s.slot_entries p.slot p.place are.slot_entries at_place in
           let bounded = is.bounded in
           let number : bond_number b ≡ p.slot * 2 ^ 32 + p.place.generation = ap bond_number p.is in (
             bonds_in s contacts b (inl (record { slot = p.slot; place = p.place; joint = p.joint; at_place = at_place; at_joint = at_joint; is = p.is })),
@@ -229,21 +230,21 @@ unjoined_bond s contacts h b are live k =
           let high = contact_above contacts b q in
           let slots = are.matched.slots in
           let few = are.matched.few in
-          let within : h.slot < length s.places = slice_get_within s.places h.slot (record { generation = h.generation; live = true }) live in
+          let within : h.slot < length s.slot_entries = slice_get_within s.slot_entries h.slot (record { generation = h.generation; live = true }) live in
           (bonds_in s contacts b (inr q), (λ e. omega (arith, high, slots, few, within, short, e)))
     ]
 
-bond_unjoined : (s : JointSlots) (contacts : List ContactEntry) (h : Handle) (b : Bond) → IsLive s.places h → IsIn b (bonds_of s contacts) → bond_number b ≢ joint_number h → IsIn b (bonds_of (unjoined h s) contacts)
+bond_unjoined : (s : JointSlots) (contacts : List ContactEntry) (h : Handle) (b : Bond) → IsLive s.slot_entries h → IsIn b (bonds_of s contacts) → bond_number b ≢ joint_number h → IsIn b (bonds_of (unjoined h s) contacts)
 bond_unjoined s contacts h b live k ne = elim (in_bonds s contacts b k) [
   | inl p ↦
       let far : p.slot ≢ h.slot = λ same. ne
-      (let place : record { generation = h.generation; live = true } ≡ p.place = same_Some (record { generation = h.generation; live = true }) p.place (sym live ∙ sym (ap (slice_get s.places) same) ∙ p.at_place) in
-      ap bond_number p.is ∙ ap₂ (λ (slot generation : ℕ). slot * 2 ^ 32 + generation) same (sym (ap (λ (v : Place). v.generation) place))) in
+      (let place : record { generation = h.generation; live = true } ≡ p.place = same_Some (record { generation = h.generation; live = true }) p.place (sym live ∙ sym (ap (slice_get s.slot_entries) same) ∙ p.at_place) in
+      ap bond_number p.is ∙ ap₂ (λ (slot generation : ℕ). slot * 2 ^ 32 + generation) same (sym (ap (λ (v : SlotEntry). v.generation) place))) in
       bonds_in (unjoined h s) contacts b (inl (record {
         slot = p.slot;
         place = p.place;
         joint = p.joint;
-        at_place = slice_get-set_other s.places h.slot p.slot (record { generation = h.generation + 1; live = false }) far ∙ p.at_place;
+        at_place = slice_get-set_other s.slot_entries h.slot p.slot (record { generation = h.generation + 1; live = false }) far ∙ p.at_place;
         at_joint = item_at-set_other s.joints h.slot None p.slot far ∙ p.at_joint;
         is = p.is;
       }))

@@ -9,7 +9,7 @@ use Rattle.std.proofs.lemmas.List.Elements.{All-contains}
 use Rattle.contacts.proofs.Members.{IsIn, in_append, in_from_contains, contains_from_in}
 use Rattle.graph_colours.specs.declared.member.Member.{Member}
 use Rattle.graph_colours.specs.Members.{AreRising}
-use Rattle.sleep_wake.proofs.TurnLemmas.{one_order}
+use Rattle.sleep_wake.proofs.ChangeLemmas.{one_order}
 
 -- ---- filtered and mapped
 

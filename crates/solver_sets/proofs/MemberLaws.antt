@@ -2,7 +2,8 @@
 use Rattle.std.proofs.Common.{◌≡◌, ◌≢◌, ◌⊎◌, ℕ, ◌<◌, false, List, [], ◌∷◌, get_or, inl, inr, refl, sym, ap, arith}
 use Rattle.std.proofs.lemmas.List.Elements.{Contains-get_or}
 use Rattle.graph_colours.specs.declared.member.Member.{Member}
-use Rattle.graph_colours.specs.Members.{AreRising, has_id, inserted, without_member}
+use Rattle.graph_colours.specs.Members.{AreRising, inserted, without_member}
+use Rattle.graph_colours.specs.FoundMembers.{has_id}
 use Rattle.graph_colours.proofs.ListLemmas.{rising_inserted, rising_without}
 use Rattle.graph_colours.proofs.PlaceLemmas.{has_no_id}
 use Rattle.contacts.proofs.Members.{IsIn, in_from_contains, contains_from_in}

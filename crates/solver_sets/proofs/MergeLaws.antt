@@ -9,7 +9,7 @@ use Rattle.graph_colours.proofs.Cases.{by_test}
 use Rattle.graph_colours.proofs.PlaceLemmas.{is_lower, not_lower}
 use Rattle.contacts_base.specs.declared.key.ContactKey.{ContactKey}
 use Rattle.contacts_base.specs.Keys.{key_number}
-use Rattle.contacts.specs.Changes.{AreRising}
+use Rattle.contacts.specs.ChangedKeys.{AreRising}
 use Rattle.contacts.specs.Constraints.{constraint_number}
 use Rattle.contacts.specs.declared.constraint.Constraint.{Constraint}
 use Rattle.contacts.proofs.Members.{Each, each_from, each_in}

@@ -3,7 +3,7 @@ use Rattle.std.proofs.Common.{◌≡◌, ◌⊎◌, ℕ, zero, suc, ◌&&◌, �
 use Rattle.std.specs.Prelude.{◌==◌, Contains}
 use Rattle.std.specs.List.{list_any}
 use Rattle.std.proofs.lemmas.Option.{same_Some}
-use Rattle.body_handles.specs.declared.places.Place.{Place}
+use Rattle.body_handles.specs.declared.slot_table.SlotEntry.{SlotEntry}
 use Rattle.contacts.proofs.Members.{IsIn, contains_from_in, in_from_contains}
 use Rattle.contacts.specs.Constraints.{constraint_number}
 use Rattle.contacts.specs.declared.constraint.Constraint.{Constraint}
@@ -142,11 +142,11 @@ any_joint test [] slot j at e = cc
 any_joint test (o ∷ joints) zero j at e = let is : o ≡ Some j = at in ap (λ (t : Bool). t || list_any test joints) (ap test is ∙ e)
 any_joint test (o ∷ joints) (suc slot) j at e = ap (λ (t : Bool). test o || t) (any_joint test joints slot j at e) ∙ or_true (test o)
 
-place_there : (places : List Place) (joints : List (Option BodyJoint)) (slot : ℕ) (j : BodyJoint) → length places ≡ length joints → joint_at joints slot ≡ Some j → (p : Place) × (slice_get places slot ≡ Some p)
-place_there places [] slot j len at = cc
+place_there : (slot_entries : List SlotEntry) (joints : List (Option BodyJoint)) (slot : ℕ) (j : BodyJoint) → length slot_entries ≡ length joints → joint_at joints slot ≡ Some j → (p : SlotEntry) × (slice_get slot_entries slot ≡ Some p)
+place_there slot_entries [] slot j len at = cc
 place_there [] (o ∷ joints) slot j len at = absurd (omega (arith, len))
-place_there (p ∷ places) (o ∷ joints) zero j len at = (p, refl)
-place_there (p ∷ places) (o ∷ joints) (suc slot) j len at = place_there places joints slot j (omega (arith, len)) at
+place_there (p ∷ slot_entries) (o ∷ joints) zero j len at = (p, refl)
+place_there (p ∷ slot_entries) (o ∷ joints) (suc slot) j len at = place_there slot_entries joints slot j (omega (arith, len)) at
 
 -- ---- a constraint that acts for each mover beside a body that moves
 
@@ -154,41 +154,41 @@ place_there (p ∷ places) (o ∷ joints) (suc slot) j len at = place_there plac
 acts : (bodies : List (Option Body)) (s : JointSlots) (contacts : List ContactEntry) (a : Acting Constraint) (slot : ℕ) (bond : Bond) → IsConsistent constraint_number a → a.ties ≡ ties_of bodies s contacts → is_mover_awake a.labels slot ≡ true
     → IsIn bond (bonds_of s contacts) → movers_with bodies bond.a bond.b ≡ Some (alone slot) → IsIn (record { id = bond.id; movers = alone slot }) (all_members a.lists)
 unfolding ties_of
-acts bodies s contacts a slot bond settled ties up there movers =
+acts bodies s contacts a slot bond consistent ties up there movers =
     let m : Member Constraint = record { id = bond.id; movers = alone slot } in
     let tie : IsIn m (ties_of bodies s contacts) = map_in (tie_of bodies) (bonds_of s contacts) bond m there (ap (tie_with bond.id) movers) in
     let listed : Contains a.ties m = subst (λ (l : List (Member Constraint)). Contains l m) (sym ties) (contains_from_in (ties_of bodies s contacts) m tie) in
     let awake : are_awake a.labels m.movers ≡ true = ap (λ (t : Bool). t && second_awake a.labels None) up in
-    in_from_contains (all_members a.lists) m ((settled.acting m).1 (listed, awake))
+    in_from_contains (all_members a.lists) m ((consistent.acting m).1 (listed, awake))
 
 tells : (bodies : List (Option Body)) (s : JointSlots) (contacts : List ContactEntry) (a : Acting Constraint) (slot : ℕ) (bond : Bond) → IsConsistent constraint_number a → a.ties ≡ ties_of bodies s contacts → moves bodies slot ≡ true → is_mover_awake a.labels slot ≡ true
     → IsIn bond (bonds_of s contacts) → is_stirred_between bodies slot bond.a bond.b ≡ true → is_to_moving bodies s.joints slot bond.id ≡ true → list_any (ties_to_moving bodies s.joints slot) (all_members a.lists) ≡ true
-tells bodies s contacts a slot bond settled ties moving up there stirred to =
+tells bodies s contacts a slot bond consistent ties moving up there stirred to =
     any_in (ties_to_moving bodies s.joints slot) (all_members a.lists) (record { id = bond.id; movers = alone slot })
-    (acts bodies s contacts a slot bond settled ties up there (stirred_alone bodies slot bond.a bond.b moving stirred)) to
+    (acts bodies s contacts a slot bond consistent ties up there (stirred_alone bodies slot bond.a bond.b moving stirred)) to
 
 either : (t u : Bool) → (t || u) ≡ true → (t ≡ true) ⊎ (u ≡ true)
 either true u e = inl refl
 either false u e = inr e
 
-complete : (bodies : List (Option Body)) (s : JointSlots) (contacts : List ContactEntry) (a : Acting Constraint) (slot : ℕ) → length s.places ≡ length s.joints → IsConsistent constraint_number a → a.ties ≡ ties_of bodies s contacts → moves bodies slot ≡ true
+complete : (bodies : List (Option Body)) (s : JointSlots) (contacts : List ContactEntry) (a : Acting Constraint) (slot : ℕ) → length s.slot_entries ≡ length s.joints → IsConsistent constraint_number a → a.ties ≡ ties_of bodies s contacts → moves bodies slot ≡ true
     → is_mover_awake a.labels slot ≡ true → is_beside_moving bodies s.joints contacts slot ≡ true → list_any (ties_to_moving bodies s.joints slot) (all_members a.lists) ≡ true
 unfolding is_beside_moving
-complete bodies s contacts a slot matched settled ties moving up beside =
+complete bodies s contacts a slot matched consistent ties moving up beside =
     elim (either (list_any (is_joined_to_moving bodies slot) s.joints) (list_any (is_touched_by_moving bodies slot) contacts) beside) [
       | inl joined ↦
           let p : PassesAt (is_joined_to_moving bodies slot) s.joints = joint_any (is_joined_to_moving bodies slot) s.joints refl joined in
-          let place = place_there s.places s.joints p.slot p.joint matched p.there in
+          let place = place_there s.slot_entries s.joints p.slot p.joint matched p.there in
           let bond : Bond = joint_bond (record { slot = p.slot; generation = place.0.generation }) p.joint in
           let is : IsJointBond s bond = record { slot = p.slot; place = place.0; joint = p.joint; at_place = place.1; at_joint = p.there; is = refl } in
-          tells bodies s contacts a slot bond settled ties moving up (bonds_in s contacts bond (inl is)) p.on (ap (is_joined_to_moving bodies slot) p.there ∙ p.on)
+          tells bodies s contacts a slot bond consistent ties moving up (bonds_in s contacts bond (inl is)) p.on (ap (is_joined_to_moving bodies slot) p.there ∙ p.on)
       | inr touched ↦
           let p : Passes (is_touched_by_moving bodies slot) contacts = in_any (is_touched_by_moving bodies slot) contacts touched in
           let bond : Bond = contact_bond p.of.key in
           let stirred : is_stirred_between bodies slot p.of.key.first.slot p.of.key.second.slot ≡ true = and_both (touches p.of.contact) (is_stirred_between bodies slot p.of.key.first.slot p.of.key.second.slot) p.on in
           let touching : touches p.of.contact ≡ true = if_both (touches p.of.contact) (is_stirred_between bodies slot p.of.key.first.slot p.of.key.second.slot) p.on in
           let is : IsContactBond contacts bond = record { entry = p.of; there = p.there; touching = touching; is = refl } in
-          tells bodies s contacts a slot bond settled ties moving up (bonds_in s contacts bond (inr is)) stirred stirred
+          tells bodies s contacts a slot bond consistent ties moving up (bonds_in s contacts bond (inr is)) stirred stirred
     ]
 
 -- ---- and no other
@@ -213,9 +213,9 @@ beside_by bodies s contacts slot bond there to = elim (in_bonds s contacts bond 
 sound : (bodies : List (Option Body)) (s : JointSlots) (contacts : List ContactEntry) (a : Acting Constraint) (slot : ℕ) → IsConsistent constraint_number a → a.ties ≡ ties_of bodies s contacts
     → list_any (ties_to_moving bodies s.joints slot) (all_members a.lists) ≡ true → is_beside_moving bodies s.joints contacts slot ≡ true
 unfolding ties_of
-sound bodies s contacts a slot settled ties h =
+sound bodies s contacts a slot consistent ties h =
     let p : Passes (ties_to_moving bodies s.joints slot) (all_members a.lists) = in_any (ties_to_moving bodies s.joints slot) (all_members a.lists) h in
-    let listed : Contains a.ties p.of = ((settled.acting p.of).0 (contains_from_in (all_members a.lists) p.of p.there)).0 in
+    let listed : Contains a.ties p.of = ((consistent.acting p.of).0 (contains_from_in (all_members a.lists) p.of p.there)).0 in
     let tie : IsIn p.of (ties_of bodies s contacts) = in_from_contains (ties_of bodies s contacts) p.of (subst (λ (l : List (Member Constraint)). Contains l p.of) ties listed) in
     let from = in_map (tie_of bodies) (bonds_of s contacts) p.of tie in
     let named : p.of.id ≡ from.of.id = tie_id from.of.id (movers_with bodies from.of.a from.of.b) p.of from.gives in
@@ -233,8 +233,8 @@ label_there : (o : Option Label) → awake_label o ≡ true → is_some o ≡ tr
 label_there None e = cc
 label_there (Some l) e = refl
 
-pub tell_moving : laws.ActingTellMoving
-tell_moving bodies s contacts a tied matched settled ties slot up =
+pub show_moving : laws.ActingShowMoving
+show_moving bodies s contacts a tied matched consistent ties slot up =
     let moving : moves bodies slot ≡ true = sym (tied slot) ∙ label_there (label_at a.labels slot) up in
     same_bool (list_any (ties_to_moving bodies s.joints slot) (all_members a.lists)) (is_beside_moving bodies s.joints contacts slot)
-    (sound bodies s contacts a slot settled ties) (complete bodies s contacts a slot matched settled ties moving up)
+    (sound bodies s contacts a slot consistent ties) (complete bodies s contacts a slot matched consistent ties moving up)

@@ -5,16 +5,16 @@ use Rattle.std.proofs.Common.{inl, inr, get_or}
 use Rattle.std.proofs.lemmas.Bool.{cases_lt}
 use Rattle.std.proofs.lemmas.List.Sums.{passes_at_first}
 use Rattle.std.proofs.lemmas.Grind.{common_steps}
-use Rattle.body_handles.specs.declared.places.Place.{Place}
-use Rattle.body_handles.specs.Places.{is_open, lowest}
-use Rattle.body_handles.proofs.LowestLemmas.{no_place}
-use Rattle.body_handles.specs.declared.places.TheConstants.{MAX_SLOTS}
+use Rattle.body_handles.specs.declared.slot_table.SlotEntry.{SlotEntry}
+use Rattle.body_handles.specs.SlotEntries.{is_open, lowest}
+use Rattle.body_handles.proofs.LowestLemmas.{no_slot_entry}
+use Rattle.body_handles.specs.declared.slot_table.TheConstants.{MAX_SLOTS}
 use Rattle.plain_world.specs.Slots.{item_at, is_taken, AreMatched}
 
 -- ---- the slots
 
-matched_set : {X : Type 0} (places : List Place) (bodies : List (Option X)) (slot : ℕ) (p : Place) (o : Option X) → length places ≡ length bodies → is_some o ≡ p.live
-    → ((k : ℕ) → is_some (item_at bodies k) ≡ is_taken places k) → (k : ℕ) → is_some (item_at (slice_set bodies slot o) k) ≡ is_taken (slice_set places slot p) k
+matched_set : {X : Type 0} (slot_entries : List SlotEntry) (bodies : List (Option X)) (slot : ℕ) (p : SlotEntry) (o : Option X) → length slot_entries ≡ length bodies → is_some o ≡ p.live
+    → ((k : ℕ) → is_some (item_at bodies k) ≡ is_taken slot_entries k) → (k : ℕ) → is_some (item_at (slice_set bodies slot o) k) ≡ is_taken (slice_set slot_entries slot p) k
 matched_set [] [] slot p o len e h k = h k
 matched_set [] (b ∷ bs) slot p o len e h k = absurd (omega arith)
 matched_set (q ∷ ps) [] slot p o len e h k = absurd (omega arith)
@@ -23,8 +23,8 @@ matched_set (q ∷ ps) (b ∷ bs) zero p o len e h (suc k) = h (suc k)
 matched_set (q ∷ ps) (b ∷ bs) (suc slot) p o len e h zero = h zero
 matched_set (q ∷ ps) (b ∷ bs) (suc slot) p o len e h (suc k) = matched_set ps bs slot p o (omega arith) e (λ j. h (suc j)) k
 
-matched_push : {X : Type 0} (places : List Place) (bodies : List (Option X)) (p : Place) (o : Option X) → length places ≡ length bodies → is_some o ≡ p.live
-    → ((k : ℕ) → is_some (item_at bodies k) ≡ is_taken places k) → (k : ℕ) → is_some (item_at (bodies ++ o ∷ []) k) ≡ is_taken (places ++ p ∷ []) k
+matched_push : {X : Type 0} (slot_entries : List SlotEntry) (bodies : List (Option X)) (p : SlotEntry) (o : Option X) → length slot_entries ≡ length bodies → is_some o ≡ p.live
+    → ((k : ℕ) → is_some (item_at bodies k) ≡ is_taken slot_entries k) → (k : ℕ) → is_some (item_at (bodies ++ o ∷ []) k) ≡ is_taken (slot_entries ++ p ∷ []) k
 matched_push [] [] p o len e h zero = e
 matched_push [] [] p o len e h (suc k) = refl
 matched_push [] (b ∷ bs) p o len e h k = absurd (omega arith)
@@ -32,18 +32,18 @@ matched_push (q ∷ ps) [] p o len e h k = absurd (omega arith)
 matched_push (q ∷ ps) (b ∷ bs) p o len e h zero = h zero
 matched_push (q ∷ ps) (b ∷ bs) p o len e h (suc k) = matched_push ps bs p o (omega arith) e (λ j. h (suc j)) k
 
-pub AreMatched-set : {X : Type 0} (places : List Place) (bodies : List (Option X)) (slot : ℕ) (p : Place) (o : Option X) → is_some o ≡ p.live → AreMatched places bodies → AreMatched (slice_set places slot p) (slice_set bodies slot o)
-AreMatched-set places bodies slot p o e m = record {
+pub AreMatched-set : {X : Type 0} (slot_entries : List SlotEntry) (bodies : List (Option X)) (slot : ℕ) (p : SlotEntry) (o : Option X) → is_some o ≡ p.live → AreMatched slot_entries bodies → AreMatched (slice_set slot_entries slot p) (slice_set bodies slot o)
+AreMatched-set slot_entries bodies slot p o e m = record {
   slots = let s = m.slots in grind (arith, common_steps);
   few = let f = m.few in grind (arith, common_steps);
-  taken = matched_set places bodies slot p o m.slots e m.taken;
+  taken = matched_set slot_entries bodies slot p o m.slots e m.taken;
 }
 
-pub AreMatched-push : {X : Type 0} (places : List Place) (bodies : List (Option X)) (p : Place) (o : Option X) → is_some o ≡ p.live → length bodies < MAX_SLOTS → AreMatched places bodies → AreMatched (places ++ p ∷ []) (bodies ++ o ∷ [])
-AreMatched-push places bodies p o e few m = record {
+pub AreMatched-push : {X : Type 0} (slot_entries : List SlotEntry) (bodies : List (Option X)) (p : SlotEntry) (o : Option X) → is_some o ≡ p.live → length bodies < MAX_SLOTS → AreMatched slot_entries bodies → AreMatched (slot_entries ++ p ∷ []) (bodies ++ o ∷ [])
+AreMatched-push slot_entries bodies p o e few m = record {
   slots = let s = m.slots in grind (arith, common_steps);
   few = grind (arith, common_steps);
-  taken = matched_push places bodies p o m.slots e m.taken;
+  taken = matched_push slot_entries bodies p o m.slots e m.taken;
 }
 
 pub item_at-set_other : {X : Type 0} (items : List (Option X)) (slot : ℕ) (o : Option X) (k : ℕ) → k ≢ slot → item_at (slice_set items slot o) k ≡ item_at items k
@@ -99,12 +99,12 @@ below_length (a ∷ bs) (suc slot) b e = omega (arith, below_length bs slot b e)
 
 -- ---- the lowest slot that can be given out
 
-taken_at : (places : List Place) (slot : ℕ) (d : Place) → slot < length places → is_taken places slot ≡ (get_or places slot d).live
+taken_at : (slot_entries : List SlotEntry) (slot : ℕ) (d : SlotEntry) → slot < length slot_entries → is_taken slot_entries slot ≡ (get_or slot_entries slot d).live
 taken_at [] slot d h = absurd (omega arith)
 taken_at (p ∷ ps) zero d h = refl
 taken_at (p ∷ ps) (suc slot) d h = taken_at ps slot d (omega arith)
 
-taken_past : (places : List Place) (slot : ℕ) → length places ≤ slot → is_taken places slot ≡ false
+taken_past : (slot_entries : List SlotEntry) (slot : ℕ) → length slot_entries ≤ slot → is_taken slot_entries slot ≡ false
 taken_past [] slot h = refl
 taken_past (p ∷ ps) zero h = absurd (omega arith)
 taken_past (p ∷ ps) (suc slot) h = taken_past ps slot (omega arith)
@@ -114,10 +114,10 @@ free_if true able e = cc
 free_if false able e = refl
 
 -- it isn't taken
-pub lowest-free : (places : List Place) → is_taken places (lowest places) ≡ false
-lowest-free places = elim (cases_lt (lowest places) (length places)) [
-  | inl h ↦ (taken_at places (lowest places) no_place h ∙ free_if _ _ (passes_at_first is_open places no_place h))
-  | inr h ↦ taken_past places (lowest places) h
+pub lowest-free : (slot_entries : List SlotEntry) → is_taken slot_entries (lowest slot_entries) ≡ false
+lowest-free slot_entries = elim (cases_lt (lowest slot_entries) (length slot_entries)) [
+  | inl h ↦ (taken_at slot_entries (lowest slot_entries) no_slot_entry h ∙ free_if _ _ (passes_at_first is_open slot_entries no_slot_entry h))
+  | inr h ↦ taken_past slot_entries (lowest slot_entries) h
 ]
 
 -- and nothing is there

@@ -4,7 +4,7 @@ use Rattle.std.specs.List.{filter_map}
 use Rattle.std.proofs.lemmas.Bool.{false≢true}
 use Rattle.std.proofs.lemmas.Option.{none-some, same_Some, slice_get_within}
 use Rattle.std.proofs.lemmas.List.Elements.{All-contains}
-use Rattle.body_handles.specs.Places.{IsPlace}
+use Rattle.body_handles.specs.SlotEntries.{IsSlotEntry}
 use Rattle.graph_colours.specs.declared.member.Movers.{Movers}
 use Rattle.graph_colours.specs.declared.member.Member.{Member}
 use Rattle.graph_colours.specs.Colours.{all_members, ids_of}
@@ -19,7 +19,7 @@ use Rattle.plain_world.specs.declared.body.Body.{Body}
 use Rattle.plain_world.specs.declared.joint.BodyJoint.{BodyJoint}
 use Rattle.solver_sets.specs.Laws as laws
 use Rattle.solver_sets.specs.Alike.{AreJointSlots, HaveSameEnds, ends_in}
-use Rattle.solver_sets.specs.Ties.{Bond, IsNamed, IsNamedConstraint, JointSlots, Lists, bond_before, bonds_of, contact_bond, is_enabled, joint_bonds, joint_bonds_from, member_of, members_of, movers_if, movers_of, movers_with, moves, tie_of, tie_with, ties_in, ties_of, touching_keys}
+use Rattle.solver_sets.specs.Ties.{Bond, IsKeyWithin, IsConstraintWithin, JointSlots, Lists, bond_before, bonds_of, contact_bond, is_enabled, joint_bonds, joint_bonds_from, member_of, members_of, movers_if, movers_of, movers_with, moves, tie_of, tie_with, ties_in, ties_of, touching_keys}
 use Rattle.solver_sets.proofs.BondLaws.{IsContactBond, IsJointBond, bond_number, bonds_rise, in_bonds, place_is}
 use Rattle.solver_sets.proofs.ListLaws.{ComesOf, Rises, in_map, map_in, map_same, pairs_from_rises, rises_map}
 
@@ -61,24 +61,24 @@ ties_in_of bodies s contacts b m h e = map_in (tie_of bodies) (bonds_of s contac
 
 -- ---- names
 
-joint_named : (s : JointSlots) (b : Bond) → AreJointSlots s → IsJointBond s b → IsNamedConstraint b.id
+joint_named : (s : JointSlots) (b : Bond) → AreJointSlots s → IsJointBond s b → IsConstraintWithin b.id
 joint_named s b are h =
-    let is : IsPlace h.place = place_is s.places h.slot h.place are.places h.at_place in
+    let is : IsSlotEntry h.place = place_is s.slot_entries h.slot h.place are.slot_entries h.at_place in
     let bounded = is.bounded in
     let slots = are.matched.slots in
     let few = are.matched.few in
-    let within : h.slot < length s.places = slice_get_within s.places h.slot h.place h.at_place in
+    let within : h.slot < length s.slot_entries = slice_get_within s.slot_entries h.slot h.place h.at_place in
     let low : h.slot < 2 ^ 32 = omega (arith, slots, few, within) in
     let short : h.place.generation < 2 ^ 32 = omega (arith, bounded) in
-    subst (λ (v : Bond). IsNamedConstraint v.id) (sym h.is) (record { slot = low; generation = short })
+    subst (λ (v : Bond). IsConstraintWithin v.id) (sym h.is) (record { slot = low; generation = short })
 
-contact_named : (contacts : List ContactEntry) (b : Bond) → All (λ (e : ContactEntry). IsNamed e.key) contacts → IsContactBond contacts b → IsNamedConstraint b.id
-contact_named contacts b all h = subst (λ (v : Bond). IsNamedConstraint v.id) (sym h.is) (All-contains (λ (e : ContactEntry). IsNamed e.key) contacts h.entry all (contains_from_in contacts h.entry h.there))
+contact_named : (contacts : List ContactEntry) (b : Bond) → All (λ (e : ContactEntry). IsKeyWithin e.key) contacts → IsContactBond contacts b → IsConstraintWithin b.id
+contact_named contacts b all h = subst (λ (v : Bond). IsConstraintWithin v.id) (sym h.is) (All-contains (λ (e : ContactEntry). IsKeyWithin e.key) contacts h.entry all (contains_from_in contacts h.entry h.there))
 
-pub ties_named : laws.TiesAreNamed
+pub ties_named : laws.TiesAreWithin
 ties_named bodies s contacts m are all h =
     let o = in_ties bodies s contacts m (in_from_contains (ties_of bodies s contacts) m h) in
-    subst IsNamedConstraint (sym (tie_is bodies o.of m o.gives).named) (elim (in_bonds s contacts o.of o.there) [
+    subst IsConstraintWithin (sym (tie_is bodies o.of m o.gives).named) (elim (in_bonds s contacts o.of o.there) [
       | inl p ↦ joint_named s o.of are p
       | inr q ↦ contact_named contacts o.of all q
     ])
@@ -170,19 +170,19 @@ same_before h None (Some j) bonds e = absurd (none-some (j.a, j.b) e)
 same_before h (Some i) None bonds e = absurd (none-some (i.a, i.b) (sym e))
 same_before h (Some i) (Some j) bonds e = let same = same_Some (i.a, i.b) (j.a, j.b) e in ap (λ (v : ℕ × ℕ). record { id = Joint h; a = v.0; b = v.1 } ∷ bonds) same
 
-same_joint_bonds : (n : ℕ) (places : List _) (old new : List (Option BodyJoint)) → map ends_in new ≡ map ends_in old → joint_bonds_from n places new ≡ joint_bonds_from n places old
+same_joint_bonds : (n : ℕ) (slot_entries : List _) (old new : List (Option BodyJoint)) → map ends_in new ≡ map ends_in old → joint_bonds_from n slot_entries new ≡ joint_bonds_from n slot_entries old
 same_joint_bonds n [] old new e = refl
-same_joint_bonds n (p ∷ places) [] [] e = refl
-same_joint_bonds n (p ∷ places) [] (o ∷ new) e = cc
-same_joint_bonds n (p ∷ places) (o ∷ old) [] e = cc
-same_joint_bonds n (p ∷ places) (o ∷ old) (q ∷ new) e =
+same_joint_bonds n (p ∷ slot_entries) [] [] e = refl
+same_joint_bonds n (p ∷ slot_entries) [] (o ∷ new) e = cc
+same_joint_bonds n (p ∷ slot_entries) (o ∷ old) [] e = cc
+same_joint_bonds n (p ∷ slot_entries) (o ∷ old) (q ∷ new) e =
     let head : ends_in q ≡ ends_in o = cc in
     let tail : map ends_in new ≡ map ends_in old = cc in
-    ap (bond_before (record { slot = n; generation = p.generation }) q) (same_joint_bonds (suc n) places old new tail)
-    ∙ same_before (record { slot = n; generation = p.generation }) q o (joint_bonds_from (suc n) places old) head
+    ap (bond_before (record { slot = n; generation = p.generation }) q) (same_joint_bonds (suc n) slot_entries old new tail)
+    ∙ same_before (record { slot = n; generation = p.generation }) q o (joint_bonds_from (suc n) slot_entries old) head
 
-pub same_bonds : (old new : JointSlots) → new.places ≡ old.places → HaveSameEnds old.joints new.joints → joint_bonds new ≡ joint_bonds old
-same_bonds old new e h = rw e (same_joint_bonds 0 old.places old.joints new.joints h)
+pub same_bonds : (old new : JointSlots) → new.slot_entries ≡ old.slot_entries → HaveSameEnds old.joints new.joints → joint_bonds new ≡ joint_bonds old
+same_bonds old new e h = rw e (same_joint_bonds 0 old.slot_entries old.joints new.joints h)
 
 pub impulses_ties : laws.ImpulsesKeepTies
 unfolding ties_of

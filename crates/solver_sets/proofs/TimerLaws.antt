@@ -17,7 +17,7 @@ use Rattle.plain_world.specs.Joints.{joint_at}
 use Rattle.plain_world.specs.Slots.{body_at}
 use Rattle.sleep_wake.specs.Acting.{is_mover_awake}
 use Rattle.solver_sets.specs.Beside.{is_beside_moving, is_joined_to_moving, is_moving_at, is_stirred_between, timer_if, timers_from, timers_of}
-use Rattle.solver_sets.specs.BesideByTies.{TellMoving, is_to_moving, own_set, stilled, stilled_alone, stilled_by, stilled_lists, stilled_pair, stilled_tie, stilled_ties, ties_to_moving}
+use Rattle.solver_sets.specs.BesideByTies.{ShowMoving, is_to_moving, own_set, stilled, stilled_alone, stilled_by, stilled_lists, stilled_pair, stilled_tie, stilled_ties, ties_to_moving}
 use Rattle.solver_sets.proofs.ListingLaws.{drop_is, drop_past}
 
 -- ---- an entry that is set
@@ -214,7 +214,7 @@ zero_if true (Some b) = refl
 zero_if false o = refl
 
 pub awake_timer : (bodies : List (Option Body)) (joints : List (Option BodyJoint)) (contacts : List ContactEntry) (labels : Labels) (awake : List ℕ) (lists : List (List (Member Constraint))) (first own_put_in now : List ℕ)
-    → length first ≡ length bodies → own_put_in ≡ own_set bodies awake first → now ≡ stilled_lists bodies joints lists own_put_in → TellMoving bodies joints contacts labels lists
+    → length first ≡ length bodies → own_put_in ≡ own_set bodies awake first → now ≡ stilled_lists bodies joints lists own_put_in → ShowMoving bodies joints contacts labels lists
     → (slot : ℕ) → is_mover_awake labels slot ≡ true → Contains awake slot → slice_index_or now slot 0 ≡ slice_index_or (timers_of bodies joints contacts) slot 0
 unfolding timers_of
 awake_timer bodies joints contacts labels awake lists first own_put_in now len put still tell slot up listed =

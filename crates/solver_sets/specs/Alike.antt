@@ -1,6 +1,6 @@
 -- Inner: what laws of the ties ask of bodies, joints and contacts, and what a change leaves alike.
 use Rattle.std.specs.Prelude.{◌≡◌, ℕ, ◌==◌, true, false, List, Option, Some, None, All, map}
-use Rattle.body_handles.specs.Places.{IsPlace}
+use Rattle.body_handles.specs.SlotEntries.{IsSlotEntry}
 use Rattle.contacts_base.specs.declared.contact.ContactEntry.{ContactEntry}
 use Rattle.islands.specs.Labels.{Labels, label_at, sleeping_name}
 use Rattle.plain_world.specs.declared.body.Body.{Body}
@@ -37,8 +37,8 @@ pub record AreAlikeBeside (slot : ℕ) (old new : List (Option Body)) : Type 0 w
 
 -- there is a joint just in the slots that are taken, and their generations are within their range
 pub record AreJointSlots (s : JointSlots) : Type 0 where
-  pub matched : AreMatched s.places s.joints
-  pub places : All IsPlace s.places
+  pub matched : AreMatched s.slot_entries s.joints
+  pub slot_entries : All IsSlotEntry s.slot_entries
 
 -- the bodies at a joint's ends
 abbrev pub ends_in : Option BodyJoint → Option (ℕ × ℕ)

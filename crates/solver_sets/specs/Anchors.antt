@@ -51,8 +51,8 @@ abbrev pub AreAnchored : List (List ℕ) → List (Member Constraint) → Type 0
 AreAnchored lists ties = (m : Member Constraint) → Contains ties m → (slot : ℕ) → is_anchored slot m ≡ true → Contains (list_at lists slot) (constraint_number m.id)
 
 -- the lists have these contacts, if they hold
-abbrev pub Tell : Bool → List (List ℕ) → List (Member Constraint) → Type 0
-Tell holds lists ties = holds ≡ true → AreAnchored lists ties
+abbrev pub AreComplete : Bool → List (List ℕ) → List (Member Constraint) → Type 0
+AreComplete holds lists ties = holds ≡ true → AreAnchored lists ties
 
 -- whether the lists hold, and the lists
 pub record Anchored : Type 0 where

@@ -88,5 +88,5 @@ abbrev pub ties_to_moving : List (Option Body) → List (Option BodyJoint) → �
 ties_to_moving bodies joints slot m = cond (is_none m.movers.second) (is_to_moving bodies joints slot m.id) false
 
 -- the constraints with a colour tell of each awake mover whether it is beside a body that moves
-abbrev pub TellMoving : List (Option Body) → List (Option BodyJoint) → List ContactEntry → Labels → List (List (Member Constraint)) → Type 0
-TellMoving bodies joints contacts labels lists = (slot : ℕ) → is_mover_awake labels slot ≡ true → list_any (ties_to_moving bodies joints slot) (all_members lists) ≡ is_beside_moving bodies joints contacts slot
+abbrev pub ShowMoving : List (Option Body) → List (Option BodyJoint) → List ContactEntry → Labels → List (List (Member Constraint)) → Type 0
+ShowMoving bodies joints contacts labels lists = (slot : ℕ) → is_mover_awake labels slot ≡ true → list_any (ties_to_moving bodies joints slot) (all_members lists) ≡ is_beside_moving bodies joints contacts slot

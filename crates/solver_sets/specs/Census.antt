@@ -2,7 +2,7 @@
 use Rattle.std.specs.Prelude.{◌≡◌, ℕ, suc, ◌<◌, ◌==◌, ◌&&◌, ◌||◌, Bool, true, false, cond, nat_lt, List, [], ◌∷◌, ◌++◌, filter, map, Option, Some, None}
 use Rattle.std.specs.List.{AllPairs, cons_option, count_by}
 use Rattle.body_handles.specs.declared.handle.Handle.{Handle}
-use Rattle.body_handles.specs.declared.places.Place.{Place}
+use Rattle.body_handles.specs.declared.slot_table.SlotEntry.{SlotEntry}
 use Rattle.contacts_base.specs.declared.contact.ContactEntry.{ContactEntry}
 use Rattle.contacts_base.specs.Evaluate.{touches}
 use Rattle.plain_world.specs.declared.body.Body.{Body}
@@ -58,16 +58,16 @@ standing_if item set h None = None
 standing_if item set h (Some x) = Some (record { item = item h; set = set x })
 
 -- what is in slots, where the lists begin with this slot
-abbrev pub standings_from : {X : Type 0} → (Handle → Item) → (X → SetName) → ℕ → List Place → List (Option X) → List Standing
+abbrev pub standings_from : {X : Type 0} → (Handle → Item) → (X → SetName) → ℕ → List SlotEntry → List (Option X) → List Standing
 standings_from item set slot [] xs = []
-standings_from item set slot (p ∷ places) [] = []
-standings_from item set slot (p ∷ places) (o ∷ xs) = cons_option (standing_if item set (record { slot = slot; generation = p.generation }) o) (standings_from item set (suc slot) places xs)
+standings_from item set slot (p ∷ slot_entries) [] = []
+standings_from item set slot (p ∷ slot_entries) (o ∷ xs) = cons_option (standing_if item set (record { slot = slot; generation = p.generation }) o) (standings_from item set (suc slot) slot_entries xs)
 
-abbrev pub body_standings : List Place → List (Option Body) → List Standing
-body_standings places bodies = standings_from items.Body standing_of 0 places bodies
+abbrev pub body_standings : List SlotEntry → List (Option Body) → List Standing
+body_standings slot_entries bodies = standings_from items.Body standing_of 0 slot_entries bodies
 
 abbrev pub joint_standings : List (Option Body) → JointSlots → List Standing
-joint_standings bodies s = standings_from items.Joint (standing_of_joint bodies) 0 s.places s.joints
+joint_standings bodies s = standings_from items.Joint (standing_of_joint bodies) 0 s.slot_entries s.joints
 
 abbrev pub contact_standing : List (Option Body) → ContactEntry → Standing
 contact_standing bodies e = record { item = items.Contact e.key; set = standing_of_contact bodies e }
@@ -76,8 +76,8 @@ abbrev pub contact_standings : List (Option Body) → List ContactEntry → List
 contact_standings bodies contacts = map (contact_standing bodies) contacts
 
 -- bodies by slot, then joints by slot, then contacts by key
-unfoldable pub standings_of : List Place → List (Option Body) → JointSlots → List ContactEntry → List Standing
-standings_of places bodies s contacts = body_standings places bodies ++ (joint_standings bodies s ++ contact_standings bodies contacts)
+unfoldable pub standings_of : List SlotEntry → List (Option Body) → JointSlots → List ContactEntry → List Standing
+standings_of slot_entries bodies s contacts = body_standings slot_entries bodies ++ (joint_standings bodies s ++ contact_standings bodies contacts)
 
 -- ---- the lists
 
@@ -133,8 +133,8 @@ census_in standings = record {
 }
 
 -- the census of a world
-unfoldable pub census_of : List Place → List (Option Body) → JointSlots → List ContactEntry → Census
-census_of places bodies s contacts = census_in (standings_of places bodies s contacts)
+unfoldable pub census_of : List SlotEntry → List (Option Body) → JointSlots → List ContactEntry → Census
+census_of slot_entries bodies s contacts = census_in (standings_of slot_entries bodies s contacts)
 
 -- the names ascend, each once
 abbrev pub AreNamed : List Sleepers → Type 0

@@ -1,7 +1,7 @@
 -- Where each body, joint and contact of a world stands, and that its census lists each once, there.
 use Rattle.std.specs.Prelude.{◌≡◌, ◌≢◌, ◌↔◌, ℕ, ◌==◌, ◌&&◌, Bool, cond, List, [], ◌∷◌, map, Option, Some, None, option_map, Contains, AllPairs}
-use Rattle.body_handles.specs.declared.places.Place.{Place}
-use Rattle.body_handles.specs.Places.{IsLive}
+use Rattle.body_handles.specs.declared.slot_table.SlotEntry.{SlotEntry}
+use Rattle.body_handles.specs.SlotEntries.{IsLive}
 use Rattle.contacts_base.specs.declared.key.ShapeId.{ShapeId}
 use Rattle.contacts_base.specs.declared.key.ContactKey.{ContactKey}
 use Rattle.contacts_base.specs.declared.contact.ContactEntry.{ContactEntry}
@@ -31,16 +31,16 @@ contact_of [] key = None
 contact_of (e ∷ es) key = cond (has_key key e) (Some e) (contact_of es key)
 
 -- The one set in which an item stands: the body or the joint that a handle names, or the contact that a key names. It is none where there is no such.
-abbrev pub stand : List Place → List (Option Body) → JointSlots → List ContactEntry → Item → Option SetName
-stand places bodies s contacts (items.Body h) = option_map standing_of (body_of places bodies h)
-stand places bodies s contacts (items.Joint h) = option_map (standing_of_joint bodies) (joint_of s.places s.joints h)
-stand places bodies s contacts (items.Contact key) = option_map (standing_of_contact bodies) (contact_of contacts key)
+abbrev pub stand : List SlotEntry → List (Option Body) → JointSlots → List ContactEntry → Item → Option SetName
+stand slot_entries bodies s contacts (items.Body h) = option_map standing_of (body_of slot_entries bodies h)
+stand slot_entries bodies s contacts (items.Joint h) = option_map (standing_of_joint bodies) (joint_of s.slot_entries s.joints h)
+stand slot_entries bodies s contacts (items.Contact key) = option_map (standing_of_contact bodies) (contact_of contacts key)
 
 -- the item is there: a body or a joint whose handle is live, or one of the contacts
-abbrev pub IsPresent : List Place → JointSlots → List ContactEntry → Item → Type 0
-IsPresent places s contacts (items.Body h) = IsLive places h
-IsPresent places s contacts (items.Joint h) = IsLive s.places h
-IsPresent places s contacts (items.Contact key) = Contains (map (λ (e : ContactEntry). e.key) contacts) key
+abbrev pub IsPresent : List SlotEntry → JointSlots → List ContactEntry → Item → Type 0
+IsPresent slot_entries s contacts (items.Body h) = IsLive slot_entries h
+IsPresent slot_entries s contacts (items.Joint h) = IsLive s.slot_entries h
+IsPresent slot_entries s contacts (items.Contact key) = Contains (map (λ (e : ContactEntry). e.key) contacts) key
 
 -- ---- where it is listed
 
@@ -69,9 +69,9 @@ pub record HasSleeper (bodies : List (Option Body)) (name : ℕ) : Type 0 where
 
 -- Each body, joint and contact stands in exactly one set, and is listed there, once. In all lists together no item occurs twice, and they have just the items that are there;
 -- the list of a set has just those that stand in it; there is a sleeping set just for each name under which some body sleeps, and these names ascend.
-pub record ListsEachOnce (places : List Place) (bodies : List (Option Body)) (s : JointSlots) (contacts : List ContactEntry) (c : Census) : Type 0 where
+pub record ListsEachOnce (slot_entries : List SlotEntry) (bodies : List (Option Body)) (s : JointSlots) (contacts : List ContactEntry) (c : Census) : Type 0 where
   pub once : AllPairs (λ (a b : Item). a ≢ b) (listed c)
-  pub present : (item : Item) → Contains (listed c) item ↔ IsPresent places s contacts item
-  pub stands : (set : SetName) (item : Item) → Contains (list_of c set) item ↔ (stand places bodies s contacts item ≡ Some set)
+  pub present : (item : Item) → Contains (listed c) item ↔ IsPresent slot_entries s contacts item
+  pub stands : (set : SetName) (item : Item) → Contains (list_of c set) item ↔ (stand slot_entries bodies s contacts item ≡ Some set)
   pub names : (name : ℕ) → Contains (sleeping_names c) name ↔ HasSleeper bodies name
   pub ascending : AreNamed c.sleeping

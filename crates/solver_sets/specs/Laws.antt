@@ -1,12 +1,13 @@
 -- What is known of the ties of any world, and what changes of its bodies, joints and contacts do to them.
 use Rattle.std.specs.Prelude.{◌≡◌, ℕ, ◌<◌, ◌≤◌, true, false, List, [], Option, Some, None, All, Contains, length, slice_set}
 use Rattle.body_handles.specs.declared.handle.Handle.{Handle}
-use Rattle.body_handles.specs.declared.places.Place.{Place}
-use Rattle.body_handles.specs.declared.places.TheConstants.{MAX_SLOTS}
-use Rattle.body_handles.specs.Places.{IsLive, lowest}
+use Rattle.body_handles.specs.declared.slot_table.SlotEntry.{SlotEntry}
+use Rattle.body_handles.specs.declared.slot_table.TheConstants.{MAX_SLOTS}
+use Rattle.body_handles.specs.SlotEntries.{IsLive, lowest}
 use Rattle.graph_colours.specs.declared.member.Movers.{Movers}
 use Rattle.graph_colours.specs.declared.member.Member.{Member}
-use Rattle.graph_colours.specs.Members.{AreRising, has_id, inserted, without_member}
+use Rattle.graph_colours.specs.Members.{AreRising, inserted, without_member}
+use Rattle.graph_colours.specs.FoundMembers.{has_id}
 use Rattle.graph_colours.specs.Movers.{has_mover}
 use Rattle.graph_colours.specs.Colours.{all_members, ids_of}
 use Rattle.contacts_base.specs.declared.key.ContactKey.{ContactKey}
@@ -28,13 +29,13 @@ use Rattle.plain_world.specs.Slots.{AreMatched, body_at, with_body}
 use Rattle.solver_sets.specs.Census.{IsCensus, Standing, census_in, census_of}
 use Rattle.solver_sets.specs.EachOnce.{ListsEachOnce}
 use Rattle.solver_sets.specs.Beside.{neighbours, stirred_by}
-use Rattle.solver_sets.specs.BesideByTies.{TellMoving, stirred_among, ties_among}
+use Rattle.solver_sets.specs.BesideByTies.{ShowMoving, stirred_among, ties_among}
 use Rattle.solver_sets.specs.Joining.{handle_at, joined_with, unjoined, unjoined_all}
 use Rattle.solver_sets.specs.Slept.{asleep_only_in}
 use Rattle.solver_sets.specs.SinceTold.{newly_asleep, newly_awake}
 use Rattle.solver_sets.specs.Tied.{AreTied}
 use Rattle.solver_sets.specs.Alike.{AreAlike, AreAlikeBeside, AreJointSlots, AreTold, HaveSameEnds, IsBetweenEnabled, OnlyMoversSleep}
-use Rattle.solver_sets.specs.Ties.{IsNamed, IsNamedConstraint, JointSlots, Lists, is_enabled, joint_movers, joint_ties_at, key_changes, members_of, movers_with, moves, slots_of, ties_at, ties_of, touching_keys}
+use Rattle.solver_sets.specs.Ties.{IsKeyWithin, IsConstraintWithin, JointSlots, Lists, is_enabled, joint_movers, joint_ties_at, key_changes, members_of, movers_with, moves, slots_of, ties_at, ties_of, touching_keys}
 
 -- ---- what ties are
 
@@ -43,16 +44,16 @@ abbrev pub TiesRise : Type 0
 TiesRise = (bodies : List (Option Body)) (s : JointSlots) (contacts : List ContactEntry) → AreJointSlots s → AreKeysRising contacts → AreRising constraint_number (ties_of bodies s contacts)
 
 -- their names are within their ranges
-abbrev pub TiesAreNamed : Type 0
-TiesAreNamed = (bodies : List (Option Body)) (s : JointSlots) (contacts : List ContactEntry) (m : Member Constraint) → AreJointSlots s → All (λ (e : ContactEntry). IsNamed e.key) contacts → Contains (ties_of bodies s contacts) m → IsNamedConstraint m.id
+abbrev pub TiesAreWithin : Type 0
+TiesAreWithin = (bodies : List (Option Body)) (s : JointSlots) (contacts : List ContactEntry) (m : Member Constraint) → AreJointSlots s → All (λ (e : ContactEntry). IsKeyWithin e.key) contacts → Contains (ties_of bodies s contacts) m → IsConstraintWithin m.id
 
 -- no two contacts have keys with one number, where the keys are within their ranges
-abbrev pub KeysTellApart : Type 0
-KeysTellApart = (a b : ContactKey) → IsNamed a → IsNamed b → key_number a ≡ key_number b → a ≡ b
+abbrev pub KeyNumbersAreUnique : Type 0
+KeyNumbersAreUnique = (a b : ContactKey) → IsKeyWithin a → IsKeyWithin b → key_number a ≡ key_number b → a ≡ b
 
 -- and no two constraints have one number
-abbrev pub ConstraintsTellApart : Type 0
-ConstraintsTellApart = (a b : Constraint) → IsNamedConstraint a → IsNamedConstraint b → constraint_number a ≡ constraint_number b → a ≡ b
+abbrev pub ConstraintNumbersAreUnique : Type 0
+ConstraintNumbersAreUnique = (a b : Constraint) → IsConstraintWithin a → IsConstraintWithin b → constraint_number a ≡ constraint_number b → a ≡ b
 
 -- movers of two bodies have labels
 abbrev pub MoversHaveLabels : Type 0
@@ -73,7 +74,7 @@ AlikeBodiesKeepTies = (old new : List (Option Body)) (s : JointSlots) (contacts 
 
 -- joints with other impulses
 abbrev pub ImpulsesKeepTies : Type 0
-ImpulsesKeepTies = (bodies : List (Option Body)) (old new : JointSlots) (contacts : List ContactEntry) → new.places ≡ old.places → HaveSameEnds old.joints new.joints → ties_of bodies new contacts ≡ ties_of bodies old contacts
+ImpulsesKeepTies = (bodies : List (Option Body)) (old new : JointSlots) (contacts : List ContactEntry) → new.slot_entries ≡ old.slot_entries → HaveSameEnds old.joints new.joints → ties_of bodies new contacts ≡ ties_of bodies old contacts
 
 -- contacts of which the same touch
 abbrev pub SameTouchingKeepTies : Type 0
@@ -93,14 +94,14 @@ ToldAreTold = (bodies : List (Option Body)) (labels : Labels) → AreTied bodies
 
 -- bodies that were told labels fall asleep and wake as these and the labels now differ
 abbrev pub ToldBodiesTell : Type 0
-ToldBodiesTell = (places : List Place) (bodies : List (Option Body)) (old labels : Labels) → AreTold bodies old → (newly_asleep places bodies labels ≡ asleep_only_in places old labels) × (newly_awake places bodies labels ≡ asleep_only_in places labels old)
+ToldBodiesTell = (slot_entries : List SlotEntry) (bodies : List (Option Body)) (old labels : Labels) → AreTold bodies old → (newly_asleep slot_entries bodies labels ≡ asleep_only_in slot_entries old labels) × (newly_awake slot_entries bodies labels ≡ asleep_only_in slot_entries labels old)
 
 -- ---- who is beside a body that moves
 
 -- just the movers that a constraint which acts holds to it
-abbrev pub ActingTellMoving : Type 0
-ActingTellMoving = (bodies : List (Option Body)) (s : JointSlots) (contacts : List ContactEntry) (a : Acting Constraint) → AreTied bodies a.labels → length s.places ≡ length s.joints → IsConsistent constraint_number a → a.ties ≡ ties_of bodies s contacts
-    → TellMoving bodies s.joints contacts a.labels a.lists
+abbrev pub ActingShowMoving : Type 0
+ActingShowMoving = (bodies : List (Option Body)) (s : JointSlots) (contacts : List ContactEntry) (a : Acting Constraint) → AreTied bodies a.labels → length s.slot_entries ≡ length s.joints → IsConsistent constraint_number a → a.ties ≡ ties_of bodies s contacts
+    → ShowMoving bodies s.joints contacts a.labels a.lists
 
 -- ---- joints
 
@@ -120,7 +121,7 @@ pub record IsJoined (bodies : List (Option Body)) (s : JointSlots) (contacts : L
   pub ties : ties_of bodies new contacts ≡ with_tie (Joint h) (joint_movers bodies j) (ties_of bodies s contacts)
 
 abbrev pub JoiningAddsTies : Type 0
-JoiningAddsTies = (bodies : List (Option Body)) (s : JointSlots) (contacts : List ContactEntry) (j : BodyJoint) → AreJointSlots s → AreKeysRising contacts → lowest s.places < MAX_SLOTS → IsJoined bodies s contacts (handle_at s.places (lowest s.places)) j (joined_with j s)
+JoiningAddsTies = (bodies : List (Option Body)) (s : JointSlots) (contacts : List ContactEntry) (j : BodyJoint) → AreJointSlots s → AreKeysRising contacts → lowest s.slot_entries < MAX_SLOTS → IsJoined bodies s contacts (handle_at s.slot_entries (lowest s.slot_entries)) j (joined_with j s)
 
 -- what a joint that goes does
 pub record IsUnjoined (bodies : List (Option Body)) (s : JointSlots) (contacts : List ContactEntry) (h : Handle) (j : BodyJoint) (new : JointSlots) : Type 0 where
@@ -129,7 +130,7 @@ pub record IsUnjoined (bodies : List (Option Body)) (s : JointSlots) (contacts :
   pub ties : ties_of bodies new contacts ≡ without_tie (Joint h) (joint_movers bodies j) (ties_of bodies s contacts)
 
 abbrev pub UnjoiningTakesTies : Type 0
-UnjoiningTakesTies = (bodies : List (Option Body)) (s : JointSlots) (contacts : List ContactEntry) (h : Handle) (j : BodyJoint) → AreJointSlots s → AreKeysRising contacts → IsLive s.places h → joint_at s.joints h.slot ≡ Some j → IsUnjoined bodies s contacts h j (unjoined h s)
+UnjoiningTakesTies = (bodies : List (Option Body)) (s : JointSlots) (contacts : List ContactEntry) (h : Handle) (j : BodyJoint) → AreJointSlots s → AreKeysRising contacts → IsLive s.slot_entries h → joint_at s.joints h.slot ≡ Some j → IsUnjoined bodies s contacts h j (unjoined h s)
 
 -- ---- bodies
 
@@ -150,7 +151,7 @@ GoingTakesTies = (slot : ℕ) (bodies : List (Option Body)) (s : JointSlots) (co
 abbrev pub DisablingTakesTies : Type 0
 DisablingTakesTies = (slot : ℕ) (old new : List (Option Body)) (s : JointSlots) (joints : List (Option BodyJoint)) (contacts : List ContactEntry) → AreJointSlots s → AreKeysRising contacts
     → AreAlikeBeside slot old new → is_enabled new slot ≡ false → HaveSameEnds s.joints joints
-    → ties_of new (slots_of s.places joints) (contacts_without slot contacts) ≡ each_without constraint_number (ties_at slot old s contacts) (ties_of old s contacts)
+    → ties_of new (slots_of s.slot_entries joints) (contacts_without slot contacts) ≡ each_without constraint_number (ties_at slot old s contacts) (ties_of old s contacts)
 
 -- a body that is enabled: its joints begin
 pub record IsTakenUp (slot : ℕ) (old new : List (Option Body)) (s : JointSlots) (contacts : List ContactEntry) : Type 0 where
@@ -178,7 +179,7 @@ TiesArePicked = (slot : ℕ) (bodies : List (Option Body)) (s : JointSlots) (con
 
 -- and so are those whom a change of it wakes
 abbrev pub StirredArePicked : Type 0
-StirredArePicked = (slot : ℕ) (bodies : List (Option Body)) (s : JointSlots) (contacts : List ContactEntry) → AreMatched s.places s.joints → stirred_among bodies s.joints (ties_of bodies s contacts) slot ≡ stirred_by bodies s.joints contacts slot
+StirredArePicked = (slot : ℕ) (bodies : List (Option Body)) (s : JointSlots) (contacts : List ContactEntry) → AreMatched s.slot_entries s.joints → stirred_among bodies s.joints (ties_of bodies s contacts) slot ≡ stirred_by bodies s.joints contacts slot
 
 -- one that isn't enabled has none
 abbrev pub NoTiesOfDisabled : Type 0
@@ -187,18 +188,18 @@ NoTiesOfDisabled = (slot : ℕ) (bodies : List (Option Body)) (s : JointSlots) (
 -- ---- the collide
 
 -- What begins and ends to touch is what begins and ends between the ties before and after.
-abbrev pub KeysTurn : Type 0
-KeysTurn = (bodies : List (Option Body)) (s : JointSlots) (old new : List ContactEntry) → AreJointSlots s → AreKeysRising old → AreKeysRising new → All (λ (e : ContactEntry). IsNamed e.key) old → All (λ (e : ContactEntry). IsNamed e.key) new
+abbrev pub KeysChange : Type 0
+KeysChange = (bodies : List (Option Body)) (s : JointSlots) (old new : List ContactEntry) → AreJointSlots s → AreKeysRising old → AreKeysRising new → All (λ (e : ContactEntry). IsKeyWithin e.key) old → All (λ (e : ContactEntry). IsKeyWithin e.key) new
     → key_changes bodies (keys_touching_only_in old new) (keys_touching_only_in new old) ≡ changes_between constraint_number (ties_of bodies s old) (ties_of bodies s new)
 
 -- a constraint that is a tie before and after has the same movers
-abbrev pub SameNamesSameTies : Type 0
-SameNamesSameTies = (bodies : List (Option Body)) (s : JointSlots) (old new : List ContactEntry) (x y : Member Constraint) → AreJointSlots s → All (λ (e : ContactEntry). IsNamed e.key) old → All (λ (e : ContactEntry). IsNamed e.key) new
+abbrev pub SameIdsSameTies : Type 0
+SameIdsSameTies = (bodies : List (Option Body)) (s : JointSlots) (old new : List ContactEntry) (x y : Member Constraint) → AreJointSlots s → All (λ (e : ContactEntry). IsKeyWithin e.key) old → All (λ (e : ContactEntry). IsKeyWithin e.key) new
     → Contains (ties_of bodies s old) x → Contains (ties_of bodies s new) y → constraint_number x.id ≡ constraint_number y.id → x ≡ y
 
 -- each that ends is there at its turn, and each that begins isn't, and has movers
-abbrev pub KeysCanTurn : Type 0
-KeysCanTurn = (bodies : List (Option Body)) (s : JointSlots) (old new : List ContactEntry) (labels : Labels) → AreJointSlots s → AreKeysRising old → AreKeysRising new → All (λ (e : ContactEntry). IsNamed e.key) old → All (λ (e : ContactEntry). IsNamed e.key) new → AreTied bodies labels
+abbrev pub KeysCanChange : Type 0
+KeysCanChange = (bodies : List (Option Body)) (s : JointSlots) (old new : List ContactEntry) (labels : Labels) → AreJointSlots s → AreKeysRising old → AreKeysRising new → All (λ (e : ContactEntry). IsKeyWithin e.key) old → All (λ (e : ContactEntry). IsKeyWithin e.key) new → AreTied bodies labels
     → AreChanges constraint_number labels (ties_of bodies s old) (key_changes bodies (keys_touching_only_in old new) (keys_touching_only_in new old))
 
 -- no more begin than begin to touch
@@ -212,5 +213,5 @@ ListsAreCensus = (standings : List Standing) → IsCensus standings (census_in s
 
 -- Where bodies and joints are just in the slots that are taken, the contacts ascend and only movers sleep, each body, joint and contact stands in one set and is listed there, once.
 abbrev pub CensusListsEachOnce : Type 0
-CensusListsEachOnce = (places : List Place) (bodies : List (Option Body)) (s : JointSlots) (contacts : List ContactEntry) → AreMatched places bodies → AreMatched s.places s.joints → AreKeysRising contacts → OnlyMoversSleep bodies
-    → ListsEachOnce places bodies s contacts (census_of places bodies s contacts)
+CensusListsEachOnce = (slot_entries : List SlotEntry) (bodies : List (Option Body)) (s : JointSlots) (contacts : List ContactEntry) → AreMatched slot_entries bodies → AreMatched s.slot_entries s.joints → AreKeysRising contacts → OnlyMoversSleep bodies
+    → ListsEachOnce slot_entries bodies s contacts (census_of slot_entries bodies s contacts)

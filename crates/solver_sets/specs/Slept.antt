@@ -1,14 +1,14 @@
 -- Who has fallen asleep, or has woken, between two labellings.
 use Rattle.std.specs.Prelude.{ℕ, suc, ◌&&◌, Bool, false, not, cond, List, [], ◌∷◌, Option, Some, None}
 use Rattle.body_handles.specs.declared.handle.Handle.{Handle}
-use Rattle.body_handles.specs.declared.places.Place.{Place}
+use Rattle.body_handles.specs.declared.slot_table.SlotEntry.{SlotEntry}
 use Rattle.islands.specs.declared.label.Label.{Label}
 use Rattle.islands.specs.Labels.{Labels, label_at, is_asleep}
 
 -- the handles of the slots that pass the test, ascending, where the list begins with this slot
-abbrev pub handles_where : (ℕ → Bool) → ℕ → List Place → List Handle
+abbrev pub handles_where : (ℕ → Bool) → ℕ → List SlotEntry → List Handle
 handles_where test slot [] = []
-handles_where test slot (p ∷ places) = cond (test slot) (record { slot = slot; generation = p.generation } ∷ handles_where test (suc slot) places) (handles_where test (suc slot) places)
+handles_where test slot (p ∷ slot_entries) = cond (test slot) (record { slot = slot; generation = p.generation } ∷ handles_where test (suc slot) slot_entries) (handles_where test (suc slot) slot_entries)
 
 abbrev pub is_asleep_label : Option Label → Bool
 is_asleep_label None = false
@@ -19,5 +19,5 @@ abbrev pub sleeps : Labels → ℕ → Bool
 sleeps labels slot = is_asleep_label (label_at labels slot)
 
 -- the handles, ascending, of the bodies that sleep by the second labels and don't by the first
-unfoldable pub asleep_only_in : List Place → Labels → Labels → List Handle
-asleep_only_in places others labels = handles_where (λ slot. sleeps labels slot && not (sleeps others slot)) 0 places
+unfoldable pub asleep_only_in : List SlotEntry → Labels → Labels → List Handle
+asleep_only_in slot_entries others labels = handles_where (λ slot. sleeps labels slot && not (sleeps others slot)) 0 slot_entries

@@ -2,7 +2,7 @@
 use Rattle.std.specs.Prelude.{ℕ, suc, ◌<◌, ◌^◌, ◌==◌, ◌&&◌, ◌||◌, Bool, true, false, cond, List, [], ◌∷◌, ◌++◌, filter, map, Option, Some, None, option_map}
 use Rattle.std.specs.List.{filter_map}
 use Rattle.body_handles.specs.declared.handle.Handle.{Handle}
-use Rattle.body_handles.specs.declared.places.Place.{Place}
+use Rattle.body_handles.specs.declared.slot_table.SlotEntry.{SlotEntry}
 use Rattle.graph_colours.specs.declared.member.Movers.{Movers}
 use Rattle.graph_colours.specs.declared.member.Member.{Member}
 use Rattle.contacts_base.specs.declared.key.ContactKey.{ContactKey}
@@ -27,11 +27,11 @@ Lists = List (List (Member Constraint))
 
 -- the slots of the joints, and the joints in them
 pub record JointSlots : Type 0 where
-  pub places : List Place
+  pub slot_entries : List SlotEntry
   pub joints : List (Option BodyJoint)
 
-abbrev pub slots_of : List Place → List (Option BodyJoint) → JointSlots
-slots_of places joints = record { places = places; joints = joints }
+abbrev pub slots_of : List SlotEntry → List (Option BodyJoint) → JointSlots
+slots_of slot_entries joints = record { slot_entries = slot_entries; joints = joints }
 
 -- ---- movers
 
@@ -91,14 +91,14 @@ bond_before h None bonds = bonds
 bond_before h (Some j) bonds = joint_bond h j ∷ bonds
 
 -- where the lists begin with this slot
-abbrev pub joint_bonds_from : ℕ → List Place → List (Option BodyJoint) → List Bond
+abbrev pub joint_bonds_from : ℕ → List SlotEntry → List (Option BodyJoint) → List Bond
 joint_bonds_from slot [] joints = []
-joint_bonds_from slot (p ∷ places) [] = []
-joint_bonds_from slot (p ∷ places) (o ∷ joints) = bond_before (record { slot = slot; generation = p.generation }) o (joint_bonds_from (suc slot) places joints)
+joint_bonds_from slot (p ∷ slot_entries) [] = []
+joint_bonds_from slot (p ∷ slot_entries) (o ∷ joints) = bond_before (record { slot = slot; generation = p.generation }) o (joint_bonds_from (suc slot) slot_entries joints)
 
 -- those of the joints, by slot
 abbrev pub joint_bonds : JointSlots → List Bond
-joint_bonds s = joint_bonds_from 0 s.places s.joints
+joint_bonds s = joint_bonds_from 0 s.slot_entries s.joints
 
 -- the keys of the contacts that touch
 abbrev pub touching_keys : List ContactEntry → List ContactKey
@@ -172,16 +172,16 @@ key_changes bodies begins ends = begins_inserted constraint_number (key_ties bod
 
 -- ---- names within their ranges, so that no two constraints have one number
 
-pub record IsNamed (key : ContactKey) : Type 0 where
+pub record IsKeyWithin (key : ContactKey) : Type 0 where
   pub first : key.first.index < 256
   pub second : key.second.index < 256
   pub slot : key.second.slot < 2 ^ 32
 
 -- the same of a joint's handle
-pub record IsNamedHandle (h : Handle) : Type 0 where
+pub record IsHandleWithin (h : Handle) : Type 0 where
   pub slot : h.slot < 2 ^ 32
   pub generation : h.generation < 2 ^ 32
 
-abbrev pub IsNamedConstraint : Constraint → Type 0
-IsNamedConstraint (Joint h) = IsNamedHandle h
-IsNamedConstraint (Contact key) = IsNamed key
+abbrev pub IsConstraintWithin : Constraint → Type 0
+IsConstraintWithin (Joint h) = IsHandleWithin h
+IsConstraintWithin (Contact key) = IsKeyWithin key

@@ -3,12 +3,13 @@
 ghost use Rattle.std.specs.Prelude.{◌≡◌, ◌++◌, ◌∷◌, [], ℕ, List, true};
 ghost use Rattle.graph_colours.specs.declared.member.Member.{Member as TheMember};
 ghost use Rattle.contacts.specs.declared.constraint.Constraint.{Constraint as TheConstraint};
-ghost use Rattle.solver_sets.specs.Anchors.{AreAlike, IsListed, Tell, begins_of, lists_of};
+ghost use Rattle.solver_sets.specs.Anchors.{AreAlike, IsListed, AreComplete, begins_of, lists_of};
 
 use crate::anchor::anchor_of;
 use contacts::Constraint;
 use graph_colours::{Id, Member};
 use sleep_wake::{Change, Sets};
+use std::mem;
 
 // ---- room for a slot
 
@@ -52,7 +53,7 @@ fn list_at(lists: &mut Vec<Vec<u128>>, slot: u32, number: u128) -> bool
 
 /// Lists a constraint at its anchor, if it has one, where the lists hold. Answers whether they hold then.
 fn list_one(lists: &mut Vec<Vec<u128>>, holds: bool, tie: Member<Constraint>) -> bool
-    ensures { (ties : List (TheMember TheConstraint)) → Tell holds (lists_of lists.old.items) ties → Tell result (lists_of lists.new.items) (ties ++ tie ∷ []) }
+    ensures { (ties : List (TheMember TheConstraint)) → AreComplete holds (lists_of lists.old.items) ties → AreComplete result (lists_of lists.new.items) (ties ++ tie ∷ []) }
 {
     if !holds {
         return false;
@@ -67,7 +68,7 @@ fn list_one(lists: &mut Vec<Vec<u128>>, holds: bool, tie: Member<Constraint>) ->
 
 /// Lists a constraint that begins. Answers whether the lists hold then.
 fn list_begin(lists: &mut Vec<Vec<u128>>, holds: bool, change: Change<Constraint>) -> bool
-    ensures { (ties : List (TheMember TheConstraint)) → Tell holds (lists_of lists.old.items) ties → Tell result (lists_of lists.new.items) (ties ++ begins_of (change ∷ [])) }
+    ensures { (ties : List (TheMember TheConstraint)) → AreComplete holds (lists_of lists.old.items) ties → AreComplete result (lists_of lists.new.items) (ties ++ begins_of (change ∷ [])) }
 {
     match change {
         Change::Begin(tie) => list_one(lists, holds, tie),
@@ -81,7 +82,7 @@ pub(crate) fn list_begins(
     holds: bool,
     changes: &[Change<Constraint>],
 ) -> bool
-    ensures { (ties : List (TheMember TheConstraint)) → Tell holds (lists_of lists.old.items) ties → Tell result (lists_of lists.new.items) (ties ++ begins_of changes.now) }
+    ensures { (ties : List (TheMember TheConstraint)) → AreComplete holds (lists_of lists.old.items) ties → AreComplete result (lists_of lists.new.items) (ties ++ begins_of changes.now) }
 {
     let mut held = holds;
     for place in 0..changes.len() {
@@ -92,7 +93,7 @@ pub(crate) fn list_begins(
 
 /// Lists all of these. Answers whether there was memory.
 fn list_each(lists: &mut Vec<Vec<u128>>, ties: &[Member<Constraint>]) -> bool
-    ensures { Tell result (lists_of lists.new.items) ties.now }
+    ensures { AreComplete result (lists_of lists.new.items) ties.now }
 {
     let mut held = true;
     for place in 0..ties.len() {
@@ -110,16 +111,30 @@ fn clear_each(lists: &mut Vec<Vec<u128>>) {
     }
 }
 
-/// Makes the lists anew, unless they are kept. Answers whether they hold then: not where memory is wanting.
-pub(crate) fn rebuild(lists: &mut Vec<Vec<u128>>, kept: bool, sets: &Sets<Constraint>) -> bool
-    ensures { Tell kept (lists_of lists.old.items) sets.now.acting.ties → Tell result (lists_of lists.new.items) sets.now.acting.ties }
+/// Gives a list's memory away.
+fn take_room(room: &mut Vec<Member<Constraint>>) -> Vec<Member<Constraint>> {
+    let alloc = *room.allocator();
+    mem::replace(room, Vec::new(alloc))
+}
+
+/// Makes the lists anew, unless they are kept. Answers whether they hold then: not where memory is wanting. The constraints are listed in the memory of `room`, which is kept.
+pub(crate) fn rebuild(
+    lists: &mut Vec<Vec<u128>>,
+    room: &mut Vec<Member<Constraint>>,
+    kept: bool,
+    sets: &Sets<Constraint>,
+) -> bool
+    ensures { AreComplete kept (lists_of lists.old.items) sets.now.acting.ties → AreComplete result (lists_of lists.new.items) sets.now.acting.ties }
 {
     if kept {
         return true;
     }
     clear_each(lists);
-    match sets.list_ties() {
-        Ok(ties) => list_each(lists, &ties),
+    match sets.list_ties(take_room(room)) {
+        Ok(ties) => {
+            *room = ties;
+            list_each(lists, room)
+        }
         Err(_) => false,
     }
 }

@@ -99,7 +99,7 @@ pub(crate) fn pick(
     ensures value { IfOk result (λ found. found.items ≡ anchored_at slot sets.now.acting.ties) }
     ensures memory_only { IsOkUnless result Refusal.NoMemory }
 {
-    let ties = sets.list_ties()?;
+    let ties = sets.list_ties(Vec::new(alloc))?;
     pick_from(alloc, &ties, slot)
 }
 

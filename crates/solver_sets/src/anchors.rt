@@ -8,7 +8,7 @@ ghost use Rattle.std.specs.Prelude.{◌≡◌, ◌++◌, List, true, false, IfOk
 ghost use Rattle.std.specs.Result.{IsOkUnless};
 ghost use Rattle.contacts.specs.declared.constraint.Constraint.{Constraint as TheConstraint};
 ghost use Rattle.graph_colours.specs.declared.member.Member.{Member as TheMember};
-ghost use Rattle.solver_sets.specs.Anchors.{Tell, anchored_at, begins_of};
+ghost use Rattle.solver_sets.specs.Anchors.{AreComplete, anchored_at, begins_of};
 
 use crate::anchor_lists::{list_begins, rebuild};
 use crate::anchored_at::{look_up, pick, tidy};
@@ -27,6 +27,8 @@ pub struct Anchors {
     // At least as many as there are numbers in the lists.
     listed: usize,
     holds: bool,
+    // Memory in which all constraints are listed where the lists are made anew.
+    room: Vec<Member<Constraint>>,
 }
 
 impl Model for Anchors {
@@ -67,23 +69,24 @@ impl Anchors {
             lists: Vec::new(alloc),
             listed: 0,
             holds: false,
+            room: Vec::new(alloc),
         }
     }
 
     /// Makes the lists anew of all constraints of the sets where they don't hold, or have come to be far more than these, as far as there is memory. What that costs
     /// is paid for by what began before.
     pub fn renew(&mut self, sets: &Sets<Constraint>)
-        ensures told { Tell self.old.holds self.old.lists sets.now.acting.ties → Tell self.new.holds self.new.lists sets.now.acting.ties }
+        ensures told { AreComplete self.old.holds self.old.lists sets.now.acting.ties → AreComplete self.new.holds self.new.lists sets.now.acting.ties }
     {
         let ties = sets.tie_count();
         let kept = are_kept(self.holds, self.listed, self.lists.len(), ties);
         self.listed = count_then(kept, self.listed, ties);
-        self.holds = rebuild(&mut self.lists, kept, sets);
+        self.holds = rebuild(&mut self.lists, &mut self.room, kept, sets);
     }
 
     /// Lists the contacts that begin among these changes. Where memory is wanting, the lists hold no longer.
     pub fn add_each(&mut self, changes: &[Change<Constraint>])
-        ensures told { (ties : List (TheMember TheConstraint)) → Tell self.old.holds self.old.lists ties → Tell self.new.holds self.new.lists (ties ++ begins_of changes.now) }
+        ensures told { (ties : List (TheMember TheConstraint)) → AreComplete self.old.holds self.old.lists ties → AreComplete self.new.holds self.new.lists (ties ++ begins_of changes.now) }
     {
         self.listed = self.listed.saturating_add(changes.len());
         self.holds = list_begins(&mut self.lists, self.holds, changes);
@@ -97,7 +100,7 @@ impl Anchors {
         sets: &Sets<Constraint>,
         slot: u32,
     ) -> Result<Vec<Member<Constraint>>, Refusal>
-        requires { Tell self.now.holds self.now.lists sets.now.acting.ties }
+        requires { AreComplete self.now.holds self.now.lists sets.now.acting.ties }
         ensures value { IfOk result (λ found. found.items ≡ anchored_at slot sets.now.acting.ties) }
         ensures memory_only { IsOkUnless result Refusal.NoMemory }
     {
@@ -111,9 +114,9 @@ impl Anchors {
 
     /// Takes out of the list of a slot what has ended, as far as there is memory, so that a question finds it but once.
     pub fn tidy(&mut self, sets: &Sets<Constraint>, slot: u32)
-        ensures told { Tell self.old.holds self.old.lists sets.now.acting.ties → Tell self.new.holds self.new.lists sets.now.acting.ties }
+        ensures told { AreComplete self.old.holds self.old.lists sets.now.acting.ties → AreComplete self.new.holds self.new.lists sets.now.acting.ties }
     {
-        sets.know_settled();
+        sets.know_consistent();
         tidy(&mut self.lists, sets, slot);
     }
 }

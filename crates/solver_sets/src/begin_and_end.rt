@@ -3,7 +3,7 @@
 ghost use Rattle.std.specs.Prelude.{◌≡◌, ◌<◌, true, false, length, Contains};
 ghost use Rattle.std.specs.Option.{ForSome};
 ghost use Rattle.contacts.specs.Constraints.{constraint_number};
-ghost use Rattle.graph_colours.specs.Members.{has_id};
+ghost use Rattle.graph_colours.specs.FoundMembers.{has_id};
 ghost use Rattle.sleep_wake.specs.Acting.{are_awake};
 ghost use Rattle.solver_sets.specs.Ties.{begun_with, ended_with};
 

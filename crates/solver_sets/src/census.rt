@@ -9,7 +9,7 @@ ghost use Rattle.solver_sets.specs.Census.{AreNamed, body_standings, census_of, 
 ghost use Rattle.solver_sets.specs.CensusListing.{alone, empty_census, listed_in, with_all, with_item, with_sleeper};
 
 use crate::ties::is_enabled;
-use body_handles::{Handle, Place};
+use body_handles::{Handle, SlotEntry};
 use contacts_base::{ContactEntry, ContactKey};
 use fixed_geom::Refusal;
 use plain_world::{Body, BodyJoint, SetName, item_at};
@@ -256,12 +256,12 @@ pub fn standing_of_contact(bodies: &[Option<Body>], entry: &ContactEntry) -> Set
 /// Lists the bodies, by slot. Refused 1 where memory is wanting.
 fn list_bodies(
     census: &mut Census,
-    places: &[Place],
+    slot_entries: &[SlotEntry],
     bodies: &[Option<Body>],
 ) -> Result<(), Refusal>
-    requires matched { AreMatched places.now bodies.now }
+    requires matched { AreMatched slot_entries.now bodies.now }
     requires named { AreNamed census.old.sleeping }
-    ensures listed { OnOk result (census.new ≡ with_all census.old (body_standings places.now bodies.now)) }
+    ensures listed { OnOk result (census.new ≡ with_all census.old (body_standings slot_entries.now bodies.now)) }
     ensures named { OnOk result (AreNamed census.new.sleeping) }
     ensures memory_only { IsOkUnless result Refusal.NoMemory }
 {
@@ -269,7 +269,7 @@ fn list_bodies(
         if let Some(body) = entry {
             let handle = Handle {
                 slot: slot as u32,
-                generation: places[slot].generation,
+                generation: slot_entries[slot].generation,
             };
             census.list(Item::Body(handle), body.standing())?;
         }
@@ -281,12 +281,12 @@ fn list_bodies(
 fn list_joints(
     census: &mut Census,
     bodies: &[Option<Body>],
-    places: &[Place],
+    slot_entries: &[SlotEntry],
     joints: &[Option<BodyJoint>],
 ) -> Result<(), Refusal>
-    requires matched { AreMatched places.now joints.now }
+    requires matched { AreMatched slot_entries.now joints.now }
     requires named { AreNamed census.old.sleeping }
-    ensures listed { OnOk result (census.new ≡ with_all census.old (joint_standings bodies.now (slots_of places.now joints.now))) }
+    ensures listed { OnOk result (census.new ≡ with_all census.old (joint_standings bodies.now (slots_of slot_entries.now joints.now))) }
     ensures named { OnOk result (AreNamed census.new.sleeping) }
     ensures memory_only { IsOkUnless result Refusal.NoMemory }
 {
@@ -294,7 +294,7 @@ fn list_joints(
         if let Some(joint) = entry {
             let handle = Handle {
                 slot: slot as u32,
-                generation: places[slot].generation,
+                generation: slot_entries[slot].generation,
             };
             census.list(Item::Joint(handle), standing_of_joint(bodies, joint))?;
         }
@@ -322,20 +322,20 @@ fn list_contacts(
 #[tactic(auto, unfolding(crate::specs::Census::census_of))]
 pub fn take_census(
     alloc: Global,
-    places: &[Place],
+    slot_entries: &[SlotEntry],
     bodies: &[Option<Body>],
-    joint_places: &[Place],
+    joint_entries: &[SlotEntry],
     joints: &[Option<BodyJoint>],
     contacts: &[ContactEntry],
 ) -> Result<Census, Refusal>
-    requires bodies { AreMatched places.now bodies.now }
-    requires joints { AreMatched joint_places.now joints.now }
-    ensures value { IfOk result (λ census. census ≡ census_of places.now bodies.now (slots_of joint_places.now joints.now) contacts.now) }
+    requires bodies { AreMatched slot_entries.now bodies.now }
+    requires joints { AreMatched joint_entries.now joints.now }
+    ensures value { IfOk result (λ census. census ≡ census_of slot_entries.now bodies.now (slots_of joint_entries.now joints.now) contacts.now) }
     ensures memory_only { IsOkUnless result Refusal.NoMemory }
 {
     let mut census = Census::new(alloc);
-    list_bodies(&mut census, places, bodies)?;
-    list_joints(&mut census, bodies, joint_places, joints)?;
+    list_bodies(&mut census, slot_entries, bodies)?;
+    list_joints(&mut census, bodies, joint_entries, joints)?;
     list_contacts(&mut census, bodies, contacts)?;
     Ok(census)
 }

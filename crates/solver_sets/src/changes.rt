@@ -2,7 +2,7 @@
 
 ghost use Rattle.std.specs.Prelude.{◌≡◌, ◌≤◌, ◌++◌, IfOk, OnOk, length, drop, option_map};
 ghost use Rattle.std.specs.Result.{IsOkUnless};
-ghost use Rattle.contacts.specs.Changes.{AreRising};
+ghost use Rattle.contacts.specs.ChangedKeys.{AreRising};
 ghost use Rattle.solver_sets.specs.Merging.{all_ends, begin_of, end_of, ends_from, ends_until, key_tie, merged};
 ghost use Rattle.solver_sets.specs.Ties.{key_changes};
 

@@ -11,7 +11,7 @@ ghost use Rattle.solver_sets.specs.Given.{contact_tie_in, joint_tie_in, joints_a
 ghost use Rattle.solver_sets.specs.Ties.{joint_bonds, member_of, members_of, movers_of, slots_of, ties_in, ties_of};
 
 use crate::ties::{contact_movers, joint_movers, tie_with};
-use body_handles::{Handle, Place};
+use body_handles::{Handle, SlotEntry};
 use contacts::Constraint;
 use contacts_base::ContactEntry;
 use fixed_geom::Refusal;
@@ -52,18 +52,18 @@ fn contact_tie(bodies: &[Option<Body>], entry: &ContactEntry) -> Option<Member<C
 fn list_joints(
     alloc: Global,
     bodies: &[Option<Body>],
-    places: &[Place],
+    slot_entries: &[SlotEntry],
     joints: &[Option<BodyJoint>],
 ) -> Result<Vec<Member<Constraint>>, Refusal>
-    requires { AreMatched places.now joints.now }
-    ensures ties { IfOk result (λ ties. ties.items ≡ ties_in bodies.now (joint_bonds (slots_of places.now joints.now))) }
+    requires { AreMatched slot_entries.now joints.now }
+    ensures ties { IfOk result (λ ties. ties.items ≡ ties_in bodies.now (joint_bonds (slots_of slot_entries.now joints.now))) }
     ensures memory_only { IsOkUnless result Refusal.NoMemory }
 {
     let mut ties = Vec::new(alloc);
     for index in 0..joints.len() {
         let handle = Handle {
             slot: index as u32,
-            generation: places[index].generation,
+            generation: slot_entries[index].generation,
         };
         push_some(&mut ties, joint_tie(bodies, handle, joints[index].as_ref()))?;
     }
@@ -74,15 +74,15 @@ fn list_joints(
 pub fn list_all_ties(
     alloc: Global,
     bodies: &[Option<Body>],
-    places: &[Place],
+    slot_entries: &[SlotEntry],
     joints: &[Option<BodyJoint>],
     contacts: &[ContactEntry],
 ) -> Result<Vec<Member<Constraint>>, Refusal>
-    requires { AreMatched places.now joints.now }
-    ensures ties { IfOk result (λ ties. ties.items ≡ ties_of bodies.now (slots_of places.now joints.now) contacts.now) }
+    requires { AreMatched slot_entries.now joints.now }
+    ensures ties { IfOk result (λ ties. ties.items ≡ ties_of bodies.now (slots_of slot_entries.now joints.now) contacts.now) }
     ensures memory_only { IsOkUnless result Refusal.NoMemory }
 {
-    let mut ties = list_joints(alloc, bodies, places, joints)?;
+    let mut ties = list_joints(alloc, bodies, slot_entries, joints)?;
     for entry in contacts {
         push_some(&mut ties, contact_tie(bodies, entry))?;
     }
@@ -137,7 +137,7 @@ fn list_colour(
 /// The members of each colour of a plain world, those in the overflow last. Costs by their number. Refused 1 where memory is wanting.
 pub fn list_members(alloc: Global, plain: &Plain) -> Result<Vec<Vec<Member<Constraint>>>, Refusal>
     requires { length plain.now.colours ≡ COLOURS + 1 }
-    ensures members { IfOk result (λ lists. lists_of lists.items ≡ members_of plain.now.bodies (slots_of plain.now.joint_places plain.now.joints) plain.now.colours) }
+    ensures members { IfOk result (λ lists. lists_of lists.items ≡ members_of plain.now.bodies (slots_of plain.now.joint_entries plain.now.joints) plain.now.colours) }
     ensures memory_only { IsOkUnless result Refusal.NoMemory }
 {
     let mut lists = Vec::new(alloc);

@@ -1,6 +1,6 @@
 //! What is known of the ties of any world, and what changes of its bodies, joints and contacts do to them. Each function does nothing; its contract is a law.
 
-ghost use Rattle.solver_sets.specs.Laws.{ActingTellMoving, AlikeBodiesKeepTies, CensusListsEachOnce, ComingKeepsTies, ConstraintsTellApart, DisablingTakesTies, EnablingAddsTies, FewBegin, GoingTakesTies, ImpulsesKeepTies, JoiningAddsTies, KeysCanTurn, KeysTellApart, KeysTurn, ListsAreCensus, ListsAreMembers, MoversHaveLabels, NoTiesOfDisabled, SameNamesSameTies, SameTouchingKeepTies, StirredArePicked, TiesAreNamed, TiesArePicked, TiesAtAreTies, TiesHaveLabels, TiesOfAMover, TiesOfNoMover, TellingKeepsTies, TiesRise, ToldAreTold, ToldBodiesTell, UnjoiningTakesTies};
+ghost use Rattle.solver_sets.specs.Laws.{ActingShowMoving, AlikeBodiesKeepTies, CensusListsEachOnce, ComingKeepsTies, ConstraintNumbersAreUnique, DisablingTakesTies, EnablingAddsTies, FewBegin, GoingTakesTies, ImpulsesKeepTies, JoiningAddsTies, KeysCanChange, KeyNumbersAreUnique, KeysChange, ListsAreCensus, ListsAreMembers, MoversHaveLabels, NoTiesOfDisabled, SameIdsSameTies, SameTouchingKeepTies, StirredArePicked, TiesAreWithin, TiesArePicked, TiesAtAreTies, TiesHaveLabels, TiesOfAMover, TiesOfNoMover, TellingKeepsTies, TiesRise, ToldAreTold, ToldBodiesTell, UnjoiningTakesTies};
 
 // ---- what ties are
 
@@ -10,18 +10,18 @@ pub fn ties_rise()
 {}
 
 /// The names of ties are within their ranges, so that no two have one number.
-pub fn ties_are_named()
-    ensures { TiesAreNamed }
+pub fn ties_are_within()
+    ensures { TiesAreWithin }
 {}
 
 /// A contact's number tells which contact it is: no other key has it.
-pub fn keys_tell_apart()
-    ensures { KeysTellApart }
+pub fn key_numbers_are_unique()
+    ensures { KeyNumbersAreUnique }
 {}
 
 /// A constraint's number tells which joint or which contact it is: no other one has it.
-pub fn constraints_tell_apart()
-    ensures { ConstraintsTellApart }
+pub fn constraint_numbers_are_unique()
+    ensures { ConstraintNumbersAreUnique }
 {}
 
 /// Where just the movers have labels, those of two bodies that are movers have.
@@ -125,18 +125,18 @@ pub fn stirred_are_picked()
 // ---- the collide
 
 /// The contacts that begin and end to touch, in the order of their keys, are what begins and ends between the ties before and after.
-pub fn keys_turn()
-    ensures { KeysTurn }
+pub fn keys_change()
+    ensures { KeysChange }
 {}
 
 /// A constraint that is a tie before and after has the same movers.
-pub fn same_names_same_ties()
-    ensures { SameNamesSameTies }
+pub fn same_ids_same_ties()
+    ensures { SameIdsSameTies }
 {}
 
 /// Each contact that ends is a tie at its turn, and each that begins isn't, and has movers with labels.
-pub fn keys_can_turn()
-    ensures { KeysCanTurn }
+pub fn keys_can_change()
+    ensures { KeysCanChange }
 {}
 
 /// No more constraints begin than contacts begin to touch.
@@ -164,8 +164,8 @@ pub fn told_bodies_tell()
 // ---- who is beside a body that moves
 
 /// An awake mover is beside a kinematic body that moves just if a constraint that acts is between them.
-pub fn acting_tell_moving()
-    ensures { ActingTellMoving }
+pub fn acting_show_moving()
+    ensures { ActingShowMoving }
 {}
 
 // ---- the census

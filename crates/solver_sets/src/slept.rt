@@ -6,7 +6,7 @@ ghost use Rattle.std.specs.Option.{option_to_list};
 ghost use Rattle.solver_sets.specs.Slept.{sleeps};
 ghost use Rattle.solver_sets.specs.SinceTold.{handle_if, newly_asleep, newly_awake, was_asleep};
 
-use body_handles::{Handle, Place};
+use body_handles::{Handle, SlotEntry};
 use islands::Islands;
 use plain_world::{Body, item_at};
 
@@ -45,10 +45,10 @@ fn is_newly_awake(bodies: &[Option<Body>], islands: &Islands, slot: u32) -> bool
 }
 
 /// The handle of who is in the slot, if they pass.
-fn handle_if(places: &[Place], slot: u32, passes: bool) -> Option<Handle>
-    ensures { result ≡ handle_if passes slot (slice_get places.now slot) }
+fn handle_if(slot_entries: &[SlotEntry], slot: u32, passes: bool) -> Option<Handle>
+    ensures { result ≡ handle_if passes slot (slice_get slot_entries.now slot) }
 {
-    match places.get(slot as usize) {
+    match slot_entries.get(slot as usize) {
         None => None,
         Some(place) => {
             if passes {
@@ -65,26 +65,26 @@ fn handle_if(places: &[Place], slot: u32, passes: bool) -> Option<Handle>
 
 /// The handle of who is in the slot, if they sleep and weren't told so yet.
 fn newly_asleep_at(
-    places: &[Place],
+    slot_entries: &[SlotEntry],
     bodies: &[Option<Body>],
     islands: &Islands,
     slot: u32,
 ) -> Option<Handle>
-    ensures { result ≡ handle_if (sleeps islands.now.labels slot && not (was_asleep bodies.now slot)) slot (slice_get places.now slot) }
+    ensures { result ≡ handle_if (sleeps islands.now.labels slot && not (was_asleep bodies.now slot)) slot (slice_get slot_entries.now slot) }
 {
-    handle_if(places, slot, is_newly_asleep(bodies, islands, slot))
+    handle_if(slot_entries, slot, is_newly_asleep(bodies, islands, slot))
 }
 
 /// The handle of who is in the slot, if they were told that they sleep and are awake.
 fn newly_awake_at(
-    places: &[Place],
+    slot_entries: &[SlotEntry],
     bodies: &[Option<Body>],
     islands: &Islands,
     slot: u32,
 ) -> Option<Handle>
-    ensures { result ≡ handle_if (was_asleep bodies.now slot && not (sleeps islands.now.labels slot)) slot (slice_get places.now slot) }
+    ensures { result ≡ handle_if (was_asleep bodies.now slot && not (sleeps islands.now.labels slot)) slot (slice_get slot_entries.now slot) }
 {
-    handle_if(places, slot, is_newly_awake(bodies, islands, slot))
+    handle_if(slot_entries, slot, is_newly_awake(bodies, islands, slot))
 }
 
 /// Adds a handle, if there is one. There is room.
@@ -104,7 +104,7 @@ fn push_some(handles: &mut Vec<Handle>, handle: Option<Handle>)
 #[tactic(auto, unfolding(crate::specs::SinceTold::newly_asleep))]
 pub fn fill_newly_asleep(
     handles: &mut Vec<Handle>,
-    places: &[Place],
+    slot_entries: &[SlotEntry],
     bodies: &[Option<Body>],
     islands: &Islands,
     awake: &[u32],
@@ -112,14 +112,14 @@ pub fn fill_newly_asleep(
     requires room { length awake.now ≤ vec_capacity handles.old }
     requires rising { IsStrictlyIncreasing awake.now }
     requires all { (slot : ℕ) → (sleeps islands.now.labels slot && not (was_asleep bodies.now slot)) ≡ true → Contains awake.now slot }
-    ensures handles { handles.new.items ≡ newly_asleep places.now bodies.now islands.now.labels }
+    ensures handles { handles.new.items ≡ newly_asleep slot_entries.now bodies.now islands.now.labels }
     ensures capacity { vec_capacity handles.old ≤ vec_capacity handles.new }
 {
     handles.clear();
     for place in 0..awake.len() {
         push_some(
             handles,
-            newly_asleep_at(places, bodies, islands, awake[place]),
+            newly_asleep_at(slot_entries, bodies, islands, awake[place]),
         );
     }
 }
@@ -129,7 +129,7 @@ pub fn fill_newly_asleep(
 #[tactic(auto, unfolding(crate::specs::SinceTold::newly_awake))]
 pub fn fill_newly_awake(
     handles: &mut Vec<Handle>,
-    places: &[Place],
+    slot_entries: &[SlotEntry],
     bodies: &[Option<Body>],
     islands: &Islands,
     asleep: &[u32],
@@ -137,14 +137,14 @@ pub fn fill_newly_awake(
     requires room { length asleep.now ≤ vec_capacity handles.old }
     requires rising { IsStrictlyIncreasing asleep.now }
     requires all { (slot : ℕ) → (was_asleep bodies.now slot && not (sleeps islands.now.labels slot)) ≡ true → Contains asleep.now slot }
-    ensures handles { handles.new.items ≡ newly_awake places.now bodies.now islands.now.labels }
+    ensures handles { handles.new.items ≡ newly_awake slot_entries.now bodies.now islands.now.labels }
     ensures capacity { vec_capacity handles.old ≤ vec_capacity handles.new }
 {
     handles.clear();
     for place in 0..asleep.len() {
         push_some(
             handles,
-            newly_awake_at(places, bodies, islands, asleep[place]),
+            newly_awake_at(slot_entries, bodies, islands, asleep[place]),
         );
     }
 }

@@ -7,7 +7,7 @@ ghost use Rattle.islands.specs.Labels.{Labels};
 ghost use Rattle.plain_world.specs.Slots.{body_at};
 ghost use Rattle.sleep_wake.specs.Acting.{is_mover_awake};
 ghost use Rattle.solver_sets.specs.Beside.{is_moving_at, timer_if, timers_of};
-ghost use Rattle.solver_sets.specs.BesideByTies.{TellMoving, own_set, stilled, stilled_alone, stilled_by, stilled_lists, stilled_pair, stilled_tie, stilled_ties};
+ghost use Rattle.solver_sets.specs.BesideByTies.{ShowMoving, own_set, stilled, stilled_alone, stilled_by, stilled_lists, stilled_pair, stilled_tie, stilled_ties};
 
 use contacts::Constraint;
 use graph_colours::{Colours, Member, OVERFLOW};
@@ -99,7 +99,7 @@ fn still_acting(
     joints: &[Option<BodyJoint>],
     colours: &Colours<Constraint>,
 )
-    requires settled { colours.now.pending ≡ 0 }
+    requires flushed { colours.now.pending ≡ 0 }
     ensures { timers.new.items ≡ stilled_lists bodies.now joints.now colours.now.lists timers.old.items }
 {
     for colour in 0..OVERFLOW {
@@ -145,7 +145,7 @@ fn fit(timers: &mut Vec<u64>, slots: usize)
 
 /// Lists by slot, for the awake movers alone, for how many ticks each body has been slow, 0 for one that touches a kinematic body that
 /// moves or is joined to one: such a body keeps its island awake. Which those are is told by the constraints that act, whose colours are
-/// settled. The entries of other slots mean nothing. There is room for as many timers as there are slots.
+/// flushed. The entries of other slots mean nothing. There is room for as many timers as there are slots.
 pub fn fill_awake_timers(
     timers: &mut Vec<u64>,
     bodies: &[Option<Body>],
@@ -154,9 +154,9 @@ pub fn fill_awake_timers(
     colours: &Colours<Constraint>,
 )
     requires room { length bodies.now ≤ vec_capacity timers.old }
-    requires settled { colours.now.pending ≡ 0 }
+    requires flushed { colours.now.pending ≡ 0 }
     ensures size { length timers.new.items ≡ length bodies.now }
-    ensures same { (labels : Labels) (contacts : List ContactEntry) → TellMoving bodies.now joints.now contacts labels colours.now.lists → (slot : ℕ) → is_mover_awake labels slot ≡ true → Contains awake.now slot → slice_index_or timers.new.items slot 0 ≡ slice_index_or (timers_of bodies.now joints.now contacts) slot 0 }
+    ensures same { (labels : Labels) (contacts : List ContactEntry) → ShowMoving bodies.now joints.now contacts labels colours.now.lists → (slot : ℕ) → is_mover_awake labels slot ≡ true → Contains awake.now slot → slice_index_or timers.new.items slot 0 ≡ slice_index_or (timers_of bodies.now joints.now contacts) slot 0 }
 {
     fit(timers, bodies.len());
     set_all_own(timers, bodies, awake);

@@ -6,7 +6,7 @@ use Rattle.std.proofs.lemmas.Bool.{false≢true}
 use Rattle.std.proofs.lemmas.List.Elements.{filter_map-append}
 use Rattle.solver_sets.specs.Anchors.{anchor_by, anchored_at, is_anchored}
 use Rattle.body_handles.specs.declared.handle.Handle.{Handle}
-use Rattle.body_handles.specs.declared.places.Place.{Place}
+use Rattle.body_handles.specs.declared.slot_table.SlotEntry.{SlotEntry}
 use Rattle.contacts.specs.declared.constraint.Constraint.{Constraint}
 use Rattle.contacts.specs.declared.constraint.Constraint.TheVariants.{Contact, Joint}
 use Rattle.contacts_base.specs.declared.contact.ContactEntry.{ContactEntry}
@@ -102,12 +102,12 @@ joint_off : (slot : ℕ) (h : Handle) (o : Option Movers) (rest : Ties) → filt
 joint_off slot h None rest e = e
 joint_off slot h (Some m) rest e = e
 
-joints_off : (slot n : ℕ) (bodies : List (Option Body)) (places : List Place) (joints : List (Option BodyJoint)) → filter (is_anchored slot) (ties_in bodies (joint_bonds_from n places joints)) ≡ []
+joints_off : (slot n : ℕ) (bodies : List (Option Body)) (slot_entries : List SlotEntry) (joints : List (Option BodyJoint)) → filter (is_anchored slot) (ties_in bodies (joint_bonds_from n slot_entries joints)) ≡ []
 joints_off slot n bodies [] joints = refl
-joints_off slot n bodies (p ∷ places) [] = refl
-joints_off slot n bodies (p ∷ places) (None ∷ joints) = joints_off slot (suc n) bodies places joints
-joints_off slot n bodies (p ∷ places) (Some j ∷ joints) =
-    joint_off slot (record { slot = n; generation = p.generation }) (movers_with bodies j.a j.b) (ties_in bodies (joint_bonds_from (suc n) places joints)) (joints_off slot (suc n) bodies places joints)
+joints_off slot n bodies (p ∷ slot_entries) [] = refl
+joints_off slot n bodies (p ∷ slot_entries) (None ∷ joints) = joints_off slot (suc n) bodies slot_entries joints
+joints_off slot n bodies (p ∷ slot_entries) (Some j ∷ joints) =
+    joint_off slot (record { slot = n; generation = p.generation }) (movers_with bodies j.a j.b) (ties_in bodies (joint_bonds_from (suc n) slot_entries joints)) (joints_off slot (suc n) bodies slot_entries joints)
 
 pub beside_ties : (slot : ℕ) (bodies : List (Option Body)) (s : JointSlots) (contacts : List ContactEntry) → moves bodies slot ≡ false → joint_ties_at slot bodies s ++ anchored_at slot (ties_of bodies s contacts) ≡ ties_at slot bodies s contacts
 unfolding joint_ties_at anchored_at ties_of ties_at
@@ -118,7 +118,7 @@ beside_ties slot bodies s contacts still =
     let all : filter (is_anchored slot) (ties_in bodies (joints ++ others)) ≡ ties_in bodies (filter (is_bond_of slot) others) =
     ap (filter (is_anchored slot)) (filter_map-append (tie_of bodies) joints others)
     ∙ filter_append (is_anchored slot) (ties_in bodies joints) (ties_in bodies others)
-    ∙ ap (λ (l : Ties). l ++ filter (is_anchored slot) (ties_in bodies others)) (joints_off slot 0 bodies s.places s.joints)
+    ∙ ap (λ (l : Ties). l ++ filter (is_anchored slot) (ties_in bodies others)) (joints_off slot 0 bodies s.slot_entries s.joints)
     ∙ sym (contacts_tell slot bodies (touching_keys contacts) still) in
     ap (λ (l : Ties). own ++ l) all
     ∙ sym (filter_map-append (tie_of bodies) (filter (is_bond_of slot) joints) (filter (is_bond_of slot) others))
@@ -158,7 +158,7 @@ still_if None slot xs still dark = dark refl
 still_if (Some b) slot xs still dark = by_enabled slot xs (is_mover b) b.enabled still dark
 
 -- by the ties of a body
-stirred_at : (slot : ℕ) (bodies : List (Option Body)) (s : JointSlots) (contacts : List ContactEntry) → AreMatched s.places s.joints → stirred_if (body_at bodies slot) slot (first_movers (ties_at slot bodies s contacts)) ≡ stirred_by bodies s.joints contacts slot
+stirred_at : (slot : ℕ) (bodies : List (Option Body)) (s : JointSlots) (contacts : List ContactEntry) → AreMatched s.slot_entries s.joints → stirred_if (body_at bodies slot) slot (first_movers (ties_at slot bodies s contacts)) ≡ stirred_by bodies s.joints contacts slot
 unfolding stirred_among
 stirred_at slot bodies s contacts matched = ap (λ (l : Ties). stirred_if (body_at bodies slot) slot (first_movers l)) (sym (ties_picked slot bodies s contacts)) ∙ stirred_picked slot bodies s contacts matched
 

@@ -3,8 +3,7 @@ use Rattle.std.proofs.Common.{◌≡◌, ◌+◌, ◌++◌, List, [], ◌∷◌,
 use Rattle.std.specs.Prelude.{◌==◌, ◌||◌}
 use Rattle.std.specs.List.{list_any, position_or_len}
 use Rattle.std.proofs.lemmas.List.{length-append, length-map}
-use Rattle.graph_colours.specs.Colours as colours
-use Rattle.graph_colours.specs.Members.{has_id}
+use Rattle.graph_colours.specs.FoundMembers.{colour_of, has_id}
 use Rattle.graph_colours.proofs.SearchLemmas.{found_in_map}
 use Rattle.contacts.specs.Constraints.{constraint_number}
 use Rattle.plain_world.specs.Plain as plain
@@ -34,8 +33,8 @@ members_counted (ms ∷ lists) =
     let rest = members_counted lists in
     omega (arith, members, named, same, rest)
 
-pub colour_by_ids : (c : Constraint) (lists : Lists) → colours.colour_of constraint_number c lists ≡ plain.colour_of c (ids_of lists)
-unfolding colours.colour_of plain.colour_of
+pub colour_by_ids : (c : Constraint) (lists : Lists) → colour_of constraint_number c lists ≡ plain.colour_of c (ids_of lists)
+unfolding colour_of plain.colour_of
 colour_by_ids c lists =
     let ids : List (Member Constraint) → List Constraint = map (λ (m : Member Constraint). m.id) in
     let same : position_or_len (has_constraint c) (map ids lists) ≡ position_or_len (has_id constraint_number c) lists = found_in_map ids (has_constraint c) (has_id constraint_number c) lists (λ ms. sym (id_there c ms)) in

@@ -1,7 +1,7 @@
 -- A world after each command: whole, and with all marked of which its contacts don't tell.
 use Rattle.std.proofs.Common.{◌≡◌, ℕ, ◌≤◌, Bool, true, List, length, map, Option, Some, None, inl, inr, sym, ap, ◌∙◌, subst}
 use Rattle.std.specs.Prelude.{slice_index_or, slice_set}
-use Rattle.solver_sets.specs.Anchors.{Anchored, Tell}
+use Rattle.solver_sets.specs.Anchors.{Anchored, AreComplete}
 use Rattle.contacts.specs.declared.constraint.Constraint.{Constraint}
 use Rattle.contacts_base.specs.Contacts.{contacts_without, number_of}
 use Rattle.contacts_base.specs.declared.contact.ContactEntry.{ContactEntry}
@@ -24,7 +24,7 @@ use Rattle.world_rules.proofs.KeptStep.{collided_in}
 
 -- a world that is whole again after a change of which all is marked
 pub core_changed : {a : Anchored} (w x : World) (s t : Acting Constraint) (old new : Bodies) → IsWorldCore w s old.marks a → IsWhole x t → old.bodies ≡ w.plain.bodies → new.bodies ≡ x.plain.bodies → IsMarkedChange old new w.plain.joints x.plain.joints w.plain.contacts x.plain.contacts
-    → (l : Anchored) → Tell l.holds l.lists t.ties → IsWorldCore x t new.marks l
+    → (l : Anchored) → AreComplete l.holds l.lists t.ties → IsWorldCore x t new.marks l
 core_changed w x s t old new core is was now change l tell = record {
   whole = is;
   anchored = tell;
@@ -35,12 +35,12 @@ core_changed w x s t old new core is was now change l tell = record {
 
 -- the bodies alone changed
 pub core_bodies : {a : Anchored} (w x : World) (s t : Acting Constraint) (old new : Bodies) → IsWorldCore w s old.marks a → IsWhole x t → old.bodies ≡ w.plain.bodies → new.bodies ≡ x.plain.bodies → x.plain.joints ≡ w.plain.joints → x.plain.contacts ≡ w.plain.contacts → AreMarked old new
-    → (l : Anchored) → Tell l.holds l.lists t.ties → IsWorldCore x t new.marks l
+    → (l : Anchored) → AreComplete l.holds l.lists t.ties → IsWorldCore x t new.marks l
 core_bodies w x s t old new core is was now joints contacts marked l tell =
     core_changed w x s t old new core is was now (record { bodies = marked; pairs = pairs_stay new.marks w.plain.joints x.plain.joints (ap forbidden_pairs joints); keys = numbers_stay new.marks w.plain.contacts x.plain.contacts (ap (map number_of) contacts) }) l tell
 
 -- all is marked
-pub core_all : (x : World) (t : Acting Constraint) (marks : List Bool) → IsWhole x t → ((slot : ℕ) → slice_index_or marks slot true ≡ true) → (l : Anchored) → Tell l.holds l.lists t.ties → IsWorldCore x t marks l
+pub core_all : (x : World) (t : Acting Constraint) (marks : List Bool) → IsWhole x t → ((slot : ℕ) → slice_index_or marks slot true ≡ true) → (l : Anchored) → AreComplete l.holds l.lists t.ties → IsWorldCore x t marks l
 core_all x t marks is all l tell = record { whole = is; anchored = tell; known = known_all marks x.plain.bodies x.plain.joints x.plain.contacts (pair_keys_are x.plain.bodies x.plain.contacts is.sound.formed.there) all }
 
 -- ---- a body that leaves
@@ -55,14 +55,14 @@ left_changed w x s old new slot core marked on pairs contacts = record {
 }
 
 pub core_destroyed : {a : Anchored} (w x : World) (s t : Acting Constraint) (old new : Bodies) (slot : ℕ) (b : Body) → IsWorldCore w s old.marks a → IsWhole x t → old.bodies ≡ w.plain.bodies → new.bodies ≡ x.plain.bodies → body_at w.plain.bodies slot ≡ Some b → body_at new.bodies slot ≡ None → AreMarked old new
-    → x.plain.joints ≡ (unjoined_all slot (joints_in_slots w.plain)).joints → x.plain.contacts ≡ contacts_without slot w.plain.contacts → (l : Anchored) → Tell l.holds l.lists t.ties → IsWorldCore x t new.marks l
+    → x.plain.joints ≡ (unjoined_all slot (joints_in_slots w.plain)).joints → x.plain.contacts ≡ contacts_without slot w.plain.contacts → (l : Anchored) → AreComplete l.holds l.lists t.ties → IsWorldCore x t new.marks l
 core_destroyed w x s t old new slot b core is was now at none marked joints contacts l tell =
     let on : slice_index_or new.marks slot true ≡ true = gone_marked old new slot b marked (ap (λ (bs : List (Option Body)). body_at bs slot) was ∙ at) none in
     let pairs : HaveSamePairs new.marks w.plain.joints x.plain.joints = subst (λ (js : List (Option BodyJoint)). HaveSamePairs new.marks w.plain.joints js) (sym joints) (joints_go new.marks slot (joints_in_slots w.plain) on) in
     core_changed w x s t old new core is was now (left_changed w x s old new slot core marked on pairs contacts) l tell
 
 pub core_disabled : {a : Anchored} (w x : World) (s t : Acting Constraint) (old new : Bodies) (slot : ℕ) (b : Body) (bodies : List (Option Body)) → IsWorldCore w s old.marks a → IsWhole x t → old.bodies ≡ w.plain.bodies → new.bodies ≡ x.plain.bodies → body_at w.plain.bodies slot ≡ Some b → b.enabled ≡ true
-    → new.bodies ≡ changed_at disabled_body bodies slot → AreMarked old new → x.plain.joints ≡ idle_joints slot w.plain.joints → x.plain.contacts ≡ contacts_without slot w.plain.contacts → (l : Anchored) → Tell l.holds l.lists t.ties → IsWorldCore x t new.marks l
+    → new.bodies ≡ changed_at disabled_body bodies slot → AreMarked old new → x.plain.joints ≡ idle_joints slot w.plain.joints → x.plain.contacts ≡ contacts_without slot w.plain.contacts → (l : Anchored) → AreComplete l.holds l.lists t.ties → IsWorldCore x t new.marks l
 core_disabled w x s t old new slot b bodies core is was now at on halted marked joints contacts l tell =
     let there : slice_index_or new.marks slot true ≡ true = halted_marked old new slot b bodies marked (ap (λ (bs : List (Option Body)). body_at bs slot) was ∙ at) on halted in
     let pairs : HaveSamePairs new.marks w.plain.joints x.plain.joints = pairs_stay new.marks w.plain.joints x.plain.joints (ap forbidden_pairs joints ∙ idle_pairs slot w.plain.joints) in
@@ -71,7 +71,7 @@ core_disabled w x s t old new slot b bodies core is was now at on halted marked 
 -- ---- a joint
 
 pub core_joined : {a : Anchored} (w x : World) (s t : Acting Constraint) (old new : Bodies) (slot : ℕ) (j : BodyJoint) → IsWorldCore w s old.marks a → IsWhole x t → old.bodies ≡ w.plain.bodies → new.bodies ≡ x.plain.bodies → joint_at w.plain.joints slot ≡ None → slot ≤ length w.plain.joints
-    → AreMarked old new → slice_index_or new.marks j.a true ≡ true → x.plain.joints ≡ with_item w.plain.joints slot j → x.plain.contacts ≡ w.plain.contacts → (l : Anchored) → Tell l.holds l.lists t.ties → IsWorldCore x t new.marks l
+    → AreMarked old new → slice_index_or new.marks j.a true ≡ true → x.plain.joints ≡ with_item w.plain.joints slot j → x.plain.contacts ≡ w.plain.contacts → (l : Anchored) → AreComplete l.holds l.lists t.ties → IsWorldCore x t new.marks l
 core_joined w x s t old new slot j core is was now free le marked on joints contacts l tell =
     core_changed w x s t old new core is was now (record {
       bodies = marked;
@@ -84,7 +84,7 @@ some_joint None i j a b = cc
 some_joint (Some k) i j a b = cc
 
 pub core_unjoined : {a : Anchored} (w x : World) (s t : Acting Constraint) (old new : Bodies) (slot : ℕ) (j : BodyJoint) → IsWorldCore w s old.marks a → IsWhole x t → old.bodies ≡ w.plain.bodies → new.bodies ≡ x.plain.bodies → joint_at w.plain.joints slot ≡ Some j → AreMarked old new
-    → slice_index_or new.marks j.b true ≡ true → x.plain.joints ≡ slice_set w.plain.joints slot None → x.plain.contacts ≡ w.plain.contacts → (l : Anchored) → Tell l.holds l.lists t.ties → IsWorldCore x t new.marks l
+    → slice_index_or new.marks j.b true ≡ true → x.plain.joints ≡ slice_set w.plain.joints slot None → x.plain.contacts ≡ w.plain.contacts → (l : Anchored) → AreComplete l.holds l.lists t.ties → IsWorldCore x t new.marks l
 core_unjoined w x s t old new slot j core is was now at marked on joints contacts l tell =
     core_changed w x s t old new core is was now (record {
       bodies = marked;
@@ -97,7 +97,7 @@ core_unjoined w x s t old new slot j core is was now at marked on joints contact
 
 -- a world after a step, whose marks were taken away after its collide
 pub core_stepped : (w x : World) (s t : Acting Constraint) (cleared new : Bodies) → IsWhole w s → IsWhole x t → cleared.bodies ≡ w.plain.bodies → new.bodies ≡ x.plain.bodies → AreMarked cleared new → forbidden_pairs x.plain.joints ≡ forbidden_pairs w.plain.joints
-    → map number_of x.plain.contacts ≡ map number_of (collided_in w).now → (l : Anchored) → Tell l.holds l.lists t.ties → IsWorldCore x t new.marks l
+    → map number_of x.plain.contacts ≡ map number_of (collided_in w).now → (l : Anchored) → AreComplete l.holds l.lists t.ties → IsWorldCore x t new.marks l
 core_stepped w x s t cleared new before is was now marked pairs numbers l tell =
     let kept = kept_of w s before in record {
       whole = is;

@@ -7,7 +7,7 @@ use Rattle.body_handles.specs.contracts.handles.Handles as Handles
 use Rattle.world_core_base.specs.contracts.joint_table.JointTable as JointTable
 use Rattle.solver_sets.specs.contracts.anchors.Anchors as Anchors
 use Rattle.contacts_base.specs.contracts.split.SplitContacts as SplitContacts
-use Rattle.contacts.specs.contracts.due.Due as Due
+use Rattle.contacts.specs.contracts.pending_update.PendingUpdate as PendingUpdate
 use Rattle.contacts.specs.contracts.contact_table.ContactTable as ContactTable
 use Rattle.colour_solver.specs.contracts.colour_rows.Rows as Rows
 use Rattle.impulse_ledger.specs.contracts.ledger.Ledger as Ledger
@@ -38,7 +38,7 @@ joints_send = search (crosses, sendable) depth 60 fits 60000
 split_send : IsSend SplitContacts.the_row
 split_send = search (crosses, sendable) depth 60 fits 60000
 
-due_send : IsSend Due.the_row
+due_send : IsSend PendingUpdate.the_row
 due_send = search (split_send, crosses, sendable) depth 60 fits 60000
 
 contacts_send : IsSend ContactTable.the_row

@@ -3,10 +3,10 @@ use Rattle.std.proofs.Common.{◌≡◌, ◌∙◌, ℕ, suc, ◌++◌, Bool, tr
 use Rattle.std.specs.Prelude.{filter}
 use Rattle.std.proofs.lemmas.Bool.{false≢true}
 use Rattle.std.specs.List.{cons_option}
-use Rattle.solver_sets.specs.Anchors.{Tell, begins_of, is_anchored}
-use Rattle.solver_sets.proofs.FewerAnchoredLaws.{AreFewer, HaveNoAnchor, Ties, fewer_begun, fewer_both, fewer_ended, fewer_gone, fewer_one_begun, fewer_one_ended, fewer_same, fewer_turned, tell_fewer}
+use Rattle.solver_sets.specs.Anchors.{AreComplete, begins_of, is_anchored}
+use Rattle.solver_sets.proofs.FewerAnchoredLaws.{AreFewer, HaveNoAnchor, Ties, fewer_begun, fewer_both, fewer_ended, fewer_gone, fewer_one_begun, fewer_one_ended, fewer_same, fewer_changed, complete_with_fewer}
 use Rattle.body_handles.specs.declared.handle.Handle.{Handle}
-use Rattle.body_handles.specs.declared.places.Place.{Place}
+use Rattle.body_handles.specs.declared.slot_table.SlotEntry.{SlotEntry}
 use Rattle.contacts.specs.Constraints.{constraint_number}
 use Rattle.contacts.specs.declared.constraint.Constraint.{Constraint}
 use Rattle.contacts.specs.declared.constraint.Constraint.TheVariants.{Joint}
@@ -18,7 +18,7 @@ use Rattle.plain_world.specs.declared.body.Body.{Body}
 use Rattle.plain_world.specs.declared.joint.BodyJoint.{BodyJoint}
 use Rattle.sleep_wake.specs.Acting.{Acting}
 use Rattle.sleep_wake.specs.Bodies.{mover_gone, mover_made}
-use Rattle.sleep_wake.specs.Changes.{each_begun, each_ended, turned}
+use Rattle.sleep_wake.specs.Changes.{each_begun, each_ended, after_changes}
 use Rattle.sleep_wake.specs.Sleeping.{islands_woken, slept_at}
 use Rattle.sleep_wake.specs.Widened.{widened}
 use Rattle.sleep_wake.specs.declared.change.Change.{Change}
@@ -97,19 +97,19 @@ free_if : (bodies : List (Option Body)) (b : Bond) (bonds : List Bond) (t : Bool
 free_if bodies b bonds true one all = free_more (tie_of bodies b) (ties_in bodies bonds) one all
 free_if bodies b bonds false one all = all
 
-joints_free : (slot n : ℕ) (bodies : List (Option Body)) (places : List Place) (joints : List (Option BodyJoint)) → HaveNoAnchor (ties_in bodies (filter (is_bond_of slot) (joint_bonds_from n places joints)))
+joints_free : (slot n : ℕ) (bodies : List (Option Body)) (slot_entries : List SlotEntry) (joints : List (Option BodyJoint)) → HaveNoAnchor (ties_in bodies (filter (is_bond_of slot) (joint_bonds_from n slot_entries joints)))
 joints_free slot n bodies [] joints m h at = absurd (none_in m h)
-joints_free slot n bodies (p ∷ places) [] m h at = absurd (none_in m h)
-joints_free slot n bodies (p ∷ places) (None ∷ joints) m h at = joints_free slot (suc n) bodies places joints m h at
-joints_free slot n bodies (p ∷ places) (Some j ∷ joints) m h at =
+joints_free slot n bodies (p ∷ slot_entries) [] m h at = absurd (none_in m h)
+joints_free slot n bodies (p ∷ slot_entries) (None ∷ joints) m h at = joints_free slot (suc n) bodies slot_entries joints m h at
+joints_free slot n bodies (p ∷ slot_entries) (Some j ∷ joints) m h at =
     let handle : Handle = record { slot = n; generation = p.generation } in
     let b : Bond = joint_bond handle j in
-    let rest : List Bond = joint_bonds_from (suc n) places joints in
-    free_if bodies b (filter (is_bond_of slot) rest) (is_bond_of slot b) (free_tie handle (movers_with bodies b.a b.b)) (joints_free slot (suc n) bodies places joints) m h at
+    let rest : List Bond = joint_bonds_from (suc n) slot_entries joints in
+    free_if bodies b (filter (is_bond_of slot) rest) (is_bond_of slot b) (free_tie handle (movers_with bodies b.a b.b)) (joints_free slot (suc n) bodies slot_entries joints) m h at
 
 joint_ties_free : (slot : ℕ) (bodies : List (Option Body)) (s : JointSlots) → HaveNoAnchor (joint_ties_at slot bodies s)
 unfolding joint_ties_at
-joint_ties_free slot bodies s = joints_free slot 0 bodies s.places s.joints
+joint_ties_free slot bodies s = joints_free slot 0 bodies s.slot_entries s.joints
 
 pub joints_have_none : (ties : Ties) (slot : ℕ) (bodies : List (Option Body)) (s : JointSlots) → ties ≡ joint_ties_at slot bodies s → HaveNoAnchor ties
 joints_have_none ties slot bodies s e = subst (λ (l : Ties). HaveNoAnchor l) (sym e) (joint_ties_free slot bodies s)
@@ -126,9 +126,9 @@ pub fewer_rested : (bodies : List (Option Body)) (joints : List (Option BodyJoin
 fewer_rested bodies joints contacts s now e = fewer_same s.ties now.ties (ap (λ (a : Acting Constraint). a.ties) e ∙ phase_ties _ s)
 
 -- what begins is listed before the constraints are asked for
-pub tell_turned : (then holds : Bool) (old new : List (List ℕ)) (changes : List (Change Constraint)) (s now : Acting Constraint) → now ≡ turned constraint_number changes s → ((ties : Ties) → Tell then old ties → Tell holds new (ties ++ begins_of changes)) → Tell then old s.ties → Tell holds new now.ties
-tell_turned then holds old new changes s now e more tell = subst (λ (a : Acting Constraint). Tell holds new a.ties) (sym e) (tell_fewer holds new (s.ties ++ begins_of changes) (turned constraint_number changes s).ties (fewer_turned changes s) (more s.ties tell))
+pub tell_changed : (then holds : Bool) (old new : List (List ℕ)) (changes : List (Change Constraint)) (s now : Acting Constraint) → now ≡ after_changes constraint_number changes s → ((ties : Ties) → AreComplete then old ties → AreComplete holds new (ties ++ begins_of changes)) → AreComplete then old s.ties → AreComplete holds new now.ties
+tell_changed then holds old new changes s now e more tell = subst (λ (a : Acting Constraint). AreComplete holds new a.ties) (sym e) (complete_with_fewer holds new (s.ties ++ begins_of changes) (after_changes constraint_number changes s).ties (fewer_changed changes s) (more s.ties tell))
 
 -- lists that don't hold
-pub tell_lapsed : (holds : Bool) (lists : List (List ℕ)) (ties : Ties) → holds ≡ false → Tell holds lists ties
+pub tell_lapsed : (holds : Bool) (lists : List (List ℕ)) (ties : Ties) → holds ≡ false → AreComplete holds lists ties
 tell_lapsed holds lists ties e q = absurd (false≢true (sym e ∙ q))

@@ -166,7 +166,7 @@ left_up : (body n : ℕ) (s : JointSlots) (k : ℕ) → IsLeftOf body (joint_at 
 left_up body zero s k = inl refl
 left_up body (suc n) s k =
     let before : JointSlots = unjoined_up body n s in
-    by_test (λ (r : JointSlots). IsLeftOf body (joint_at s.joints k) (joint_at r.joints k)) (is_end_in body (joint_at before.joints n)) (unjoined (handle_at before.places n) before) before
+    by_test (λ (r : JointSlots). IsLeftOf body (joint_at s.joints k) (joint_at r.joints k)) (is_end_in body (joint_at before.joints n)) (unjoined (handle_at before.slot_entries n) before) before
     (λ q. left_without body n s.joints before.joints q (left_up body n s) k) (λ q. left_up body n s k)
 
 one_of : (s t : Bool) → (s || t) ≡ true → (s ≡ true) ⊎ (t ≡ true)

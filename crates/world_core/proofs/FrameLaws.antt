@@ -5,9 +5,9 @@ use Rattle.std.specs.List.{list_all}
 use Rattle.std.proofs.lemmas.Bool.{cases_lt, leb-true}
 use Rattle.std.proofs.lemmas.Option.{none-some, same_Some, slice_get-get_or, slice_get_within}
 use Rattle.fixed_geom.specs.declared.refusal.Refusal.TheVariants.{BadShape, OutOfRange}
-use Rattle.body_handles.specs.Places.{IsPlace, generation_at, generation_of}
+use Rattle.body_handles.specs.SlotEntries.{IsSlotEntry, generation_at, generation_of}
 use Rattle.body_handles.specs.declared.handle.Handle.{Handle}
-use Rattle.body_handles.specs.declared.places.Place.{Place}
+use Rattle.body_handles.specs.declared.slot_table.SlotEntry.{SlotEntry}
 use Rattle.impulse_ledger.specs.Sums.{total}
 use Rattle.impulse_ledger.specs.declared.totals.Total.{Total}
 use Rattle.impulse_ledger.proofs.SumLemmas.{same_total}
@@ -42,28 +42,28 @@ at_end (x ∷ xs) y (suc k) e = at_end xs y k (omega (arith, e))
 -- ---- what is shown in a slot
 
 -- the handle of the body in a slot
-abbrev handle_in : List Place → ℕ → Handle
-handle_in places slot = record { slot = slot; generation = generation_at places slot }
+abbrev handle_in : List SlotEntry → ℕ → Handle
+handle_in slot_entries slot = record { slot = slot; generation = generation_at slot_entries slot }
 
-abbrev shown_at : List Place → List (Option Body) → ℕ → Option FrameBody
-shown_at places bodies slot = shown (handle_in places slot) (body_at bodies slot)
+abbrev shown_at : List SlotEntry → List (Option Body) → ℕ → Option FrameBody
+shown_at slot_entries bodies slot = shown (handle_in slot_entries slot) (body_at bodies slot)
 
-length_shown : (places : List Place) (bodies : List (Option Body)) (n : ℕ) → length (shown_up places bodies n) ≡ n
-length_shown places bodies zero = refl
-length_shown places bodies (suc n) =
-    let more = length-append (shown_up places bodies n) (shown_at places bodies n ∷ []) in
-    let rest = length_shown places bodies n in
+length_shown : (slot_entries : List SlotEntry) (bodies : List (Option Body)) (n : ℕ) → length (shown_up slot_entries bodies n) ≡ n
+length_shown slot_entries bodies zero = refl
+length_shown slot_entries bodies (suc n) =
+    let more = length-append (shown_up slot_entries bodies n) (shown_at slot_entries bodies n ∷ []) in
+    let rest = length_shown slot_entries bodies n in
     omega (arith, more, rest)
 
-shown_in : (places : List Place) (bodies : List (Option Body)) (n slot : ℕ) → slot < n → slice_get (shown_up places bodies n) slot ≡ Some (shown_at places bodies slot)
-shown_in places bodies zero slot h = absurd (omega (arith, h))
-shown_in places bodies (suc n) slot h =
-    let long = length_shown places bodies n in
+shown_in : (slot_entries : List SlotEntry) (bodies : List (Option Body)) (n slot : ℕ) → slot < n → slice_get (shown_up slot_entries bodies n) slot ≡ Some (shown_at slot_entries bodies slot)
+shown_in slot_entries bodies zero slot h = absurd (omega (arith, h))
+shown_in slot_entries bodies (suc n) slot h =
+    let long = length_shown slot_entries bodies n in
     elim (cases_lt slot n) [
-      | inl lt ↦ before_end (shown_up places bodies n) (shown_at places bodies n ∷ []) slot (omega (arith, lt, long)) ∙ shown_in places bodies n slot lt
+      | inl lt ↦ before_end (shown_up slot_entries bodies n) (shown_at slot_entries bodies n ∷ []) slot (omega (arith, lt, long)) ∙ shown_in slot_entries bodies n slot lt
       | inr le ↦ (
           let same : n ≡ slot = omega (arith, h, le) in
-          at_end (shown_up places bodies n) (shown_at places bodies n) slot (omega (arith, same, long)) ∙ ap (λ (k : ℕ). Some (shown_at places bodies k)) same)
+          at_end (shown_up slot_entries bodies n) (shown_at slot_entries bodies n) slot (omega (arith, same, long)) ∙ ap (λ (k : ℕ). Some (shown_at slot_entries bodies k)) same)
     ]
 
 -- ---- a body that is shown
@@ -81,10 +81,10 @@ unfolding shapes_refusal
 one_at_least segments defs e =
     leb-true 1 (length defs) (some_if (nat_le (length defs) MAX_SHAPES) (nat_le 1 (length defs)) (list_all (λ (d : ShapeDef). is_form_allowed segments d.shape) defs) (allowed_if (are_forms_allowed segments defs) (list_all is_in_range defs) e))
 
-small_generation : (places : List Place) (slot : ℕ) → All IsPlace places → slot < length places → generation_at places slot < 2 ^ 32
-small_generation places slot all lt =
-    let none : Place = record { generation = 0; live = false } in
-    let found : generation_at places slot ≡ (get_or places slot none).generation = ap generation_of (slice_get-get_or places slot none lt) in
+small_generation : (slot_entries : List SlotEntry) (slot : ℕ) → All IsSlotEntry slot_entries → slot < length slot_entries → generation_at slot_entries slot < 2 ^ 32
+small_generation slot_entries slot all lt =
+    let none : SlotEntry = record { generation = 0; live = false } in
+    let found : generation_at slot_entries slot ≡ (get_or slot_entries slot none).generation = ap generation_of (slice_get-get_or slot_entries slot none lt) in
     let bounded = (all slot none lt).bounded in
     omega (arith, found, bounded)
 
@@ -114,20 +114,20 @@ within_list bodies slot b (Some x) at e = slice_get_within bodies slot x at
 
 -- ---- a whole frame
 
-shown_formed : (w : World) → IsSound w → AreFrameBodies (shown_up w.plain.places w.plain.bodies (length w.plain.bodies))
+shown_formed : (w : World) → IsSound w → AreFrameBodies (shown_up w.plain.slot_entries w.plain.bodies (length w.plain.bodies))
 shown_formed w sound =
-    let places : List Place = w.plain.places in
+    let slot_entries : List SlotEntry = w.plain.slot_entries in
     let bodies : List (Option Body) = w.plain.bodies in
-    let long = length_shown places bodies (length bodies) in
+    let long = length_shown slot_entries bodies (length bodies) in
     let few = sound.formed.matched.few in
     let slots = sound.formed.matched.slots in
     record {
       few = omega (arith, long, few);
       each = λ slot b e.
-          let inside : slot < length (shown_up places bodies (length bodies)) = within_list (shown_up places bodies (length bodies)) slot b (slice_get (shown_up places bodies (length bodies)) slot) refl e in
+          let inside : slot < length (shown_up slot_entries bodies (length bodies)) = within_list (shown_up slot_entries bodies (length bodies)) slot b (slice_get (shown_up slot_entries bodies (length bodies)) slot) refl e in
           let lt : slot < length bodies = omega (arith, inside, long) in
-          let is : shown_at places bodies slot ≡ Some b = sym (ap frame_body_in (shown_in places bodies (length bodies) slot lt)) ∙ e in
-          formed_in slot (generation_at places slot) (body_at bodies slot) b (small_generation places slot sound.formed.places (omega (arith, lt, slots)))
+          let is : shown_at slot_entries bodies slot ≡ Some b = sym (ap frame_body_in (shown_in slot_entries bodies (length bodies) slot lt)) ∙ e in
+          formed_in slot (generation_at slot_entries slot) (body_at bodies slot) b (small_generation slot_entries slot sound.formed.slot_entries (omega (arith, lt, slots)))
           (λ c at. sound.formed.bodies slot c (body_at-in bodies slot c at)) is;
     }
 

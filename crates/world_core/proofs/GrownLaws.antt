@@ -7,9 +7,9 @@ use Rattle.fixed_geom.specs.Vectors.{IsWithin, is_within, zero_vector}
 use Rattle.fixed_geom.specs.declared.refusal.Refusal.{Refusal}
 use Rattle.fixed_geom.specs.declared.refusal.Refusal.TheVariants.{BodyDisabled, OutOfRange, TooMany, WornOut}
 use Rattle.fixed_geom.specs.declared.vectors.Vec2.{Vec2}
-use Rattle.body_handles.specs.Places.{is_live, lowest}
+use Rattle.body_handles.specs.SlotEntries.{is_live, lowest}
 use Rattle.body_handles.specs.declared.handle.Handle.{Handle}
-use Rattle.body_handles.specs.declared.places.TheConstants.{MAX_SLOTS}
+use Rattle.body_handles.specs.declared.slot_table.TheConstants.{MAX_SLOTS}
 use Rattle.impulse_ledger.specs.Sums.{HaveSameTotals, summed, total_of}
 use Rattle.impulse_ledger.specs.Totals.{total_over}
 use Rattle.impulse_ledger.specs.declared.entry.Cause as cause
@@ -42,7 +42,7 @@ use Rattle.world_core.specs.Grown.{EachCallBooksLittle, GrownWorldsHaveSmallTota
 use Rattle.world_core.proofs.SolvingBounds.{IsBounded, left_momentum, pass_most, solved_bound}
 use Rattle.world_core.proofs.Whole.{named}
 use Rattle.world_core_base.specs.Solving.{Solving, solve_order}
-use Rattle.world_rules.specs.Apply.{Answers, Applied, apply, apply_accepted, bodies_ticked, bodies_woken, booked, course_due, create_due, departed, destroy_due, disable_due, empty_world, enable_due, gained, join_due, join_refusal, mover_refusal, pose_due, posed, push_due, pushed, rest_entries, rested_acting, sleep_due, solved_after, steered, step_done, step_solved, turned_acting, unjoin_due, wake_due, world_with}
+use Rattle.world_rules.specs.Apply.{Answers, Applied, apply, apply_accepted, bodies_ticked, bodies_woken, booked, course_due, create_due, departed, destroy_due, disable_due, empty_world, enable_due, gained, join_due, join_refusal, mover_refusal, pose_due, posed, push_due, pushed, rest_entries, rested_acting, sleep_due, solved_after, steered, step_done, step_solved, acting_after_changes, unjoin_due, wake_due, world_with}
 use Rattle.world_rules.specs.Collide.{Collided, collided}
 use Rattle.world_rules.specs.Laws.{push_of}
 use Rattle.world_rules.specs.Replay.{after_one}
@@ -91,11 +91,11 @@ tested false x a e es is h = cc
 
 created_none : (w : Plain) (d : BodyDef) (o : Option Refusal) (a : Applied) → create_due w d o ≡ Ok a → a.entries ≡ []
 created_none w d (Some e) a h = cc
-created_none w d None a h = tested (nat_lt (lowest w.places) MAX_SLOTS) _ a TooMany [] refl h
+created_none w d None a h = tested (nat_lt (lowest w.slot_entries) MAX_SLOTS) _ a TooMany [] refl h
 
 joined_none : (w : Plain) (d : JointDef) (due : Option Refusal) (a : Applied) → join_due w d due ≡ Ok a → a.entries ≡ []
 joined_none w d (Some e) a h = cc
-joined_none w d None a h = tested (nat_lt (lowest w.joint_places) MAX_SLOTS) _ a TooMany [] refl h
+joined_none w d None a h = tested (nat_lt (lowest w.joint_entries) MAX_SLOTS) _ a TooMany [] refl h
 
 unjoined_none : (w : Plain) (j : Handle) (o : Option BodyJoint) (a : Applied) → unjoin_due w j o ≡ Ok a → a.entries ≡ []
 unjoined_none w j None a h = cc
@@ -204,7 +204,7 @@ stepped_grows w n c woken s before now h m small =
 
 step_grows : (w : World) (n : ℕ) (c : Collided) → n ≤ 8 → IsSound w → IsSound (world_with w (step_done w.plain n c)) → Grows w (step_done w.plain n c)
 step_grows w n c few before now =
-    let woken : Acting Constraint = turned_acting w.plain c in
+    let woken : Acting Constraint = acting_after_changes w.plain c in
     let bodies : List (Option Body) = bodies_woken w.plain woken in
     let long = length_told woken.labels w.plain.bodies in
     let most = before.formed.matched.few in
@@ -227,15 +227,15 @@ step_if w n a false f e before now = cc
 
 accepted_grows : (w : World) (c : Command) (a : Applied) → IsWithin (2 ^ 40) (push_of c) → IsSound w → IsSound (world_with w a) → apply_accepted w.plain c ≡ Ok a → Grows w a
 accepted_grows w (CreateBody d) a small before now e = none_grows w a (created_none w.plain d (def_refusal d) a e)
-accepted_grows w (DestroyBody h) a small before now e = destroyed_grows w h (body_named w.plain h) a (λ b f. named (is_live w.plain.places h) w.plain.bodies h.slot b before.formed.bodies f) e
+accepted_grows w (DestroyBody h) a small before now e = destroyed_grows w h (body_named w.plain h) a (λ b f. named (is_live w.plain.slot_entries h) w.plain.bodies h.slot b before.formed.bodies f) e
 accepted_grows w (CreateJoint d) a small before now e = none_grows w a (joined_none w.plain d (join_refusal (body_named w.plain d.a) (body_named w.plain d.b) d) a e)
-accepted_grows w (DestroyJoint h) a small before now e = none_grows w a (unjoined_none w.plain h (joint_of w.plain.joint_places w.plain.joints h) a e)
+accepted_grows w (DestroyJoint h) a small before now e = none_grows w a (unjoined_none w.plain h (joint_of w.plain.joint_entries w.plain.joints h) a e)
 accepted_grows w (Push h j) a small before now e = pushed_grows w h j (pushed (body_named w.plain h) j zero_vector) a small e
 accepted_grows w (PushAt h j r) a small before now e = pushed_grows w h j (pushed (body_named w.plain h) j r) a small e
 accepted_grows w (SetPose h o) a small before now e = none_grows w a (posed_none w.plain h (posed (body_named w.plain h) o) a e)
 accepted_grows w (SetVelocity h course) a small before now e = none_grows w a (steered_none w.plain h (steered (body_named w.plain h) course) a e)
 accepted_grows w (SetGravity g) a small before now e = none_grows w a (tested (is_within (2 ^ 16) g) _ a OutOfRange [] refl e)
-accepted_grows w (Disable h) a small before now e = disabled_grows w h (body_named w.plain h) a (λ b f. named (is_live w.plain.places h) w.plain.bodies h.slot b before.formed.bodies f) e
+accepted_grows w (Disable h) a small before now e = disabled_grows w h (body_named w.plain h) a (λ b f. named (is_live w.plain.slot_entries h) w.plain.bodies h.slot b before.formed.bodies f) e
 accepted_grows w (Enable h) a small before now e = none_grows w a (enabled_none w.plain h (body_named w.plain h) a e)
 accepted_grows w (Wake h) a small before now e = none_grows w a (woken_none w.plain h (mover_refusal (body_named w.plain h)) a e)
 accepted_grows w (Sleep h) a small before now e = slept_grows w h (mover_refusal (body_named w.plain h)) a before.formed.bodies before.formed.matched.few e

@@ -17,7 +17,7 @@ use Rattle.contacts_base.specs.declared.contact.ContactEntry.{ContactEntry}
 use Rattle.contacts_base.specs.declared.contact.ContactPoint.{ContactPoint}
 use Rattle.joint_rows.specs.declared.joint.Joint.{Joint}
 use Rattle.colour_solver_base.specs.ContactSolving.{SolvedPoint, bounces, contact_bounced, contact_solved, contact_warmed, from_first, normal_solved, point_bounced, point_solved, point_warmed, separation_now, tangent_solved, then_second, overlap_bias}
-use Rattle.world_core_base.specs.Solving.{Turns, bounce, solve, warm}
+use Rattle.world_core_base.specs.Solving.{Visits, bounce, solve, warm}
 
 -- ---- two bodies
 
@@ -131,7 +131,7 @@ bounce_within k restitution start c e le h = first_within k (point_bounced resti
 -- ---- the turns of a pass
 
 -- a turn leaves the momenta of its two bodies within the bound
-pub record KeepsWithin (k : ℕ) (f : Turns) : Type 0 where
+pub record KeepsWithin (k : ℕ) (f : Visits) : Type 0 where
   pub joint : (j : Joint) (start now : Ends) → AreEndsWithin k now → AreEndsWithin k (f.joint j start now).ends
   pub contact : (c : ContactEntry) (start now : Ends) → AreEndsWithin k now → AreEndsWithin k (f.contact c start now).ends
 

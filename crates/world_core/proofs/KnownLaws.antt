@@ -3,7 +3,7 @@ use Rattle.std.proofs.Common.{◌≡◌, ℕ, zero, suc, ◌<◌, ◌≤◌, ◌
 use Rattle.std.specs.Prelude.{◌/◌, option_map, slice_index_or}
 use Rattle.std.proofs.lemmas.Bool.Decides.{nat_tests}
 use Rattle.std.proofs.lemmas.List.Elements.{All-weaker}
-use Rattle.body_handles.specs.declared.places.TheConstants.{MAX_SLOTS}
+use Rattle.body_handles.specs.declared.slot_table.TheConstants.{MAX_SLOTS}
 use Rattle.contacts.specs.Known.{IsKnown, IsPairKey, all_still, has_key}
 use Rattle.contacts.specs.Fates.{moved_by}
 use Rattle.contacts.proofs.KnownLemmas.{all_known_after-holds, each_from_all, ids_same, known_stays-holds}

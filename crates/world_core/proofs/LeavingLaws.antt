@@ -4,7 +4,7 @@ use Rattle.std.specs.Prelude.{nat_lt, option_map, slice_set}
 use Rattle.std.proofs.lemmas.Bool.{cases_eq}
 use Rattle.std.proofs.lemmas.Option.{none-some, same_Some}
 use Rattle.body_handles.specs.declared.handle.Handle.{Handle}
-use Rattle.body_handles.specs.Places.{places_without}
+use Rattle.body_handles.specs.SlotEntries.{slot_entries_without}
 use Rattle.contacts.specs.Constraints.{constraint_number}
 use Rattle.contacts.specs.declared.constraint.Constraint.{Constraint}
 use Rattle.contacts_base.specs.Contacts.{contacts_without}
@@ -91,10 +91,10 @@ gone_here slot s = none_if (label_at (mover_gone constraint_number slot s).label
 
 others_alike : (w : World) (slot : ℕ) (t : Bool) → IsKept w → CanGo w slot → moves w.plain.bodies slot ≡ t → (n : ℕ) → n ≢ slot → sleeping_name (label_at (body_gone slot t w.plain).labels n) ≡ sleeping_name (label_at w.plain.islands n)
 unfolding acting_of
-others_alike w slot false k go e n off = each_ended_alike (ties_at slot w.plain.bodies (joints_in_slots w.plain) w.plain.contacts) (acting_of w.plain) k.settled go.can n
+others_alike w slot false k go e n off = each_ended_alike (ties_at slot w.plain.bodies (joints_in_slots w.plain) w.plain.contacts) (acting_of w.plain) k.consistent go.can n
 others_alike w slot true k go e n off =
     let is = is_ended w slot k go in
-    gone_alike slot n (ties_ended slot w.plain) is.settled (is.awake slot (go.up e)) off ∙ each_ended_alike (ties_at slot w.plain.bodies (joints_in_slots w.plain) w.plain.contacts) (acting_of w.plain) k.settled go.can n
+    gone_alike slot n (ties_ended slot w.plain) is.consistent (is.awake slot (go.up e)) off ∙ each_ended_alike (ties_at slot w.plain.bodies (joints_in_slots w.plain) w.plain.contacts) (acting_of w.plain) k.consistent go.can n
 
 own_name : (w : World) (slot : ℕ) (t : Bool) → IsKept w → CanGo w slot → moves w.plain.bodies slot ≡ t → sleeping_name (label_at (body_gone slot t w.plain).labels slot) ≡ None
 own_name w slot false k go e = ap sleeping_name (none_if (label_at (ties_ended slot w.plain).labels slot) ((is_ended w slot k go).tied slot ∙ e))
@@ -134,9 +134,9 @@ bodies_left w s h = slice_set (told (woken_from w.plain s (stirred_slots w.plain
 abbrev pub destroyed_with : World → Acting Constraint → Handle → Body → List (Option Body) → World
 destroyed_with w s h b bodies = record w {
   plain = record w.plain {
-    places = places_without w.plain.places h;
+    slot_entries = slot_entries_without w.plain.slot_entries h;
     bodies = bodies;
-    joint_places = (unjoined_all h.slot (joints_in_slots w.plain)).places;
+    joint_entries = (unjoined_all h.slot (joints_in_slots w.plain)).slot_entries;
     joints = (unjoined_all h.slot (joints_in_slots w.plain)).joints;
     contacts = contacts_without h.slot w.plain.contacts;
     islands = s.labels;

@@ -4,11 +4,11 @@ use Rattle.std.specs.Prelude.{slice_index_or}
 use Rattle.std.proofs.lemmas.Int.{ints}
 use Rattle.std.proofs.lemmas.List.{length-map}
 use Rattle.std.proofs.lemmas.List.Elements.{All-weaker}
-use Rattle.body_handles.specs.declared.places.Place.{Place}
+use Rattle.body_handles.specs.declared.slot_table.SlotEntry.{SlotEntry}
 use Rattle.contacts.specs.Constraints.{constraint_number}
 use Rattle.contacts.specs.declared.constraint.Constraint.{Constraint}
 use Rattle.contacts.proofs.SurfaceLemmas.{mixed_small}
-use Rattle.contacts_base.specs.Contacts.{AreContacts}
+use Rattle.contacts_base.specs.ContactLists.{AreContacts}
 use Rattle.contacts_base.specs.Surfaces.{IsSurface, mixed}
 use Rattle.contacts_base.specs.declared.contact.ContactEntry.{ContactEntry}
 use Rattle.contacts_base.specs.declared.limits.TheConstants.{MAX_FRICTION, MAX_RESTITUTION}
@@ -23,7 +23,7 @@ use Rattle.impulse_ledger.specs.Totals.{total_in, total_over}
 use Rattle.impulse_ledger.specs.declared.entry.Entry.{Entry}
 use Rattle.impulse_ledger.specs.declared.totals.Totals.{Totals}
 use Rattle.islands.specs.Labels.{Labels}
-use Rattle.plain_world.specs.Formed.{is_surface, mixed_of, no_surface, shape_named, surface_of}
+use Rattle.plain_world.specs.Formed.{is_surface, mixed_of, no_surface, shape_with_id, surface_of}
 use Rattle.plain_world.specs.Plain.{Plain}
 use Rattle.plain_world.specs.declared.body.Body.{Body}
 use Rattle.plain_world.specs.declared.joint.BodyJoint.{BodyJoint}
@@ -38,7 +38,7 @@ use Rattle.world_rules.specs.Settled.{settled_world}
 use Rattle.world_rules.specs.Sets.{acting_of}
 use Rattle.world_rules.specs.Sound.{HasBodies, IsSound}
 use Rattle.world_rules.specs.World.{World, joints_in_slots}
-use Rattle.solver_sets.specs.Anchors.{Anchored, Tell}
+use Rattle.solver_sets.specs.Anchors.{Anchored, AreComplete}
 use Rattle.world_core.specs.Inside.{IsWhole, IsWorldCore}
 use Rattle.world_core.proofs.CoreLaws.{core_all}
 
@@ -63,7 +63,7 @@ totals_within p t sound =
 -- there is a list for each colour, and one for the overflow
 pub colours_there : (p : Plain) → IsConsistent constraint_number (acting_of p) → length p.colours ≡ COLOURS + 1
 unfolding acting_of members_of
-colours_there p settled = sym (length-map p.colours _) ∙ settled.colouring.count
+colours_there p consistent = sym (length-map p.colours _) ∙ consistent.colouring.count
 
 -- what acts, of its three parts
 pub acting_by : (p : Plain) (ties : List (Member Constraint)) (labels : Labels) (lists : Lists) → ties ≡ ties_of p.bodies (joints_in_slots p) p.contacts → labels ≡ p.islands → lists ≡ members_of p.bodies (joints_in_slots p) p.colours → acting ties labels lists ≡ acting_of p
@@ -73,9 +73,9 @@ acting_by p ties labels lists e f g = λ j. acting (e j) (f j) (g j)
 -- no more constraints have a colour than there are
 pub few_members : (p : Plain) (ties : List (Member Constraint)) (lists : Lists) → IsConsistent constraint_number (acting_of p) → ties ≡ ties_of p.bodies (joints_in_slots p) p.contacts → lists ≡ members_of p.bodies (joints_in_slots p) p.colours → length ties < 2 ^ 64
     → length (all_members lists) < 2 ^ 64
-few_members p ties lists settled e g few =
+few_members p ties lists consistent e g few =
     let same = acting_by p ties p.islands lists e refl g in
-    let fewer : length (all_members lists) ≤ length ties = fewer_coloured constraint_number (acting ties p.islands lists) (subst (IsConsistent constraint_number) (sym same) settled) in
+    let fewer : length (all_members lists) ≤ length ties = fewer_coloured constraint_number (acting ties p.islands lists) (subst (IsConsistent constraint_number) (sym same) consistent) in
     omega (arith, fewer, few)
 
 -- ---- the contacts
@@ -108,16 +108,16 @@ mixed_is (Some first) (Some second) = mixed_by (surface_of first) (surface_of se
 pub contacts_are : (p : Plain) (t : Totals) → IsSound (settled_world p t) → AreContacts p.contacts
 contacts_are p t sound = record {
   rising = sound.formed.contacts;
-  surfaces = All-weaker (HasBodies p.bodies) (λ (e : ContactEntry). IsSurface e.surface) (λ e has. subst IsSurface (sym has.surface) (mixed_is (shape_named p.bodies e.key.first) (shape_named p.bodies e.key.second))) p.contacts sound.formed.there;
+  surfaces = All-weaker (HasBodies p.bodies) (λ (e : ContactEntry). IsSurface e.surface) (λ e has. subst IsSurface (sym has.surface) (mixed_is (shape_with_id p.bodies e.key.first) (shape_with_id p.bodies e.key.second))) p.contacts sound.formed.there;
 }
 
 -- ---- the world
 
 -- of what a world is made
 pub record Parts : Type 0 where
-  pub places : List Place
+  pub slot_entries : List SlotEntry
   pub bodies : List (Option Body)
-  pub joint_places : List Place
+  pub joint_entries : List SlotEntry
   pub joints : List (Option BodyJoint)
   pub contacts : List ContactEntry
   pub acts : Acting Constraint
@@ -130,7 +130,7 @@ pub record Parts : Type 0 where
 
 abbrev pub world_by : Parts → World
 world_by x = record {
-  plain = record { places = x.places; bodies = x.bodies; joint_places = x.joint_places; joints = x.joints; contacts = x.contacts; islands = x.acts.labels; colours = ids_of x.acts.lists; gravity = x.gravity; steps = x.steps; calls = x.calls };
+  plain = record { slot_entries = x.slot_entries; bodies = x.bodies; joint_entries = x.joint_entries; joints = x.joints; contacts = x.contacts; islands = x.acts.labels; colours = ids_of x.acts.lists; gravity = x.gravity; steps = x.steps; calls = x.calls };
   entries = x.entries;
   settled = x.settled;
   events = x.events;
@@ -138,9 +138,9 @@ world_by x = record {
 
 -- these are the parts of the plain lists, with these totals
 pub record ArePartsOf (p : Plain) (t : Totals) (x : Parts) : Type 0 where
-  pub places_are : x.places ≡ p.places
+  pub places_are : x.slot_entries ≡ p.slot_entries
   pub bodies_are : x.bodies ≡ p.bodies
-  pub joint_places_are : x.joint_places ≡ p.joint_places
+  pub joint_places_are : x.joint_entries ≡ p.joint_entries
   pub joints_are : x.joints ≡ p.joints
   pub contacts_are : x.contacts ≡ p.contacts
   pub acts_are : x.acts ≡ acting_of p
@@ -159,9 +159,9 @@ acting_same p t sound = λ j. settled_world (record p { colours = sound.formed.m
 pub made_same : (p : Plain) (t : Totals) (x : Parts) → IsSound (settled_world p t) → ArePartsOf p t x → world_by x ≡ settled_world p t
 made_same p t x sound e =
     (λ j. world_by (record {
-      places = e.places_are j;
+      slot_entries = e.places_are j;
       bodies = e.bodies_are j;
-      joint_places = e.joint_places_are j;
+      joint_entries = e.joint_places_are j;
       joints = e.joints_are j;
       contacts = e.contacts_are j;
       acts = e.acts_are j;
@@ -181,5 +181,5 @@ made_whole p t x sound e =
     subst (λ (w : World). IsWhole w x.acts) (sym (made_same p t x sound e)) acts
 
 -- with all its bodies marked
-pub made_core : (p : Plain) (t : Totals) (x : Parts) (marks : List Bool) → IsSound (settled_world p t) → ArePartsOf p t x → ((slot : ℕ) → slice_index_or marks slot true ≡ true) → (l : Anchored) → Tell l.holds l.lists x.acts.ties → IsWorldCore (world_by x) x.acts marks l
+pub made_core : (p : Plain) (t : Totals) (x : Parts) (marks : List Bool) → IsSound (settled_world p t) → ArePartsOf p t x → ((slot : ℕ) → slice_index_or marks slot true ≡ true) → (l : Anchored) → AreComplete l.holds l.lists x.acts.ties → IsWorldCore (world_by x) x.acts marks l
 made_core p t x marks sound e all l tell = core_all (world_by x) x.acts marks (made_whole p t x sound e) all l tell

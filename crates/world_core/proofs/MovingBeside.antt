@@ -13,11 +13,11 @@ use Rattle.islands.specs.Labels.{Labels, label_at}
 use Rattle.plain_world.specs.declared.body.Body.{Body}
 use Rattle.plain_world.specs.declared.joint.BodyJoint.{BodyJoint}
 use Rattle.plain_world.specs.Slots.{body_at, item_at}
-use Rattle.sleep_wake.specs.Resting.{may_be_due}
+use Rattle.sleep_wake.specs.Resting.{may_be_ready}
 use Rattle.solver_sets.specs.Beside.{is_beside_moving, is_joined_to_moving, is_moving_at, is_stirred_between, is_touched_by_moving, timer_if, timers_of}
 use Rattle.solver_sets.specs.Tied.{AreTied}
-use Rattle.world_core.specs.Quiet.{HasMarked, IsShort, KeepMarks, marked_by, marked_joined, marked_pair, marked_touched}
-use Rattle.world_core.proofs.QuietSteps.{marks_keep, mover_there, timers_at}
+use Rattle.world_core.specs.Quiet.{HasFlagged, IsShort, KeepFlags, flagged_by, flagged_joined, flagged_pair, flagged_touched}
+use Rattle.world_core.proofs.QuietSteps.{flags_keep, mover_there, timers_at}
 
 -- ---- who is beside a body that moves
 
@@ -73,46 +73,46 @@ beside_short : (labels : Labels) (bodies : List (Option Body)) (joints : List (O
 unfolding timers_of
 beside_short labels bodies joints contacts slot l tied e beside =
     let there = mover_there (body_at bodies slot) (sym (tied slot) ∙ ap (λ (o : Option Label). is_some o) e) in
-    ap may_be_due (timers_at (is_beside_moving bodies joints contacts) 0 slot slot bodies there.0 (omega arith) there.1) ∙ ap (λ (t : Bool). may_be_due (Some (timer_if t (Some there.0)))) beside
+    ap may_be_ready (timers_at (is_beside_moving bodies joints contacts) 0 slot slot bodies there.0 (omega arith) there.1) ∙ ap (λ (t : Bool). may_be_ready (Some (timer_if t (Some there.0)))) beside
 
--- ---- marks
+-- ---- flags
 
-marks_on : (t : Bool) (names : List ℕ) (labels : Labels) (timers : List ℕ) (marks : List Bool) (slot : ℕ) (o : Option Label) → label_at labels slot ≡ o → (t ≡ true → (l : Label) → o ≡ Some l → IsShort timers slot) → HasMarked names labels timers marks → HasMarked names labels timers (cond t (marked_by o marks) marks)
-marks_on false names labels timers marks slot o e short has = has
-marks_on true names labels timers marks slot None e short has = has
-marks_on true names labels timers marks slot (Some l) e short has = marks_keep names labels timers marks slot (Some l) e (short refl l refl) has
+flags_on : (t : Bool) (names : List ℕ) (labels : Labels) (timers : List ℕ) (flags : List Bool) (slot : ℕ) (o : Option Label) → label_at labels slot ≡ o → (t ≡ true → (l : Label) → o ≡ Some l → IsShort timers slot) → HasFlagged names labels timers flags → HasFlagged names labels timers (cond t (flagged_by o flags) flags)
+flags_on false names labels timers flags slot o e short has = has
+flags_on true names labels timers flags slot None e short has = has
+flags_on true names labels timers flags slot (Some l) e short has = flags_keep names labels timers flags slot (Some l) e (short refl l refl) has
 
-pair_keeps : (names : List ℕ) (labels : Labels) (timers : List ℕ) (bodies : List (Option Body)) (a b : ℕ) (marks : List Bool) → (is_moving_at bodies b ≡ true → (l : Label) → label_at labels a ≡ Some l → IsShort timers a)
-    → (is_moving_at bodies a ≡ true → (l : Label) → label_at labels b ≡ Some l → IsShort timers b) → HasMarked names labels timers marks → HasMarked names labels timers (marked_pair labels bodies a b marks)
-pair_keeps names labels timers bodies a b marks first second has =
-    marks_on (is_moving_at bodies a) names labels timers (cond (is_moving_at bodies b) (marked_by (label_at labels a) marks) marks) b (label_at labels b) refl second
-    (marks_on (is_moving_at bodies b) names labels timers marks a (label_at labels a) refl first has)
+pair_keeps : (names : List ℕ) (labels : Labels) (timers : List ℕ) (bodies : List (Option Body)) (a b : ℕ) (flags : List Bool) → (is_moving_at bodies b ≡ true → (l : Label) → label_at labels a ≡ Some l → IsShort timers a)
+    → (is_moving_at bodies a ≡ true → (l : Label) → label_at labels b ≡ Some l → IsShort timers b) → HasFlagged names labels timers flags → HasFlagged names labels timers (flagged_pair labels bodies a b flags)
+pair_keeps names labels timers bodies a b flags first second has =
+    flags_on (is_moving_at bodies a) names labels timers (cond (is_moving_at bodies b) (flagged_by (label_at labels a) flags) flags) b (label_at labels b) refl second
+    (flags_on (is_moving_at bodies b) names labels timers flags a (label_at labels a) refl first has)
 
-joined_keeps : (names : List ℕ) (labels : Labels) (bodies : List (Option Body)) (joints : List (Option BodyJoint)) (contacts : List ContactEntry) (slot : ℕ) (o : Option BodyJoint) (marks : List Bool) → AreTied bodies labels → item_at joints slot ≡ o
-    → HasMarked names labels (timers_of bodies joints contacts) marks → HasMarked names labels (timers_of bodies joints contacts) (marked_joined labels bodies o marks)
-joined_keeps names labels bodies joints contacts slot None marks tied e has = has
-joined_keeps names labels bodies joints contacts slot (Some j) marks tied e has =
-    pair_keeps names labels (timers_of bodies joints contacts) bodies j.a j.b marks
+joined_keeps : (names : List ℕ) (labels : Labels) (bodies : List (Option Body)) (joints : List (Option BodyJoint)) (contacts : List ContactEntry) (slot : ℕ) (o : Option BodyJoint) (flags : List Bool) → AreTied bodies labels → item_at joints slot ≡ o
+    → HasFlagged names labels (timers_of bodies joints contacts) flags → HasFlagged names labels (timers_of bodies joints contacts) (flagged_joined labels bodies o flags)
+joined_keeps names labels bodies joints contacts slot None flags tied e has = has
+joined_keeps names labels bodies joints contacts slot (Some j) flags tied e has =
+    pair_keeps names labels (timers_of bodies joints contacts) bodies j.a j.b flags
     (λ h l at. beside_short labels bodies joints contacts j.a l tied at (joined_beside bodies joints contacts j.a slot j e (beside_here bodies j.a j.b h)))
     (λ h l at. beside_short labels bodies joints contacts j.b l tied at (joined_beside bodies joints contacts j.b slot j e (beside_there bodies j.a j.b h))) has
 
-touched_if : (t : Bool) (names : List ℕ) (labels : Labels) (bodies : List (Option Body)) (joints : List (Option BodyJoint)) (contacts : List ContactEntry) (key : ContactKey) (x : ContactEntry) (marks : List Bool) → AreTied bodies labels → lookup contacts key ≡ Some x → touches x.contact ≡ t
-    → HasMarked names labels (timers_of bodies joints contacts) marks → HasMarked names labels (timers_of bodies joints contacts) (cond t (marked_pair labels bodies x.key.first.slot x.key.second.slot marks) marks)
-touched_if false names labels bodies joints contacts key x marks tied e touch has = has
-touched_if true names labels bodies joints contacts key x marks tied e touch has =
+touched_if : (t : Bool) (names : List ℕ) (labels : Labels) (bodies : List (Option Body)) (joints : List (Option BodyJoint)) (contacts : List ContactEntry) (key : ContactKey) (x : ContactEntry) (flags : List Bool) → AreTied bodies labels → lookup contacts key ≡ Some x → touches x.contact ≡ t
+    → HasFlagged names labels (timers_of bodies joints contacts) flags → HasFlagged names labels (timers_of bodies joints contacts) (cond t (flagged_pair labels bodies x.key.first.slot x.key.second.slot flags) flags)
+touched_if false names labels bodies joints contacts key x flags tied e touch has = has
+touched_if true names labels bodies joints contacts key x flags tied e touch has =
     let a : ℕ = x.key.first.slot in
     let b : ℕ = x.key.second.slot in
-    pair_keeps names labels (timers_of bodies joints contacts) bodies a b marks
+    pair_keeps names labels (timers_of bodies joints contacts) bodies a b flags
     (λ h l at. beside_short labels bodies joints contacts a l tied at (touched_beside bodies joints contacts a key x e touch (beside_here bodies a b h)))
     (λ h l at. beside_short labels bodies joints contacts b l tied at (touched_beside bodies joints contacts b key x e touch (beside_there bodies a b h))) has
 
-touched_keeps : (names : List ℕ) (labels : Labels) (bodies : List (Option Body)) (joints : List (Option BodyJoint)) (contacts : List ContactEntry) (key : ContactKey) (o : Option ContactEntry) (marks : List Bool) → AreTied bodies labels → lookup contacts key ≡ o
-    → HasMarked names labels (timers_of bodies joints contacts) marks → HasMarked names labels (timers_of bodies joints contacts) (marked_touched labels bodies o marks)
-touched_keeps names labels bodies joints contacts key None marks tied e has = has
-touched_keeps names labels bodies joints contacts key (Some x) marks tied e has = touched_if (touches x.contact) names labels bodies joints contacts key x marks tied e refl has
+touched_keeps : (names : List ℕ) (labels : Labels) (bodies : List (Option Body)) (joints : List (Option BodyJoint)) (contacts : List ContactEntry) (key : ContactKey) (o : Option ContactEntry) (flags : List Bool) → AreTied bodies labels → lookup contacts key ≡ o
+    → HasFlagged names labels (timers_of bodies joints contacts) flags → HasFlagged names labels (timers_of bodies joints contacts) (flagged_touched labels bodies o flags)
+touched_keeps names labels bodies joints contacts key None flags tied e has = has
+touched_keeps names labels bodies joints contacts key (Some x) flags tied e has = touched_if (touches x.contact) names labels bodies joints contacts key x flags tied e refl has
 
-pub keep_marks : (labels : Labels) (bodies : List (Option Body)) (joints : List (Option BodyJoint)) (contacts : List ContactEntry) → AreTied bodies labels → KeepMarks labels bodies joints contacts (timers_of bodies joints contacts)
-keep_marks labels bodies joints contacts tied = record {
-  joined = λ names slot marks has. joined_keeps names labels bodies joints contacts slot (item_at joints slot) marks tied refl has;
-  touched = λ names key marks has. touched_keeps names labels bodies joints contacts key (lookup contacts key) marks tied refl has;
+pub keep_flags : (labels : Labels) (bodies : List (Option Body)) (joints : List (Option BodyJoint)) (contacts : List ContactEntry) → AreTied bodies labels → KeepFlags labels bodies joints contacts (timers_of bodies joints contacts)
+keep_flags labels bodies joints contacts tied = record {
+  joined = λ names slot flags has. joined_keeps names labels bodies joints contacts slot (item_at joints slot) flags tied refl has;
+  touched = λ names key flags has. touched_keeps names labels bodies joints contacts key (lookup contacts key) flags tied refl has;
 }

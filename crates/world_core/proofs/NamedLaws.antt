@@ -7,7 +7,7 @@ use Rattle.fixed_geom.specs.declared.boxes.Box2.{Box2}
 use Rattle.shapes.specs.declared.pose.Pose.{Pose}
 use Rattle.shapes.specs.declared.shape.ShapeDef.{ShapeDef}
 use Rattle.contacts_base.specs.Keys.{id_number}
-use Rattle.contacts_base.specs.Near.{number_of}
+use Rattle.contacts_base.specs.Proxies.{number_of}
 use Rattle.contacts_base.specs.declared.key.ShapeId.{ShapeId}
 use Rattle.contacts_base.specs.declared.near.Proxy.{Proxy}
 use Rattle.contacts_base.specs.declared.surface.Surface.{Surface}

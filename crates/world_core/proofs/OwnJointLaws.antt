@@ -6,8 +6,8 @@ use Rattle.std.proofs.lemmas.List.{drop_all}
 use Rattle.graph_colours.specs.declared.member.Member.{Member}
 use Rattle.graph_colours.proofs.Cases.{by_test, or_left, or_right}
 use Rattle.body_handles.specs.declared.handle.Handle.{Handle}
-use Rattle.body_handles.specs.declared.places.Place.{Place}
-use Rattle.body_handles.specs.Places.{generation_of}
+use Rattle.body_handles.specs.declared.slot_table.SlotEntry.{SlotEntry}
+use Rattle.body_handles.specs.SlotEntries.{generation_of}
 use Rattle.contacts.specs.declared.constraint.Constraint.{Constraint}
 use Rattle.contacts.proofs.Members.{Each, all_from_each}
 use Rattle.plain_world.specs.declared.body.Body.{Body}
@@ -85,27 +85,27 @@ tie_step : (tie : ℕ → Option (Member Constraint)) (n : ℕ) (o : Option (Mem
 tie_step tie n o true slots rest here none e = λ i. cons_option (here i) (e i)
 tie_step tie n o false slots rest here none e = e ∙ ap (λ (p : Option (Member Constraint)). cons_option p rest) (sym (none refl))
 
-ties_from : (bodies : List (Option Body)) (body : ℕ) (places : List Place) (joints : List (Option BodyJoint)) (n : ℕ) (ps : List Place) (js : List (Option BodyJoint)) → length ps ≡ length js → ((m : ℕ) → slice_get places (n + m) ≡ slice_get ps m) → ((m : ℕ) → joint_at joints (n + m) ≡ joint_at js m)
-    → filter_map (λ k. joint_tie_of bodies body (handle_at places k) (joint_at joints k)) (own_from body n js) ≡ ties_in bodies (filter (is_bond_of body) (joint_bonds_from n ps js))
-ties_from bodies body places joints n [] [] long at_places at_joints = refl
-ties_from bodies body places joints n (p ∷ ps) [] long at_places at_joints = absurd (omega (arith, long))
-ties_from bodies body places joints n [] (o ∷ js) long at_places at_joints = absurd (omega (arith, long))
-ties_from bodies body places joints n (p ∷ ps) (o ∷ js) long at_places at_joints =
+ties_from : (bodies : List (Option Body)) (body : ℕ) (slot_entries : List SlotEntry) (joints : List (Option BodyJoint)) (n : ℕ) (ps : List SlotEntry) (js : List (Option BodyJoint)) → length ps ≡ length js → ((m : ℕ) → slice_get slot_entries (n + m) ≡ slice_get ps m) → ((m : ℕ) → joint_at joints (n + m) ≡ joint_at js m)
+    → filter_map (λ k. joint_tie_of bodies body (handle_at slot_entries k) (joint_at joints k)) (own_from body n js) ≡ ties_in bodies (filter (is_bond_of body) (joint_bonds_from n ps js))
+ties_from bodies body slot_entries joints n [] [] long at_places at_joints = refl
+ties_from bodies body slot_entries joints n (p ∷ ps) [] long at_places at_joints = absurd (omega (arith, long))
+ties_from bodies body slot_entries joints n [] (o ∷ js) long at_places at_joints = absurd (omega (arith, long))
+ties_from bodies body slot_entries joints n (p ∷ ps) (o ∷ js) long at_places at_joints =
     let h : Handle = record { slot = n; generation = p.generation } in
-    let handle : handle_at places n ≡ h = ap (λ (q : Option Place). record { slot = n; generation = generation_of q }) (first (slice_get places) (slice_get (p ∷ ps)) n at_places) in
-    let here : joint_tie_of bodies body (handle_at places n) (joint_at joints n) ≡ joint_tie_of bodies body h o = λ i. joint_tie_of bodies body (handle i) (first (joint_at joints) (joint_at (o ∷ js)) n at_joints i) in
-    tie_step (λ k. joint_tie_of bodies body (handle_at places k) (joint_at joints k)) n (joint_tie_of bodies body h o) (is_end_in body o) (own_from body (suc n) js) (ties_in bodies (filter (is_bond_of body) (joint_bonds_from (suc n) ps js))) here (not_tied bodies body h o)
-    (ties_from bodies body places joints (suc n) ps js (omega (arith, long)) (later (slice_get places) (slice_get (p ∷ ps)) n at_places) (later (joint_at joints) (joint_at (o ∷ js)) n at_joints))
+    let handle : handle_at slot_entries n ≡ h = ap (λ (q : Option SlotEntry). record { slot = n; generation = generation_of q }) (first (slice_get slot_entries) (slice_get (p ∷ ps)) n at_places) in
+    let here : joint_tie_of bodies body (handle_at slot_entries n) (joint_at joints n) ≡ joint_tie_of bodies body h o = λ i. joint_tie_of bodies body (handle i) (first (joint_at joints) (joint_at (o ∷ js)) n at_joints i) in
+    tie_step (λ k. joint_tie_of bodies body (handle_at slot_entries k) (joint_at joints k)) n (joint_tie_of bodies body h o) (is_end_in body o) (own_from body (suc n) js) (ties_in bodies (filter (is_bond_of body) (joint_bonds_from (suc n) ps js))) here (not_tied bodies body h o)
+    (ties_from bodies body slot_entries joints (suc n) ps js (omega (arith, long)) (later (slice_get slot_entries) (slice_get (p ∷ ps)) n at_places) (later (joint_at joints) (joint_at (o ∷ js)) n at_joints))
     ∙ sym (tie_first bodies body h o (joint_bonds_from (suc n) ps js))
 
 -- the tie of the joint in a slot
-abbrev pub own_tie : List (Option Body) → ℕ → List Place → List (Option BodyJoint) → ℕ → Option (Member Constraint)
-own_tie bodies body places joints slot = joint_tie_of bodies body (handle_at places slot) (joint_at joints slot)
+abbrev pub own_tie : List (Option Body) → ℕ → List SlotEntry → List (Option BodyJoint) → ℕ → Option (Member Constraint)
+own_tie bodies body slot_entries joints slot = joint_tie_of bodies body (handle_at slot_entries slot) (joint_at joints slot)
 
-pub own_ties : (bodies : List (Option Body)) (body : ℕ) (places : List Place) (joints : List (Option BodyJoint)) (slots : List ℕ) → length places ≡ length joints → slots ≡ own_slots body joints → filter_map (own_tie bodies body places joints) slots ≡ joint_ties_at body bodies (slots_of places joints)
+pub own_ties : (bodies : List (Option Body)) (body : ℕ) (slot_entries : List SlotEntry) (joints : List (Option BodyJoint)) (slots : List ℕ) → length slot_entries ≡ length joints → slots ≡ own_slots body joints → filter_map (own_tie bodies body slot_entries joints) slots ≡ joint_ties_at body bodies (slots_of slot_entries joints)
 unfolding own_slots joint_ties_at
-own_ties bodies body places joints slots long is =
-    ap (filter_map (own_tie bodies body places joints)) is ∙ ties_from bodies body places joints 0 places joints long (λ m. let e : 0 + m ≡ m = omega arith in ap (slice_get places) e) (λ m. let e : 0 + m ≡ m = omega arith in ap (joint_at joints) e)
+own_ties bodies body slot_entries joints slots long is =
+    ap (filter_map (own_tie bodies body slot_entries joints)) is ∙ ties_from bodies body slot_entries joints 0 slot_entries joints long (λ m. let e : 0 + m ≡ m = omega arith in ap (slice_get slot_entries) e) (λ m. let e : 0 + m ≡ m = omega arith in ap (joint_at joints) e)
 
 -- ---- joints that go
 
@@ -115,11 +115,11 @@ unjoined_in body (slot ∷ slots) s = unjoined_in body slots (unjoined_if body s
 
 unjoined_other : (body slot : ℕ) (s : JointSlots) (k : ℕ) → k ≢ slot → joint_at (unjoined_if body slot s).joints k ≡ joint_at s.joints k
 unjoined_other body slot s k ne =
-    by_test (λ (r : JointSlots). joint_at r.joints k ≡ joint_at s.joints k) (is_end_in body (joint_at s.joints slot)) (unjoined (handle_at s.places slot) s) s (λ q. item_at-set_other s.joints slot None k ne) (λ q. refl)
+    by_test (λ (r : JointSlots). joint_at r.joints k ≡ joint_at s.joints k) (is_end_in body (joint_at s.joints slot)) (unjoined (handle_at s.slot_entries slot) s) s (λ q. item_at-set_other s.joints slot None k ne) (λ q. refl)
 
 unjoined_step : (body n : ℕ) (o : Option BodyJoint) (s all : JointSlots) (t : Bool) (slots : List ℕ) → joint_at s.joints n ≡ o → is_end_in body o ≡ t → unjoined_in body slots (unjoined_if body n s) ≡ all → unjoined_in body (cond t (n ∷ slots) slots) s ≡ all
 unjoined_step body n o s all true slots at q e = e
-unjoined_step body n o s all false slots at q e = ap (unjoined_in body slots) (sym (ap (λ (t : Bool). cond t (unjoined (handle_at s.places n) s) s) (ap (is_end_in body) at ∙ q))) ∙ e
+unjoined_step body n o s all false slots at q e = ap (unjoined_in body slots) (sym (ap (λ (t : Bool). cond t (unjoined (handle_at s.slot_entries n) s) s) (ap (is_end_in body) at ∙ q))) ∙ e
 
 unjoined_from : (body n : ℕ) (s : JointSlots) (joints : List (Option BodyJoint)) → ((m : ℕ) → joint_at (unjoined_up body n s).joints (n + m) ≡ joint_at joints m) → unjoined_in body (own_from body n joints) (unjoined_up body n s) ≡ unjoined_up body (n + length joints) s
 unjoined_from body n s [] at = let e : n ≡ n + 0 = omega arith in ap (λ (k : ℕ). unjoined_up body k s) e

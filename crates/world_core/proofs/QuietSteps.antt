@@ -6,7 +6,7 @@ use Rattle.std.specs.Option.{is_none}
 use Rattle.std.proofs.lemmas.Bool.{cases_eq, eq-eqb, false≢true, lt-leb}
 use Rattle.std.proofs.lemmas.Grind.{common_steps}
 use Rattle.std.proofs.lemmas.List.Elements.{All-contains, All-from_all_within}
-use Rattle.body_handles.specs.declared.places.Place.{Place}
+use Rattle.body_handles.specs.declared.slot_table.SlotEntry.{SlotEntry}
 use Rattle.colour_solver.specs.States.{places_from}
 use Rattle.contacts.specs.Constraints.{constraint_number}
 use Rattle.contacts.specs.declared.constraint.Constraint.{Constraint}
@@ -24,8 +24,8 @@ use Rattle.plain_world.specs.Sleep.{timed_bodies, told}
 use Rattle.plain_world.specs.Slots.{body_at}
 use Rattle.sleep_wake.specs.Acting.{Acting, awake_label}
 use Rattle.sleep_wake.specs.Acting as acting
-use Rattle.sleep_wake.specs.SleepPhase.{all_put_to_rest, is_due, is_island, is_ready, least_timer, lesser, longest_at_rest, picked_to_split, ready, ready_from, ready_put_to_rest, sleep_phase, split_picked, ticks_to_sleep}
-use Rattle.sleep_wake.specs.Resting.{may_be_due}
+use Rattle.sleep_wake.specs.SleepPhase.{all_put_to_rest, is_time_to_sleep, is_island, is_ready, least_timer, lesser, longest_at_rest, picked_to_split, ready, ready_from, ready_put_to_rest, sleep_phase, split_picked, ticks_to_sleep}
+use Rattle.sleep_wake.specs.Resting.{may_be_ready}
 use Rattle.sleep_wake.specs.Sleeping.{rested_at, slept_at, slept_by, split_if_loose}
 use Rattle.sleep_wake.proofs.AwakeLemmas.{and_is}
 use Rattle.solver_sets.specs.Beside.{is_beside_moving, timer_if, timers_from, timers_of}
@@ -40,14 +40,14 @@ use Rattle.world_rules.proofs.ChangeLemmas.{tied_alike}
 use Rattle.world_rules.proofs.SlotLemmas.{body_at-in}
 use Rattle.world_rules.proofs.TickedLaws.{timed_alike, timed_are_bodies, timed_told}
 use Rattle.world_rules.proofs.ToldLaws.{told_stays}
-use Rattle.world_core.specs.Quiet.{AreBusy, AreCleared, AreKeptUp, HasMarked, IsShort, TellShort, is_marked_in, is_open_by, is_short_in, marked_by}
+use Rattle.world_core.specs.Quiet.{AreBusy, AreCleared, AreKeptUp, HasFlagged, IsShort, ShortTimersAgree, is_flagged_in, is_open_by, is_short_in, flagged_by}
 
 -- ---- who is newly asleep
 
-none_where : (test : ℕ → Bool) (n : ℕ) (places : List Place) → ((s : ℕ) → test s ≡ false) → handles_where test n places ≡ []
+none_where : (test : ℕ → Bool) (n : ℕ) (slot_entries : List SlotEntry) → ((s : ℕ) → test s ≡ false) → handles_where test n slot_entries ≡ []
 none_where test n [] h = refl
-none_where test n (p ∷ places) h =
-    ap (λ (t : Bool). cond t (record { slot = n; generation = p.generation } ∷ handles_where test (suc n) places) (handles_where test (suc n) places)) (h n) ∙ none_where test (suc n) places h
+none_where test n (p ∷ slot_entries) h =
+    ap (λ (t : Bool). cond t (record { slot = n; generation = p.generation } ∷ handles_where test (suc n) slot_entries) (handles_where test (suc n) slot_entries)) (h n) ∙ none_where test (suc n) slot_entries h
 
 name_tells : (o : Option Label) → is_some (sleeping_name o) ≡ is_asleep_label o
 name_tells None = refl
@@ -77,7 +77,7 @@ timers_at beside n zero m (o ∷ bodies) b e at =
     λ j. Some (timer_if (beside (here j)) (is j))
 timers_at beside n (suc k) m (o ∷ bodies) b e at = timers_at beside (suc n) k m bodies b (omega (arith, e)) at
 
-timer_short : (t : Bool) (b : Body) → b.timer < ticks_to_sleep → may_be_due (Some (timer_if t (Some b))) ≡ false
+timer_short : (t : Bool) (b : Body) → b.timer < ticks_to_sleep → may_be_ready (Some (timer_if t (Some b))) ≡ false
 timer_short true b h = refl
 timer_short false b h = lt-leb ticks_to_sleep b.timer h
 
@@ -120,7 +120,7 @@ up_at labels bodies slot tied are up =
 own_short : (bodies : List (Option Body)) (joints : List (Option BodyJoint)) (contacts : List ContactEntry) (slot : ℕ) (b : Body) → body_at bodies slot ≡ Some b → b.timer < ticks_to_sleep → IsShort (timers_of bodies joints contacts) slot
 unfolding timers_of
 own_short bodies joints contacts slot b at short =
-    ap may_be_due (timers_at (is_beside_moving bodies joints contacts) 0 slot slot bodies b (omega arith) at) ∙ timer_short (is_beside_moving bodies joints contacts slot) b short
+    ap may_be_ready (timers_at (is_beside_moving bodies joints contacts) 0 slot slot bodies b (omega arith) at) ∙ timer_short (is_beside_moving bodies joints contacts slot) b short
 
 -- where no timer is long, each island's first mover keeps it from being ready
 pub busy_keeps_up : (labels : Labels) (bodies : List (Option Body)) (joints : List (Option BodyJoint)) (contacts : List ContactEntry) → AreTied bodies labels → AreTold bodies labels → AreBusy bodies → AreKeptUp labels (timers_of bodies joints contacts)
@@ -157,7 +157,7 @@ least_below name (o ∷ labels) [] slot e = tt
 least_below name (o ∷ labels) (t ∷ timers) zero e = at_first (is_in o name) t (least_timer name labels timers) e
 least_below name (o ∷ labels) (t ∷ timers) (suc slot) e = at_rest (is_in o name) t (least_timer name labels timers) (slice_get timers slot) (least_below name labels timers slot e)
 
-not_due : (o g : Option ℕ) → IsAtMost o g → may_be_due g ≡ false → is_due o ≡ false
+not_due : (o g : Option ℕ) → IsAtMost o g → may_be_ready g ≡ false → is_time_to_sleep o ≡ false
 not_due None g h e = refl
 not_due (Some m) None h e = cc
 not_due (Some m) (Some t) h e = grind (arith, common_steps)
@@ -177,10 +177,10 @@ not_ready loose labels timers slot up = by (is_island loose slot (label_at label
     never false = refl
 
     by : (t : Bool) → is_island loose slot (label_at labels slot) ≡ t → is_ready loose labels timers slot (label_at labels slot) ≡ false
-    by false e = ap (λ (t : Bool). t && is_due (least_timer slot labels timers)) e
+    by false e = ap (λ (t : Bool). t && is_time_to_sleep (least_timer slot labels timers)) e
     by true e =
         let keeps = up slot (island_up loose slot (label_at labels slot) e) (named_in loose slot (label_at labels slot) e) in
-        let short : is_due (least_timer slot labels timers) ≡ false = not_due (least_timer slot labels timers) (slice_get timers keeps.0) (least_below slot labels timers keeps.0 keeps.1) keeps.2 in
+        let short : is_time_to_sleep (least_timer slot labels timers) ≡ false = not_due (least_timer slot labels timers) (slice_get timers keeps.0) (least_below slot labels timers keeps.0 keeps.1) keeps.2 in
         ap (λ (t : Bool). is_island loose slot (label_at labels slot) && t) short ∙ never (is_island loose slot (label_at labels slot))
 
 none_from : (loose : Bool) (labels : Labels) (timers : List ℕ) (n : ℕ) (rest : Labels) → ((k m : ℕ) → m ≡ n + k → is_ready loose labels timers m (label_at rest k) ≡ false) → ready_from loose labels timers n rest ≡ []
@@ -222,43 +222,43 @@ busy_all bodies awake k e done all slot b at up =
     let short : nat_lt b.timer ticks_to_sleep ≡ true = sym (ap is_short_in at) ∙ All-contains (λ (s : ℕ). is_short_in (body_at bodies s) ≡ true) awake slot each listed in
     grind (arith, common_steps)
 
--- ---- islands that are marked
+-- ---- islands that are flagged
 
-pub tell_short : (bodies : List (Option Body)) (joints : List (Option BodyJoint)) (contacts : List ContactEntry) → TellShort bodies (timers_of bodies joints contacts)
-tell_short bodies joints contacts slot b at short = own_short bodies joints contacts slot b at short
+pub short_timers_agree : (bodies : List (Option Body)) (joints : List (Option BodyJoint)) (contacts : List ContactEntry) → ShortTimersAgree bodies (timers_of bodies joints contacts)
+short_timers_agree bodies joints contacts slot b at short = own_short bodies joints contacts slot b at short
 
-pub marked_first : (names : List ℕ) (labels : Labels) (timers : List ℕ) (marks : List Bool) → AreCleared names marks → HasMarked names labels timers marks
-marked_first names labels timers marks none name listed h = absurd (false≢true (sym (none name listed) ∙ h))
+pub flagged_first : (names : List ℕ) (labels : Labels) (timers : List ℕ) (flags : List Bool) → AreCleared names flags → HasFlagged names labels timers flags
+flagged_first names labels timers flags none name listed h = absurd (false≢true (sym (none name listed) ∙ h))
 
-other_set : (marks : List Bool) (slot name : ℕ) → name ≢ slot → slice_get (slice_set marks slot true) name ≡ slice_get marks name
+other_set : (flags : List Bool) (slot name : ℕ) → name ≢ slot → slice_get (slice_set flags slot true) name ≡ slice_get flags name
 other_set [] slot name off = refl
-other_set (t ∷ marks) zero zero off = absurd (off refl)
-other_set (t ∷ marks) zero (suc name) off = refl
-other_set (t ∷ marks) (suc slot) zero off = refl
-other_set (t ∷ marks) (suc slot) (suc name) off = other_set marks slot name (λ e. off (ap suc e))
+other_set (t ∷ flags) zero zero off = absurd (off refl)
+other_set (t ∷ flags) zero (suc name) off = refl
+other_set (t ∷ flags) (suc slot) zero off = refl
+other_set (t ∷ flags) (suc slot) (suc name) off = other_set flags slot name (λ e. off (ap suc e))
 
-pub marks_keep : (names : List ℕ) (labels : Labels) (timers : List ℕ) (marks : List Bool) (slot : ℕ) (o : Option Label) → label_at labels slot ≡ o → IsShort timers slot → HasMarked names labels timers marks → HasMarked names labels timers (marked_by o marks)
-marks_keep names labels timers marks slot None e short has name listed h = has name listed h
-marks_keep names labels timers marks slot (Some l) e short has name listed h = elim (cases_eq name l.name) [
+pub flags_keep : (names : List ℕ) (labels : Labels) (timers : List ℕ) (flags : List Bool) (slot : ℕ) (o : Option Label) → label_at labels slot ≡ o → IsShort timers slot → HasFlagged names labels timers flags → HasFlagged names labels timers (flagged_by o flags)
+flags_keep names labels timers flags slot None e short has name listed h = has name listed h
+flags_keep names labels timers flags slot (Some l) e short has name listed h = elim (cases_eq name l.name) [
   | inl same ↦ (slot, ap (λ (o : Option Label). is_in o name) e ∙ eq-eqb l.name name (sym same), short)
-  | inr off ↦ has name listed (ap is_marked_in (sym (other_set marks l.name name off)) ∙ h)
+  | inr off ↦ has name listed (ap is_flagged_in (sym (other_set flags l.name name off)) ∙ h)
 ]
 
-marks_if : (t : Bool) (names : List ℕ) (labels : Labels) (timers : List ℕ) (marks : List Bool) (slot : ℕ) → (t ≡ true → IsShort timers slot) → HasMarked names labels timers marks → HasMarked names labels timers (cond t (marked_by (label_at labels slot) marks) marks)
-marks_if true names labels timers marks slot short has = marks_keep names labels timers marks slot (label_at labels slot) refl (short refl) has
-marks_if false names labels timers marks slot short has = has
+flagged_by_test : (t : Bool) (names : List ℕ) (labels : Labels) (timers : List ℕ) (flags : List Bool) (slot : ℕ) → (t ≡ true → IsShort timers slot) → HasFlagged names labels timers flags → HasFlagged names labels timers (cond t (flagged_by (label_at labels slot) flags) flags)
+flagged_by_test true names labels timers flags slot short has = flags_keep names labels timers flags slot (label_at labels slot) refl (short refl) has
+flagged_by_test false names labels timers flags slot short has = has
 
 short_in : (o : Option Body) → is_short_in o ≡ true → (b : Body) × (o ≡ Some b) × (b.timer < ticks_to_sleep)
 short_in None h = cc
 short_in (Some b) h = (b, refl, grind (arith, common_steps))
 
-pub marked_more : (names : List ℕ) (labels : Labels) (timers : List ℕ) (bodies : List (Option Body)) (marks new : List Bool) (slot : ℕ) → TellShort bodies timers → HasMarked names labels timers marks
-    → new ≡ cond (is_short_in (body_at bodies slot)) (marked_by (label_at labels slot) marks) marks → HasMarked names labels timers new
-marked_more names labels timers bodies marks new slot tell has e =
-    subst (HasMarked names labels timers) (sym e) (marks_if (is_short_in (body_at bodies slot)) names labels timers marks slot (λ h. let it = short_in (body_at bodies slot) h in tell slot it.0 it.1 it.2) has)
+pub flagged_more : (names : List ℕ) (labels : Labels) (timers : List ℕ) (bodies : List (Option Body)) (flags new : List Bool) (slot : ℕ) → ShortTimersAgree bodies timers → HasFlagged names labels timers flags
+    → new ≡ cond (is_short_in (body_at bodies slot)) (flagged_by (label_at labels slot) flags) flags → HasFlagged names labels timers new
+flagged_more names labels timers bodies flags new slot tell has e =
+    subst (HasFlagged names labels timers) (sym e) (flagged_by_test (is_short_in (body_at bodies slot)) names labels timers flags slot (λ h. let it = short_in (body_at bodies slot) h in tell slot it.0 it.1 it.2) has)
 
-not_open : (o : Option Label) (slot : ℕ) (marked : Bool) → awake_label o ≡ true → is_in o slot ≡ true → is_open_by o slot marked ≡ false → marked ≡ true
-not_open None slot marked up own h = cc
+not_open : (o : Option Label) (slot : ℕ) (flagged : Bool) → awake_label o ≡ true → is_in o slot ≡ true → is_open_by o slot flagged ≡ false → flagged ≡ true
+not_open None slot flagged up own h = cc
 not_open (Some l) slot true up own h = refl
 not_open (Some l) slot false up own h = let open_now : (l.name == slot) ≡ false = sym (with_true (l.name == slot)) ∙ h in cc
   where
@@ -266,15 +266,15 @@ not_open (Some l) slot false up own h = let open_now : (l.name == slot) ≡ fals
     with_true true = refl
     with_true false = refl
 
--- where each awake island is marked, each has a mover that keeps it from being ready
-pub marked_keep_up : (labels : Labels) (bodies : List (Option Body)) (awake : List ℕ) (timers : List ℕ) (marks : List Bool) → awake ≡ places_from is_awake_in 0 bodies → AreTied bodies labels → AreTold bodies labels → HasMarked awake labels timers marks
-    → AllWithin (λ slot. is_open_by (label_at labels slot) slot (is_marked_in (slice_get marks slot)) ≡ false) awake 0 (length awake) → AreKeptUp labels timers
-marked_keep_up labels bodies awake timers marks e tied are has all name up own =
+-- where each awake island is flagged, each has a mover that keeps it from being ready
+pub flagged_keep_up : (labels : Labels) (bodies : List (Option Body)) (awake : List ℕ) (timers : List ℕ) (flags : List Bool) → awake ≡ places_from is_awake_in 0 bodies → AreTied bodies labels → AreTold bodies labels → HasFlagged awake labels timers flags
+    → AllWithin (λ slot. is_open_by (label_at labels slot) slot (is_flagged_in (slice_get flags slot)) ≡ false) awake 0 (length awake) → AreKeptUp labels timers
+flagged_keep_up labels bodies awake timers flags e tied are has all name up own =
     let it : IsUpAt bodies name = up_at labels bodies name tied are up in
     let listed : Contains awake name = subst (λ (l : List ℕ). Contains l name) (sym e) (place_there is_awake_in bodies 0 name name (Some it.body) (omega arith) (body_at-in bodies name it.body it.there) it.up) in
-    let P : ℕ → Type 0 = λ slot. is_open_by (label_at labels slot) slot (is_marked_in (slice_get marks slot)) ≡ false in
+    let P : ℕ → Type 0 = λ slot. is_open_by (label_at labels slot) slot (is_flagged_in (slice_get flags slot)) ≡ false in
     let shut : P name = All-contains P awake name (All-from_all_within P awake all) listed in
-    has name listed (not_open (label_at labels name) name (is_marked_in (slice_get marks name)) up own shut)
+    has name listed (not_open (label_at labels name) name (is_flagged_in (slice_get flags name)) up own shut)
 
 -- ---- a sleep phase in which no island is ready
 
@@ -282,22 +282,22 @@ pub tied_timed : (ticks : ℕ) (os : List (Option Body)) (labels : Labels) → A
 tied_timed ticks os labels tied = tied_alike os (timed_bodies ticks os) labels (timed_alike ticks os) tied
 
 -- what it leaves: all as it is, and nobody is newly asleep
-pub record RestsQuietly (ticks : ℕ) (os : List (Option Body)) (places : List Place) (joints : List (Option BodyJoint)) (contacts : List ContactEntry) (s : Acting Constraint) : Type 0 where
+pub record RestsQuietly (ticks : ℕ) (os : List (Option Body)) (slot_entries : List SlotEntry) (joints : List (Option BodyJoint)) (contacts : List ContactEntry) (s : Acting Constraint) : Type 0 where
   pub acting : s ≡ rested_acting (timed_bodies ticks os) joints contacts s
   pub bodies : timed_bodies ticks os ≡ told s.labels (timed_bodies ticks os)
-  pub slept : [] ≡ newly_asleep places (timed_bodies ticks os) s.labels
+  pub slept : [] ≡ newly_asleep slot_entries (timed_bodies ticks os) s.labels
 
-pub rests_quietly : (ticks : ℕ) (os : List (Option Body)) (places : List Place) (joints : List (Option BodyJoint)) (contacts : List ContactEntry) (s : Acting Constraint) → AreBodies os → AreTied os s.labels → AreTold os s.labels
-    → AreKeptUp s.labels (timers_of (timed_bodies ticks os) joints contacts) → RestsQuietly ticks os places joints contacts s
+pub rests_quietly : (ticks : ℕ) (os : List (Option Body)) (slot_entries : List SlotEntry) (joints : List (Option BodyJoint)) (contacts : List ContactEntry) (s : Acting Constraint) → AreBodies os → AreTied os s.labels → AreTold os s.labels
+    → AreKeptUp s.labels (timers_of (timed_bodies ticks os) joints contacts) → RestsQuietly ticks os slot_entries joints contacts s
 unfolding newly_asleep
-rests_quietly ticks os places joints contacts s all tied are up =
+rests_quietly ticks os slot_entries joints contacts s all tied are up =
     let bodies : List (Option Body) = timed_bodies ticks os in
     let tied_now : AreTied bodies s.labels = tied_timed ticks os s.labels tied in
     let told_now : AreTold bodies s.labels = timed_told ticks os s.labels are in
     record {
       acting = sym (quiet_phase s (timers_of bodies joints contacts) (none_ready true s.labels (timers_of bodies joints contacts) up) (none_ready false s.labels (timers_of bodies joints contacts) up));
       bodies = sym (told_stays s.labels bodies (timed_are_bodies ticks os all) told_now);
-      slept = sym (none_where (λ slot. sleeps s.labels slot && not (was_asleep bodies slot)) 0 places (λ slot. asleep_not (body_at bodies slot) (label_at s.labels slot) (tied_now slot) (told_now slot)));
+      slept = sym (none_where (λ slot. sleeps s.labels slot && not (was_asleep bodies slot)) 0 slot_entries (λ slot. asleep_not (body_at bodies slot) (label_at s.labels slot) (tied_now slot) (told_now slot)));
     }
 
 -- ---- a mover that sleeps is put to sleep

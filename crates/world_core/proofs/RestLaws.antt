@@ -22,7 +22,7 @@ use Rattle.sleep_wake.specs.AwakeSlots.{AgreeAwake, AreAwakeSlots}
 use Rattle.sleep_wake.specs.SleepPhase.{sleep_phase}
 use Rattle.sleep_wake.proofs.AwakeLemmas.{and_is}
 use Rattle.sleep_wake.proofs.PhaseLemmas.{not_is}
-use Rattle.solver_sets.specs.BesideByTies.{TellMoving}
+use Rattle.solver_sets.specs.BesideByTies.{ShowMoving}
 use Rattle.solver_sets.specs.Beside.{is_beside_moving, timers_from, timers_of}
 use Rattle.solver_sets.specs.Slept.{is_asleep_label, sleeps}
 use Rattle.solver_sets.specs.SinceTold.{is_asleep_in, was_asleep}
@@ -126,7 +126,7 @@ awake_slots labels bodies awake e tied are = record {
 
 -- the phase leaves the movers that there are
 pub tied_rested : (timers : List ℕ) (bodies : List (Option Body)) (s new : Acting Constraint) → IsConsistent constraint_number s → AreTied bodies s.labels → new ≡ sleep_phase constraint_number timers s → AreTied bodies new.labels
-tied_rested timers bodies s new settled tied e = subst (λ (a : Acting Constraint). AreTied bodies a.labels) (sym e) (λ slot. movers_stay.phase s timers settled slot ∙ tied slot)
+tied_rested timers bodies s new consistent tied e = subst (λ (a : Acting Constraint). AreTied bodies a.labels) (sym e) (λ slot. movers_stay.phase s timers consistent slot ∙ tied slot)
 
 asleep_there : (o : Option Label) → is_asleep_label o ≡ true → is_some o ≡ true
 asleep_there None e = cc
@@ -162,8 +162,8 @@ timers_agree bodies joints contacts labels timers len same = record { size = len
 
 -- the phase by the awake movers' timers is the phase by all
 pub phase_by_awake : (bodies : List (Option Body)) (joints : List (Option BodyJoint)) (contacts : List ContactEntry) (s new : Acting Constraint) (awake timers : List ℕ) → awake ≡ places_from is_awake_in 0 bodies → AreTied bodies s.labels → AreTold bodies s.labels → length timers ≡ length bodies
-    → TellMoving bodies joints contacts s.labels s.lists
-    → ((labels : Labels) (es : List ContactEntry) → TellMoving bodies joints es labels s.lists → (slot : ℕ) → acting.is_mover_awake labels slot ≡ true → Contains awake slot → slice_index_or timers slot 0 ≡ slice_index_or (timers_of bodies joints es) slot 0)
+    → ShowMoving bodies joints contacts s.labels s.lists
+    → ((labels : Labels) (es : List ContactEntry) → ShowMoving bodies joints es labels s.lists → (slot : ℕ) → acting.is_mover_awake labels slot ≡ true → Contains awake slot → slice_index_or timers slot 0 ≡ slice_index_or (timers_of bodies joints es) slot 0)
     → ((all : List ℕ) → AgreeAwake s.labels timers all → new ≡ sleep_phase constraint_number all s) → new ≡ sleep_phase constraint_number (timers_of bodies joints contacts) s
 phase_by_awake bodies joints contacts s new awake timers e tied are len tells same phase =
     let slots : AreAwakeSlots s.labels awake = awake_slots s.labels bodies awake e tied are in

@@ -3,17 +3,16 @@ use Rattle.std.proofs.Common.{◌≡◌, ℕ, suc, ◌+◌, ◌*◌, ◌<◌, �
 use Rattle.std.proofs.lemmas.List.{map-append}
 use Rattle.std.proofs.lemmas.List.Elements.{All-head, All-tail}
 use Rattle.fixed_geom.specs.declared.boxes.Box2.{Box2}
-use Rattle.body_handles.specs.declared.places.TheConstants.{MAX_SLOTS}
+use Rattle.body_handles.specs.declared.slot_table.TheConstants.{MAX_SLOTS}
 use Rattle.shapes.specs.Shapes.{IsShapeDef}
 use Rattle.shapes.specs.declared.pose.Pose.{Pose}
 use Rattle.shapes.specs.declared.shape.ShapeDef.{ShapeDef}
 use Rattle.shapes.specs.Poses.{IsPose}
 use Rattle.contacts_base.specs.Contacts.{AreKeysRising}
-use Rattle.contacts_base.specs.Near.{IsProxy, IsProxyList, number_of}
+use Rattle.contacts_base.specs.Proxies.{IsProxy, IsProxyList, number_of}
 use Rattle.contacts_base.specs.declared.contact.ContactEntry.{ContactEntry}
 use Rattle.contacts_base.specs.declared.near.Proxy.{Proxy}
-use Rattle.contacts.specs.Changes.{contacts_of}
-use Rattle.contacts.specs.Forbidden.{allowed_codes}
+use Rattle.contacts.specs.ByCodes.{contacts_of, allowed_codes}
 use Rattle.contacts.proofs.ByPairsLaws.{contacts_by_codes-holds}
 use Rattle.contacts.proofs.ChangeLemmas.{contacts_rise}
 use Rattle.contacts.proofs.ForbiddenLemmas.{allowed_are_pairs}

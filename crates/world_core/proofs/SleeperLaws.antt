@@ -16,14 +16,14 @@ use Rattle.islands.proofs.LabelLemmas.{in_case, in_of}
 use Rattle.plain_world.specs.declared.body.Body.{Body}
 use Rattle.plain_world.specs.Slots.{body_at}
 use Rattle.sleep_wake.specs.Acting.{Acting, IsConsistent}
-use Rattle.sleep_wake.specs.Changes.{begun, after_change, ended, turned}
+use Rattle.sleep_wake.specs.Changes.{begun, after_change, ended, after_changes}
 use Rattle.sleep_wake.specs.ChangeLists.{AreChanges, IsChange}
 use Rattle.sleep_wake.specs.Waking.{movers_woken, second_woken, set_woken, woken_at, woken_by}
 use Rattle.sleep_wake.specs.declared.change.Change.{Change}
 use Rattle.sleep_wake.specs.declared.change.Change.TheVariants.{Begin, End}
 use Rattle.sleep_wake.proofs.AwakeLemmas.{and_is}
 use Rattle.sleep_wake.proofs.FoldLemmas.{Labelled, change_next, change_now, changed_labelled, woken_ready}
-use Rattle.sleep_wake.proofs.TurnOwn.{IsReady, change_keeps, ready_for}
+use Rattle.sleep_wake.proofs.ChangeOwn.{IsReady, change_keeps, ready_for}
 use Rattle.solver_sets.specs.Slept.{sleeps}
 use Rattle.solver_sets.specs.SinceTold.{is_asleep_in, was_asleep}
 use Rattle.world_rules.specs.Sound.{AreTold}
@@ -82,20 +82,20 @@ changed_kept : (slots : List ℕ) (old : Labels) (c : Change Constraint) (s : Ac
 changed_kept slots old (Begin m) s w can has slept kept =
     let now : Acting Constraint = movers_woken constraint_number m.movers s in
     let ready : IsReady constraint_number m.movers s now = ready_for constraint_number m.movers s now w can.1 refl in
-    alike_kept slots old now.labels (begun constraint_number m now).labels (movers_kept slots old s m.movers has slept kept) (begun_alike m now ready.settled.islands.partition (woken_ready constraint_number m.movers s w can.1))
+    alike_kept slots old now.labels (begun constraint_number m now).labels (movers_kept slots old s m.movers has slept kept) (begun_alike m now ready.consistent.islands.partition (woken_ready constraint_number m.movers s w can.1))
 changed_kept slots old (End m) s w can has slept kept =
     let now : Acting Constraint = movers_woken constraint_number m.movers s in
     let ready : IsReady constraint_number m.movers s now = ready_for constraint_number m.movers s now w (w.movers m can) refl in
-    alike_kept slots old now.labels (ended constraint_number m now).labels (movers_kept slots old s m.movers has slept kept) (ended_alike m now ready.settled.islands.partition (woken_ready constraint_number m.movers s w (w.movers m can)))
+    alike_kept slots old now.labels (ended constraint_number m now).labels (movers_kept slots old s m.movers has slept kept) (ended_alike m now ready.consistent.islands.partition (woken_ready constraint_number m.movers s w (w.movers m can)))
 
-turned_kept : (slots : List ℕ) (old : Labels) (changes : List (Change Constraint)) (s : Acting Constraint) → IsConsistent constraint_number s → Labelled old s.labels → AreChanges constraint_number old s.ties changes → OfAll (HasSleepers old slots) changes → HaveSlept old s.labels
-    → SleepOrListed slots old s.labels → SleepOrListed slots old (turned constraint_number changes s).labels
-turned_kept slots old [] s w on can has slept kept = kept
-turned_kept slots old (c ∷ cs) s w on can has slept kept =
+after_changes_kept : (slots : List ℕ) (old : Labels) (changes : List (Change Constraint)) (s : Acting Constraint) → IsConsistent constraint_number s → Labelled old s.labels → AreChanges constraint_number old s.ties changes → OfAll (HasSleepers old slots) changes → HaveSlept old s.labels
+    → SleepOrListed slots old s.labels → SleepOrListed slots old (after_changes constraint_number changes s).labels
+after_changes_kept slots old [] s w on can has slept kept = kept
+after_changes_kept slots old (c ∷ cs) s w on can has slept kept =
     let P : Change Constraint → Type 0 = λ d. OfBoth (HasSleepers old slots) (movers_in d) in
     let now : Acting Constraint = after_change constraint_number c s in
     let here : IsChange constraint_number s.labels s.ties c = change_now constraint_number old s.labels s.ties c cs on can in
-    turned_kept slots old cs now (change_keeps constraint_number c s w here) (λ t h. changed_labelled constraint_number c s t (on t h)) (change_next constraint_number old s c cs can) (All-tail P c cs has) (slept_then old s.labels now.labels slept (changed_slept c s))
+    after_changes_kept slots old cs now (change_keeps constraint_number c s w here) (λ t h. changed_labelled constraint_number c s t (on t h)) (change_next constraint_number old s c cs can) (All-tail P c cs has) (slept_then old s.labels now.labels slept (changed_slept c s))
     (changed_kept slots old c s w here (All-head P c cs has) slept kept)
 
 some_there : (o : Option ℕ) → is_some o ≡ true → (n : ℕ) × (o ≡ Some n)
@@ -108,13 +108,13 @@ asleep_there (Some b) e = let it = some_there b.asleep e in (b, it.0, refl, it.1
 
 -- who was told that they sleep and are awake by then is listed
 pub woken_listed : (slots : List ℕ) (bodies : List (Option Body)) (changes : List (Change Constraint)) (s : Acting Constraint) → IsConsistent constraint_number s → AreTold bodies s.labels → AreChanges constraint_number s.labels s.ties changes → OfAll (HasSleepers s.labels slots) changes
-    → (slot : ℕ) → (was_asleep bodies slot && not (sleeps (turned constraint_number changes s).labels slot)) ≡ true → Contains slots slot
+    → (slot : ℕ) → (was_asleep bodies slot && not (sleeps (after_changes constraint_number changes s).labels slot)) ≡ true → Contains slots slot
 woken_listed slots bodies changes s w are can has slot h =
-    let new : Labels = (turned constraint_number changes s).labels in
+    let new : Labels = (after_changes constraint_number changes s).labels in
     let both = and_is (was_asleep bodies slot) (not (sleeps new slot)) h in
     let it = asleep_there (body_at bodies slot) both.0 in
     let slept : sleeping_name (label_at s.labels slot) ≡ Some it.1 = sym (are slot it.0 it.2) ∙ it.3 in
-    elim (turned_kept slots s.labels changes s w (λ t k. k) can has (λ t n e. refl) (λ t n e. inl e) slot it.1 slept) [
+    elim (after_changes_kept slots s.labels changes s w (λ t k. k) can has (λ t n e. refl) (λ t n e. inl e) slot it.1 slept) [
       | inl here ↦ (let still : sleeps new slot ≡ true = name_tells (label_at new slot) (Some it.1) here in absurd (false≢true (sym (ap not still) ∙ both.1)))
       | inr c ↦ c
     ]

@@ -35,7 +35,7 @@ use Rattle.plain_world.specs.declared.kind.Kind.TheVariants.{Static, Kinematic, 
 use Rattle.world_core_base.specs.Carried.{carried_motion, carried_to}
 use Rattle.world_core_base.specs.Renewal.{renewed_bodies, with_renewed}
 use Rattle.world_core_base.specs.Solving as steps
-use Rattle.world_core_base.specs.Solving.{Moving, Solving, Turns, all_changed, carried_on, begin, bodies_of, bounce, carry, motion_changed, clamp, ends_now, gain, gain_of, gain_between, left, after_impulse, moving, moving_at, pass, pull, solve, solved, tick, ticks, row_turn, turn_between, turn_joined, turn_joint, warm}
+use Rattle.world_core_base.specs.Solving.{Moving, Solving, Visits, all_changed, carried_on, begin, bodies_of, bounce, carry, motion_changed, clamp, ends_now, gain, gain_of, gain_between, left, after_impulse, moving, moving_at, pass, pull, solve, solved, tick, ticks, row_visit, visit_between, visit_joined, visit_joint, warm}
 use Rattle.world_core.proofs.ImpulseBounds.{AreEndsWithin, KeepsWithin, bounce_keeps, solve_keeps, warm_keeps, wider}
 
 -- ---- bodies in a step
@@ -94,7 +94,7 @@ back_bound k ms i j a b h is_a is_b = set_bound k (slice_set ms i (Some a)) j b 
 back_few : (ms : List (Option Moving)) (i j : ℕ) (a b : Option Moving) → length ms ≤ 2 ^ 16 → length (slice_set (slice_set ms i a) j b) ≤ 2 ^ 16
 back_few ms i j a b few = let first = length_set ms i a in let second = length_set (slice_set ms i a) j b in omega (arith, first, second, few)
 
-joined_bound : (k g c : ℕ) (f : Turns) (s : Solving) (slot : ℕ) (j : BodyJoint) (a b : Option Moving) → KeepsWithin k f → IsBounded k g c s → moving_at s.bodies j.a ≡ a → moving_at s.bodies j.b ≡ b → IsBounded k g c (turn_joined f s slot j a b)
+joined_bound : (k g c : ℕ) (f : Visits) (s : Solving) (slot : ℕ) (j : BodyJoint) (a b : Option Moving) → KeepsWithin k f → IsBounded k g c s → moving_at s.bodies j.a ≡ a → moving_at s.bodies j.b ≡ b → IsBounded k g c (visit_joined f s slot j a b)
 joined_bound k g c f s slot j None b keeps h at_a at_b = h
 joined_bound k g c f s slot j (Some a) None keeps h at_a at_b = h
 joined_bound k g c f s slot j (Some a) (Some b) keeps h at_a at_b =
@@ -109,11 +109,11 @@ joined_bound k g c f s slot j (Some a) (Some b) keeps h at_a at_b =
       clamp = h.clamp;
     }
 
-joint_bound : (k g c : ℕ) (f : Turns) (s : Solving) (slot : ℕ) (o : Option BodyJoint) → KeepsWithin k f → IsBounded k g c s → IsBounded k g c (turn_joint f s slot o)
+joint_bound : (k g c : ℕ) (f : Visits) (s : Solving) (slot : ℕ) (o : Option BodyJoint) → KeepsWithin k f → IsBounded k g c s → IsBounded k g c (visit_joint f s slot o)
 joint_bound k g c f s slot None keeps h = h
 joint_bound k g c f s slot (Some j) keeps h = joined_bound k g c f s slot j (moving_at s.bodies j.a) (moving_at s.bodies j.b) keeps h refl refl
 
-between_bound : (k g c : ℕ) (f : Turns) (s : Solving) (key : ContactKey) (o : Option ContactEntry) (a b : Option Moving) → KeepsWithin k f → IsBounded k g c s → moving_at s.bodies key.first.slot ≡ a → moving_at s.bodies key.second.slot ≡ b → IsBounded k g c (turn_between f s key o a b)
+between_bound : (k g c : ℕ) (f : Visits) (s : Solving) (key : ContactKey) (o : Option ContactEntry) (a b : Option Moving) → KeepsWithin k f → IsBounded k g c s → moving_at s.bodies key.first.slot ≡ a → moving_at s.bodies key.second.slot ≡ b → IsBounded k g c (visit_between f s key o a b)
 between_bound k g c f s key None a b keeps h at_a at_b = h
 between_bound k g c f s key (Some e) None b keeps h at_a at_b = h
 between_bound k g c f s key (Some e) (Some a) None keeps h at_a at_b = h
@@ -129,13 +129,13 @@ between_bound k g c f s key (Some e) (Some a) (Some b) keeps h at_a at_b =
       clamp = h.clamp;
     }
 
-turn_bound : (k g c : ℕ) (f : Turns) (s : Solving) (id : Constraint) → KeepsWithin k f → IsBounded k g c s → IsBounded k g c (row_turn f s id)
+turn_bound : (k g c : ℕ) (f : Visits) (s : Solving) (id : Constraint) → KeepsWithin k f → IsBounded k g c s → IsBounded k g c (row_visit f s id)
 turn_bound k g c f s (constraints.Joint h) keeps is = joint_bound k g c f s h.slot (joint_at s.joints h.slot) keeps is
 turn_bound k g c f s (constraints.Contact key) keeps is = between_bound k g c f s key (lookup s.contacts key) (moving_at s.bodies key.first.slot) (moving_at s.bodies key.second.slot) keeps is refl refl
 
-pass_bound : (k g c : ℕ) (f : Turns) (order : List Constraint) (s : Solving) → KeepsWithin k f → IsBounded k g c s → IsBounded k g c (pass f order s)
+pass_bound : (k g c : ℕ) (f : Visits) (order : List Constraint) (s : Solving) → KeepsWithin k f → IsBounded k g c s → IsBounded k g c (pass f order s)
 pass_bound k g c f [] s keeps h = h
-pass_bound k g c f (id ∷ order) s keeps h = pass_bound k g c f order (row_turn f s id) keeps (turn_bound k g c f s id keeps h)
+pass_bound k g c f (id ∷ order) s keeps h = pass_bound k g c f order (row_visit f s id) keeps (turn_bound k g c f s id keeps h)
 
 -- ---- a pass over the bodies
 

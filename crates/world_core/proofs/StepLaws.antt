@@ -7,7 +7,7 @@ use Rattle.fixed_geom.specs.declared.refusal.Refusal.{Refusal}
 use Rattle.fixed_geom.specs.declared.refusal.Refusal.TheVariants.{NoMemory, OutOfRange}
 use Rattle.std.specs.List.Sorted.{IsStrictlyIncreasing}
 use Rattle.body_handles.specs.declared.handle.Handle.{Handle}
-use Rattle.body_handles.specs.declared.places.TheConstants.{MAX_SLOTS}
+use Rattle.body_handles.specs.declared.slot_table.TheConstants.{MAX_SLOTS}
 use Rattle.colour_solver.specs.declared.ticks.StepSums.{StepSums}
 use Rattle.colour_solver.specs.Ticks.{AreSums, Run, added, ran, start}
 use Rattle.contacts.specs.Constraints.{constraint_number}
@@ -32,16 +32,16 @@ use Rattle.plain_world.specs.Plain.{Plain}
 use Rattle.plain_world.specs.Slots.{AreMatched}
 use Rattle.shapes.specs.Shapes.{is_between}
 use Rattle.sleep_wake.specs.Acting.{Acting, IsConsistent}
-use Rattle.sleep_wake.specs.Changes.{turned}
+use Rattle.sleep_wake.specs.Changes.{after_changes}
 use Rattle.sleep_wake.specs.ChangeLists.{AreChanges, begin_count}
 use Rattle.sleep_wake.specs.declared.change.Change.{Change}
-use Rattle.solver_sets.specs.BesideByTies.{TellMoving}
+use Rattle.solver_sets.specs.BesideByTies.{ShowMoving}
 use Rattle.solver_sets.specs.Slept.{asleep_only_in}
 use Rattle.solver_sets.specs.SinceTold.{newly_asleep, newly_awake}
 use Rattle.solver_sets.specs.Tied.{AreTied}
 use Rattle.solver_sets.specs.Alike.{AreAlike, ends_in}
 use Rattle.solver_sets.specs.Ties.{JointSlots, key_changes, slots_of, ties_of}
-use Rattle.solver_sets.proofs.MovingLaws.{tell_moving}
+use Rattle.solver_sets.proofs.MovingLaws.{show_moving}
 use Rattle.solver_sets.proofs.SleptLaws.{told_bodies_tell}
 use Rattle.world_core_base.specs.ConstraintRows.{rows_of}
 use Rattle.world_core_base.specs.Gather.{states_of}
@@ -64,12 +64,12 @@ use Rattle.world_rules.specs.World.{World, joints_in_slots}
 use Rattle.world_rules.proofs.AcceptedAll.{solved_in}
 use Rattle.world_rules.proofs.ChangeLemmas.{tied_alike}
 use Rattle.world_rules.proofs.GatherLaws.{can_gather_collided}
-use Rattle.world_rules.proofs.KeptStep.{IsTicked, collide_kept, collided_in, collided_world, turned_in}
+use Rattle.world_rules.proofs.KeptStep.{IsTicked, collide_kept, collided_in, collided_world, changed_in}
 use Rattle.world_rules.proofs.LowerLaws.{alike_bodies_keep_ties, impulses_keep_ties, same_touching_keep_ties}
 use Rattle.world_rules.proofs.PartsLeft.{IsLeft}
 use Rattle.world_rules.proofs.SoundLaws.{IsKept, kept_sound}
 use Rattle.world_rules.proofs.ToldLaws.{length_told}
-use Rattle.world_rules.proofs.StepCalls.{can_turn, step_left, timers_within, woke_is}
+use Rattle.world_rules.proofs.StepCalls.{can_change, step_left, timers_within, woke_is}
 use Rattle.world_rules.proofs.StepParts.{asleep_rise, ticked_in, told_as}
 use Rattle.world_rules.proofs.TickedLaws.{AreInSameCondition, alike_then, moved_conditions, timed_alike, timed_told, told_conditions}
 
@@ -83,34 +83,34 @@ rises_in w s is = contacts_after_rise w.plain.bodies w.plain.joints w.plain.cont
 abbrev pub AreFound : World → List (Change Constraint) → Type 0
 AreFound w changes = changes ≡ key_changes w.plain.bodies (collided_in w).begin (collided_in w).end
 
-pub can_turn_found : (w : World) (s t : Acting Constraint) (changes : List (Change Constraint)) → IsWhole w s → t ≡ s → AreFound w changes → AreChanges constraint_number t.labels t.ties changes
-can_turn_found w s t changes is same found =
+pub can_change_found : (w : World) (s t : Acting Constraint) (changes : List (Change Constraint)) → IsWhole w s → t ≡ s → AreFound w changes → AreChanges constraint_number t.labels t.ties changes
+can_change_found w s t changes is same found =
     let acting : t ≡ acting_of w.plain = same ∙ is.same in
     subst (λ (a : Acting Constraint). AreChanges constraint_number a.labels a.ties changes) (sym acting)
-    (subst (λ (cs : List (Change Constraint)). AreChanges constraint_number (acting_of w.plain).labels (acting_of w.plain).ties cs) (sym found) (can_turn w (kept_of w s is) (rises_in w s is)).changes)
+    (subst (λ (cs : List (Change Constraint)). AreChanges constraint_number (acting_of w.plain).labels (acting_of w.plain).ties cs) (sym found) (can_change w (kept_of w s is) (rises_in w s is)).changes)
 
 -- there is room for what begins
 pub room_found : (w : World) (s t : Acting Constraint) (changes : List (Change Constraint)) (n room : ℕ) → IsWhole w s → t ≡ s → AreFound w changes → n ≡ length (collided_in w).begin
     → length s.ties + n ≤ room → length t.ties + begin_count changes ≤ room
 room_found w s t changes n room is same found count h =
-    let few : begin_count changes ≤ length (collided_in w).begin = subst (λ (cs : List (Change Constraint)). begin_count cs ≤ length (collided_in w).begin) (sym found) (can_turn w (kept_of w s is) (rises_in w s is)).count in
+    let few : begin_count changes ≤ length (collided_in w).begin = subst (λ (cs : List (Change Constraint)). begin_count cs ≤ length (collided_in w).begin) (sym found) (can_change w (kept_of w s is) (rises_in w s is)).count in
     let long : length t.ties ≡ length s.ties = ap (λ (a : Acting Constraint). length a.ties) same in
     omega (arith, few, long, count, h)
 
-pub settled_found : (w : World) (s t : Acting Constraint) → IsWhole w s → t ≡ s → IsConsistent constraint_number t
-settled_found w s t is same = subst (IsConsistent constraint_number) (sym (same ∙ is.same)) (kept_of w s is).settled
+pub consistent_found : (w : World) (s t : Acting Constraint) → IsWhole w s → t ≡ s → IsConsistent constraint_number t
+consistent_found w s t is same = subst (IsConsistent constraint_number) (sym (same ∙ is.same)) (kept_of w s is).consistent
 
 -- what acts, the bodies and the contacts, once all that begins and ends had its turn
-pub record HasTurned (w : World) (now : Acting Constraint) (there : List (Option Body)) (found : List ContactEntry) : Type 0 where
-  pub acting : now ≡ turned_in w
+pub record HasChanged (w : World) (now : Acting Constraint) (there : List (Option Body)) (found : List ContactEntry) : Type 0 where
+  pub acting : now ≡ changed_in w
   pub bodies : there ≡ (collided_world w).plain.bodies
   pub contacts : found ≡ (collided_in w).now
 
-pub has_turned : (w : World) (s t now : Acting Constraint) (changes : List (Change Constraint)) (bodies : List (Option Body)) (contacts : List ContactEntry) → IsWhole w s → t ≡ s → AreFound w changes
-    → now ≡ turned constraint_number changes t → bodies ≡ told now.labels w.plain.bodies → contacts ≡ (collided_in w).now → HasTurned w now bodies contacts
-has_turned w s t now changes bodies contacts is same found turn tell are =
+pub has_changed : (w : World) (s t now : Acting Constraint) (changes : List (Change Constraint)) (bodies : List (Option Body)) (contacts : List ContactEntry) → IsWhole w s → t ≡ s → AreFound w changes
+    → now ≡ after_changes constraint_number changes t → bodies ≡ told now.labels w.plain.bodies → contacts ≡ (collided_in w).now → HasChanged w now bodies contacts
+has_changed w s t now changes bodies contacts is same found apply_changes tell are =
     let acting : t ≡ acting_of w.plain = same ∙ is.same in
-    let all : now ≡ turned_in w = turn ∙ ap (λ (cs : List (Change Constraint)). turned constraint_number cs t) found ∙ ap (turned constraint_number (key_changes w.plain.bodies (collided_in w).begin (collided_in w).end)) acting in
+    let all : now ≡ changed_in w = apply_changes ∙ ap (λ (cs : List (Change Constraint)). after_changes constraint_number cs t) found ∙ ap (after_changes constraint_number (key_changes w.plain.bodies (collided_in w).begin (collided_in w).end)) acting in
     record {
       acting = all;
       bodies = tell ∙ ap (λ (a : Acting Constraint). told a.labels w.plain.bodies) all;
@@ -119,36 +119,36 @@ has_turned w s t now changes bodies contacts is same found turn tell are =
 
 -- ---- what the ticks ask for
 
-pub few_turned : (w : World) (s now : Acting Constraint) (bodies : List (Option Body)) (contacts : List ContactEntry) → IsWhole w s → HasTurned w now bodies contacts → length bodies ≤ MAX_SLOTS
-few_turned w s now bodies contacts is h = subst (λ (bs : List (Option Body)). length bs ≤ MAX_SLOTS) (sym h.bodies) (collide_kept w (kept_of w s is) (rises_in w s is)).kept.matched.few
+pub few_changed : (w : World) (s now : Acting Constraint) (bodies : List (Option Body)) (contacts : List ContactEntry) → IsWhole w s → HasChanged w now bodies contacts → length bodies ≤ MAX_SLOTS
+few_changed w s now bodies contacts is h = subst (λ (bs : List (Option Body)). length bs ≤ MAX_SLOTS) (sym h.bodies) (collide_kept w (kept_of w s is) (rises_in w s is)).kept.matched.few
 
-pub bodies_turned : (w : World) (s now : Acting Constraint) (bodies : List (Option Body)) (contacts : List ContactEntry) → IsWhole w s → HasTurned w now bodies contacts → AreBodies bodies
-bodies_turned w s now bodies contacts is h = subst AreBodies (sym h.bodies) (collide_kept w (kept_of w s is) (rises_in w s is)).kept.bodies
+pub bodies_changed : (w : World) (s now : Acting Constraint) (bodies : List (Option Body)) (contacts : List ContactEntry) → IsWhole w s → HasChanged w now bodies contacts → AreBodies bodies
+bodies_changed w s now bodies contacts is h = subst AreBodies (sym h.bodies) (collide_kept w (kept_of w s is) (rises_in w s is)).kept.bodies
 
-pub can_solve_turned : (w : World) (s now : Acting Constraint) (bodies : List (Option Body)) (contacts : List ContactEntry) → IsWhole w s → HasTurned w now bodies contacts → CanGather bodies w.plain.joints contacts now.lists
-can_solve_turned w s now bodies contacts is h =
+pub can_solve_changed : (w : World) (s now : Acting Constraint) (bodies : List (Option Body)) (contacts : List ContactEntry) → IsWhole w s → HasChanged w now bodies contacts → CanGather bodies w.plain.joints contacts now.lists
+can_solve_changed w s now bodies contacts is h =
     subst (λ (bs : List (Option Body)). CanGather bs w.plain.joints contacts now.lists) (sym h.bodies)
     (subst (λ (es : List ContactEntry). CanGather (collided_world w).plain.bodies w.plain.joints es now.lists) (sym h.contacts)
     (subst (λ (a : Acting Constraint). CanGather (collided_world w).plain.bodies w.plain.joints (collided_in w).now a.lists) (sym h.acting) (can_gather_collided w (kept_of w s is) (rises_in w s is))))
 
 -- no two constraints of a colour share a mover
-pub apart_turned : (w : World) (s now : Acting Constraint) (bodies : List (Option Body)) (contacts : List ContactEntry) → IsWhole w s → HasTurned w now bodies contacts → All AreApart (take COLOURS now.lists)
-apart_turned w s now bodies contacts is h =
+pub apart_changed : (w : World) (s now : Acting Constraint) (bodies : List (Option Body)) (contacts : List ContactEntry) → IsWhole w s → HasChanged w now bodies contacts → All AreApart (take COLOURS now.lists)
+apart_changed w s now bodies contacts is h =
     let collided = collide_kept w (kept_of w s is) (rises_in w s is) in
-    subst (λ (a : Acting Constraint). All AreApart (take COLOURS a.lists)) (collided.acting ∙ sym h.acting) collided.kept.settled.colouring.apart
+    subst (λ (a : Acting Constraint). All AreApart (take COLOURS a.lists)) (collided.acting ∙ sym h.acting) collided.kept.consistent.colouring.apart
 
 -- each has the movers that its bodies give it
-pub movers_turned : (w : World) (s now : Acting Constraint) (bodies : List (Option Body)) (contacts : List ContactEntry) → IsWhole w s → HasTurned w now bodies contacts → All (All (HasItsMovers (states_of bodies) w.plain.joints)) now.lists
-movers_turned w s now bodies contacts is h =
+pub movers_changed : (w : World) (s now : Acting Constraint) (bodies : List (Option Body)) (contacts : List ContactEntry) → IsWhole w s → HasChanged w now bodies contacts → All (All (HasItsMovers (states_of bodies) w.plain.joints)) now.lists
+movers_changed w s now bodies contacts is h =
     let collided = collide_kept w (kept_of w s is) (rises_in w s is) in
     subst (λ (bs : List (Option Body)). All (All (HasItsMovers (states_of bs) w.plain.joints)) now.lists) (sym h.bodies)
     (subst (λ (a : Acting Constraint). All (All (HasItsMovers (states_of (collided_world w).plain.bodies) w.plain.joints)) a.lists) (collided.acting ∙ sym h.acting) (acting_have_movers (collided_world w).plain))
 
-pub room_turned : (w : World) (s t now : Acting Constraint) (bodies : List (Option Body)) (contacts : List ContactEntry) (n room : ℕ) → IsWhole w s → HasTurned w now bodies contacts → t ≡ s
+pub room_changed : (w : World) (s t now : Acting Constraint) (bodies : List (Option Body)) (contacts : List ContactEntry) (n room : ℕ) → IsWhole w s → HasChanged w now bodies contacts → t ≡ s
     → n ≡ length (collided_in w).begin → length t.ties + n ≤ room → length (all_members now.lists) ≤ room
-room_turned w s t now bodies contacts n room is h same count enough =
+room_changed w s t now bodies contacts n room is h same count enough =
     let few : length (all_members now.lists) ≤ length (acting_of w.plain).ties + length (collided_in w).begin =
-    subst (λ (a : Acting Constraint). length (all_members a.lists) ≤ length (acting_of w.plain).ties + length (collided_in w).begin) (sym h.acting) (can_turn w (kept_of w s is) (rises_in w s is)).coloured in
+    subst (λ (a : Acting Constraint). length (all_members a.lists) ≤ length (acting_of w.plain).ties + length (collided_in w).begin) (sym h.acting) (can_change w (kept_of w s is) (rises_in w s is)).coloured in
     let long : length t.ties ≡ length (acting_of w.plain).ties = ap (λ (a : Acting Constraint). length a.ties) (same ∙ is.same) in
     omega (arith, few, long, count, enough)
 
@@ -176,11 +176,11 @@ pub record AreTicks (before left : List (Option Body)) (js : List (Option BodyJo
   pub pairs : AreContactsOf before es
 
 pub has_solved : (w : World) (n : ℕ) (s now : Acting Constraint) (before bodies : List (Option Body)) (joints : List (Option BodyJoint)) (found contacts : List ContactEntry) (sums : StepSums) → IsWhole w s
-    → HasTurned w now before found → bodies ≡ renewed_bodies (bodies_of (solved_from w n now before found)) → joints ≡ (solved_from w n now before found).joints → contacts ≡ (solved_from w n now before found).contacts → sums ≡ (solved_from w n now before found).sums
+    → HasChanged w now before found → bodies ≡ renewed_bodies (bodies_of (solved_from w n now before found)) → joints ≡ (solved_from w n now before found).joints → contacts ≡ (solved_from w n now before found).contacts → sums ≡ (solved_from w n now before found).sums
     → AreTicks before bodies joints contacts sums → HasSolved w n bodies joints contacts sums
 has_solved w n s now before bodies joints found contacts sums is h is_bodies is_joints is_contacts is_sums t =
     let same : solved_from w n now before found ≡ solved_in w n =
-    ap (λ (a : Acting Constraint). solved_from w n a before found) h.acting ∙ ap (λ (bs : List (Option Body)). solved_from w n (turned_in w) bs found) h.bodies ∙ ap (solved_from w n (turned_in w) (collided_world w).plain.bodies) h.contacts in
+    ap (λ (a : Acting Constraint). solved_from w n a before found) h.acting ∙ ap (λ (bs : List (Option Body)). solved_from w n (changed_in w) bs found) h.bodies ∙ ap (solved_from w n (changed_in w) (collided_world w).plain.bodies) h.contacts in
     let to_bodies : bodies ≡ renewed_bodies (bodies_of (solved_in w n)) = is_bodies ∙ ap (λ (q : Solving). renewed_bodies (bodies_of q)) same in
     let to_joints : joints ≡ (solved_in w n).joints = is_joints ∙ ap (λ (q : Solving). q.joints) same in
     let to_contacts : contacts ≡ (solved_in w n).contacts = is_contacts ∙ ap (λ (q : Solving). q.contacts) same in
@@ -203,7 +203,7 @@ few_solved w n s bodies joints contacts sums is h =
     omega (arith, few, long)
 
 pub timers_room : (w : World) (n : ℕ) (s : Acting Constraint) (bodies : List (Option Body)) (joints : List (Option BodyJoint)) (contacts : List ContactEntry) (sums : StepSums) → IsWhole w s → HasSolved w n bodies joints contacts sums → length bodies ≡ length w.plain.bodies
-timers_room w n s bodies joints contacts sums is h = ap (λ (bs : List (Option Body)). length bs) h.bodies ∙ h.ticked.slots.slots ∙ length_told (turned_in w).labels w.plain.bodies
+timers_room w n s bodies joints contacts sums is h = ap (λ (bs : List (Option Body)). length bs) h.bodies ∙ h.ticked.slots.slots ∙ length_told (changed_in w).labels w.plain.bodies
 
 pub timers_solved : (w : World) (n : ℕ) (s : Acting Constraint) (bodies : List (Option Body)) (joints : List (Option BodyJoint)) (contacts : List ContactEntry) (sums : StepSums) → IsWhole w s → HasSolved w n bodies joints contacts sums → AreTimersWithin (2 ^ 44) bodies
 timers_solved w n s bodies joints contacts sums is h = subst (AreTimersWithin (2 ^ 44)) (sym h.bodies) (timers_within w (renewed_bodies (bodies_of (solved_in w n))) (kept_of w s is) h.ticked.timers)
@@ -211,107 +211,107 @@ timers_solved w n s bodies joints contacts sums is h = subst (AreTimersWithin (2
 -- ---- who fell asleep
 
 -- the ticks leave the bodies told as they were
-solved_told : (w : World) (n : ℕ) → IsKept w → AreKeysRising (collided_in w).now → AreTold (renewed_bodies (bodies_of (solved_in w n))) (turned_in w).labels
+solved_told : (w : World) (n : ℕ) → IsKept w → AreKeysRising (collided_in w).now → AreTold (renewed_bodies (bodies_of (solved_in w n))) (changed_in w).labels
 solved_told w n k rises =
     let now : World = collided_world w in
     let can = can_gather_collided w k rises in
-    let run = arrays_are_solving n w.plain.gravity now.plain.bodies now.plain.joints now.plain.contacts (turned_in w).lists can.rising can.once in
-    let r : Run = ran n w.plain.gravity (start (states_of now.plain.bodies) (rows_of (states_of now.plain.bodies) now.plain.joints now.plain.contacts (turned_in w).lists)) in
+    let run = arrays_are_solving n w.plain.gravity now.plain.bodies now.plain.joints now.plain.contacts (changed_in w).lists can.rising can.once in
+    let r : Run = ran n w.plain.gravity (start (states_of now.plain.bodies) (rows_of (states_of now.plain.bodies) now.plain.joints now.plain.contacts (changed_in w).lists)) in
     let same : AreInSameCondition now.plain.bodies (renewed_bodies (bodies_of (solved_in w n))) = subst (λ (bs : List (Option Body)). AreInSameCondition now.plain.bodies (renewed_bodies bs)) run.bodies_left (moved_conditions now.plain.bodies r.states) in
-    told_conditions now.plain.bodies (renewed_bodies (bodies_of (solved_in w n))) (turned_in w).labels same (collide_kept w k rises).kept.told
+    told_conditions now.plain.bodies (renewed_bodies (bodies_of (solved_in w n))) (changed_in w).labels same (collide_kept w k rises).kept.told
 
-pub told_solved : (w : World) (n : ℕ) (s now : Acting Constraint) (before bodies : List (Option Body)) (joints : List (Option BodyJoint)) (found contacts : List ContactEntry) (sums : StepSums) → IsWhole w s → HasTurned w now before found → HasSolved w n bodies joints contacts sums
+pub told_solved : (w : World) (n : ℕ) (s now : Acting Constraint) (before bodies : List (Option Body)) (joints : List (Option BodyJoint)) (found contacts : List ContactEntry) (sums : StepSums) → IsWhole w s → HasChanged w now before found → HasSolved w n bodies joints contacts sums
     → AreTold bodies now.labels
 told_solved w n s now before bodies joints found contacts sums is t h =
-    subst (λ (a : Acting Constraint). AreTold bodies a.labels) (sym t.acting) (subst (λ (bs : List (Option Body)). AreTold bs (turned_in w).labels) (sym h.bodies) (solved_told w n (kept_of w s is) (rises_in w s is)))
+    subst (λ (a : Acting Constraint). AreTold bodies a.labels) (sym t.acting) (subst (λ (bs : List (Option Body)). AreTold bs (changed_in w).labels) (sym h.bodies) (solved_told w n (kept_of w s is) (rises_in w s is)))
 
 -- they leave the movers as they were
-pub tied_solved : (w : World) (n : ℕ) (s now : Acting Constraint) (before bodies : List (Option Body)) (joints : List (Option BodyJoint)) (found contacts : List ContactEntry) (sums : StepSums) → IsWhole w s → HasTurned w now before found → HasSolved w n bodies joints contacts sums
+pub tied_solved : (w : World) (n : ℕ) (s now : Acting Constraint) (before bodies : List (Option Body)) (joints : List (Option BodyJoint)) (found contacts : List ContactEntry) (sums : StepSums) → IsWhole w s → HasChanged w now before found → HasSolved w n bodies joints contacts sums
     → AreTied bodies now.labels
 tied_solved w n s now before bodies joints found contacts sums is t h =
     let left : List (Option Body) = renewed_bodies (bodies_of (solved_in w n)) in
     subst (λ (a : Acting Constraint). AreTied bodies a.labels) (sym t.acting)
-    (subst (λ (bs : List (Option Body)). AreTied bs (turned_in w).labels) (sym h.bodies) (tied_alike (collided_world w).plain.bodies left (turned_in w).labels h.ticked.alike (collide_kept w (kept_of w s is) (rises_in w s is)).kept.tied))
+    (subst (λ (bs : List (Option Body)). AreTied bs (changed_in w).labels) (sym h.bodies) (tied_alike (collided_world w).plain.bodies left (changed_in w).labels h.ticked.alike (collide_kept w (kept_of w s is) (rises_in w s is)).kept.tied))
 
--- what acts is settled
-pub settled_turned : (w : World) (s now : Acting Constraint) (bodies : List (Option Body)) (contacts : List ContactEntry) → IsWhole w s → HasTurned w now bodies contacts → IsConsistent constraint_number now
-settled_turned w s now bodies contacts is t =
+-- what acts is consistent
+pub consistent_changed : (w : World) (s now : Acting Constraint) (bodies : List (Option Body)) (contacts : List ContactEntry) → IsWhole w s → HasChanged w now bodies contacts → IsConsistent constraint_number now
+consistent_changed w s now bodies contacts is t =
     let k = collide_kept w (kept_of w s is) (rises_in w s is) in
-    subst (IsConsistent constraint_number) (k.acting ∙ sym t.acting) k.kept.settled
+    subst (IsConsistent constraint_number) (k.acting ∙ sym t.acting) k.kept.consistent
 
 length-ends : (joints : List (Option BodyJoint)) → length (map ends_in joints) ≡ length joints
 length-ends [] = refl
 length-ends (o ∷ os) = ap suc (length-ends os)
 
 -- it is what the joints and contacts make that the ticks leave
-ticked_tell : (w : Plain) (n : ℕ) (left : List (Option Body)) (js : List (Option BodyJoint)) (es : List ContactEntry) (sums : StepSums) → AreTied w.bodies w.islands → AreMatched w.joint_places w.joints → IsConsistent constraint_number (acting_of w) → IsTicked w left js es sums
-    → TellMoving (timed_bodies n left) js es (acting_of w).labels (acting_of w).lists
+ticked_tell : (w : Plain) (n : ℕ) (left : List (Option Body)) (js : List (Option BodyJoint)) (es : List ContactEntry) (sums : StepSums) → AreTied w.bodies w.islands → AreMatched w.joint_entries w.joints → IsConsistent constraint_number (acting_of w) → IsTicked w left js es sums
+    → ShowMoving (timed_bodies n left) js es (acting_of w).labels (acting_of w).lists
 unfolding acting_of
-ticked_tell w n left js es sums tied matched settled t =
+ticked_tell w n left js es sums tied matched consistent t =
     let alike : AreAlike w.bodies (timed_bodies n left) = alike_then w.bodies left (timed_bodies n left) t.alike (timed_alike n left) in
-    let now : JointSlots = slots_of w.joint_places js in
-    let long : length w.joint_places ≡ length js = matched.slots ∙ sym (length-ends w.joints) ∙ sym (ap (λ (l : List (Option (ℕ × ℕ))). length l) t.ends) ∙ length-ends js in
+    let now : JointSlots = slots_of w.joint_entries js in
+    let long : length w.joint_entries ≡ length js = matched.slots ∙ sym (length-ends w.joints) ∙ sym (ap (λ (l : List (Option (ℕ × ℕ))). length l) t.ends) ∙ length-ends js in
     let ties : ties_of (timed_bodies n left) now es ≡ ties_of w.bodies (joints_in_slots w) w.contacts =
     alike_bodies_keep_ties w.bodies (timed_bodies n left) now es alike ∙ impulses_keep_ties w.bodies (joints_in_slots w) now es refl t.ends ∙ same_touching_keep_ties w.bodies (joints_in_slots w) w.contacts es t.touching in
-    tell_moving (timed_bodies n left) now es (acting_of w) (tied_alike w.bodies (timed_bodies n left) w.islands alike tied) long settled (sym ties)
+    show_moving (timed_bodies n left) now es (acting_of w) (tied_alike w.bodies (timed_bodies n left) w.islands alike tied) long consistent (sym ties)
 
 solved_tell : (w : World) (n : ℕ) → (k : IsKept w) → (rises : AreKeysRising (collided_in w).now) → IsTicked (collided_world w).plain (renewed_bodies (bodies_of (solved_in w n))) (solved_in w n).joints (solved_in w n).contacts (solved_in w n).sums
-    → TellMoving (timed_bodies n (renewed_bodies (bodies_of (solved_in w n)))) (solved_in w n).joints (solved_in w n).contacts (turned_in w).labels (turned_in w).lists
+    → ShowMoving (timed_bodies n (renewed_bodies (bodies_of (solved_in w n)))) (solved_in w n).joints (solved_in w n).contacts (changed_in w).labels (changed_in w).lists
 solved_tell w n k rises t =
     let q : Solving = solved_in w n in
     let is = collide_kept w k rises in
-    subst (λ (a : Acting Constraint). TellMoving (timed_bodies n (renewed_bodies (bodies_of q))) q.joints q.contacts a.labels a.lists) is.acting
-    (ticked_tell (collided_world w).plain n (renewed_bodies (bodies_of q)) q.joints q.contacts q.sums is.kept.tied is.kept.joint_slots is.kept.settled t)
+    subst (λ (a : Acting Constraint). ShowMoving (timed_bodies n (renewed_bodies (bodies_of q))) q.joints q.contacts a.labels a.lists) is.acting
+    (ticked_tell (collided_world w).plain n (renewed_bodies (bodies_of q)) q.joints q.contacts q.sums is.kept.tied is.kept.joint_slots is.kept.consistent t)
 
-pub tell_solved : (w : World) (n : ℕ) (s now : Acting Constraint) (before bodies : List (Option Body)) (joints : List (Option BodyJoint)) (found contacts : List ContactEntry) (sums : StepSums) → IsWhole w s → HasTurned w now before found → HasSolved w n bodies joints contacts sums
-    → TellMoving (timed_bodies n bodies) joints contacts now.labels now.lists
+pub tell_solved : (w : World) (n : ℕ) (s now : Acting Constraint) (before bodies : List (Option Body)) (joints : List (Option BodyJoint)) (found contacts : List ContactEntry) (sums : StepSums) → IsWhole w s → HasChanged w now before found → HasSolved w n bodies joints contacts sums
+    → ShowMoving (timed_bodies n bodies) joints contacts now.labels now.lists
 tell_solved w n s now before bodies joints found contacts sums is t h =
     let q : Solving = solved_in w n in
-    let at_bodies : TellMoving (timed_bodies n bodies) q.joints q.contacts (turned_in w).labels (turned_in w).lists =
-    subst (λ (bs : List (Option Body)). TellMoving (timed_bodies n bs) q.joints q.contacts (turned_in w).labels (turned_in w).lists) (sym h.bodies) (solved_tell w n (kept_of w s is) (rises_in w s is) h.ticked) in
-    let at_joints : TellMoving (timed_bodies n bodies) joints q.contacts (turned_in w).labels (turned_in w).lists =
-    subst (λ (js : List (Option BodyJoint)). TellMoving (timed_bodies n bodies) js q.contacts (turned_in w).labels (turned_in w).lists) (sym h.joints) at_bodies in
-    let at_contacts : TellMoving (timed_bodies n bodies) joints contacts (turned_in w).labels (turned_in w).lists =
-    subst (λ (es : List ContactEntry). TellMoving (timed_bodies n bodies) joints es (turned_in w).labels (turned_in w).lists) (sym h.contacts) at_joints in
-    subst (λ (a : Acting Constraint). TellMoving (timed_bodies n bodies) joints contacts a.labels a.lists) (sym t.acting) at_contacts
+    let at_bodies : ShowMoving (timed_bodies n bodies) q.joints q.contacts (changed_in w).labels (changed_in w).lists =
+    subst (λ (bs : List (Option Body)). ShowMoving (timed_bodies n bs) q.joints q.contacts (changed_in w).labels (changed_in w).lists) (sym h.bodies) (solved_tell w n (kept_of w s is) (rises_in w s is) h.ticked) in
+    let at_joints : ShowMoving (timed_bodies n bodies) joints q.contacts (changed_in w).labels (changed_in w).lists =
+    subst (λ (js : List (Option BodyJoint)). ShowMoving (timed_bodies n bodies) js q.contacts (changed_in w).labels (changed_in w).lists) (sym h.joints) at_bodies in
+    let at_contacts : ShowMoving (timed_bodies n bodies) joints contacts (changed_in w).labels (changed_in w).lists =
+    subst (λ (es : List ContactEntry). ShowMoving (timed_bodies n bodies) joints es (changed_in w).labels (changed_in w).lists) (sym h.contacts) at_joints in
+    subst (λ (a : Acting Constraint). ShowMoving (timed_bodies n bodies) joints contacts a.labels a.lists) (sym t.acting) at_contacts
 
 slept_is : (w : World) (n : ℕ) (labels : Labels) (js : List (Option BodyJoint)) (es : List ContactEntry) (sums : StepSums) → IsKept w → AreKeysRising (collided_in w).now → IsTicked (collided_world w).plain (renewed_bodies (bodies_of (solved_in w n))) js es sums
-    → newly_asleep w.plain.places (bodies_ticked n (solved_in w n)) labels ≡ asleep_only_in w.plain.places (turned_in w).labels labels
+    → newly_asleep w.plain.slot_entries (bodies_ticked n (solved_in w n)) labels ≡ asleep_only_in w.plain.slot_entries (changed_in w).labels labels
 slept_is w n labels js es sums k rises t =
     let now : World = collided_world w in
     let left : List (Option Body) = renewed_bodies (bodies_of (solved_in w n)) in
     let alike = alike_then now.plain.bodies left (timed_bodies n left) t.alike (timed_alike n left) in
-    let tied = tied_alike now.plain.bodies (timed_bodies n left) (turned_in w).labels alike (collide_kept w k rises).kept.tied in
-    (told_bodies_tell w.plain.places (timed_bodies n left) (turned_in w).labels labels (told_as (timed_bodies n left) (turned_in w).labels tied (timed_told n left (turned_in w).labels (solved_told w n k rises)))).0
+    let tied = tied_alike now.plain.bodies (timed_bodies n left) (changed_in w).labels alike (collide_kept w k rises).kept.tied in
+    (told_bodies_tell w.plain.slot_entries (timed_bodies n left) (changed_in w).labels labels (told_as (timed_bodies n left) (changed_in w).labels tied (timed_told n left (changed_in w).labels (solved_told w n k rises)))).0
 
 -- they rise by slot, as those do that woke
 pub slept_rise : (w : World) (n : ℕ) (s : Acting Constraint) (bodies : List (Option Body)) (joints : List (Option BodyJoint)) (contacts : List ContactEntry) (sums : StepSums) (labels : Labels) → IsWhole w s → HasSolved w n bodies joints contacts sums
-    → IsStrictlyIncreasing (map slot_of (newly_asleep w.plain.places (timed_bodies n bodies) labels))
+    → IsStrictlyIncreasing (map slot_of (newly_asleep w.plain.slot_entries (timed_bodies n bodies) labels))
 slept_rise w n s bodies joints contacts sums labels is h =
     let q : Solving = solved_in w n in
-    let same : newly_asleep w.plain.places (timed_bodies n bodies) labels ≡ asleep_only_in w.plain.places (turned_in w).labels labels =
-    ap (λ (bs : List (Option Body)). newly_asleep w.plain.places (timed_bodies n bs) labels) h.bodies ∙ slept_is w n labels q.joints q.contacts q.sums (kept_of w s is) (rises_in w s is) h.ticked in
-    subst (λ (hs : List Handle). IsStrictlyIncreasing (map slot_of hs)) (sym same) (asleep_rise w.plain.places (turned_in w).labels labels)
+    let same : newly_asleep w.plain.slot_entries (timed_bodies n bodies) labels ≡ asleep_only_in w.plain.slot_entries (changed_in w).labels labels =
+    ap (λ (bs : List (Option Body)). newly_asleep w.plain.slot_entries (timed_bodies n bs) labels) h.bodies ∙ slept_is w n labels q.joints q.contacts q.sums (kept_of w s is) (rises_in w s is) h.ticked in
+    subst (λ (hs : List Handle). IsStrictlyIncreasing (map slot_of hs)) (sym same) (asleep_rise w.plain.slot_entries (changed_in w).labels labels)
 
-pub woke_rise : (w : World) (s now : Acting Constraint) (bodies : List (Option Body)) (contacts : List ContactEntry) → IsWhole w s → HasTurned w now bodies contacts → IsStrictlyIncreasing (map slot_of (newly_awake w.plain.places w.plain.bodies now.labels))
+pub woke_rise : (w : World) (s now : Acting Constraint) (bodies : List (Option Body)) (contacts : List ContactEntry) → IsWhole w s → HasChanged w now bodies contacts → IsStrictlyIncreasing (map slot_of (newly_awake w.plain.slot_entries w.plain.bodies now.labels))
 woke_rise w s now bodies contacts is h =
-    let same : newly_awake w.plain.places w.plain.bodies now.labels ≡ asleep_only_in w.plain.places (turned_in w).labels w.plain.islands =
-    ap (λ (a : Acting Constraint). newly_awake w.plain.places w.plain.bodies a.labels) h.acting ∙ woke_is w (kept_of w s is) in
-    subst (λ (hs : List Handle). IsStrictlyIncreasing (map slot_of hs)) (sym same) (asleep_rise w.plain.places (turned_in w).labels w.plain.islands)
+    let same : newly_awake w.plain.slot_entries w.plain.bodies now.labels ≡ asleep_only_in w.plain.slot_entries (changed_in w).labels w.plain.islands =
+    ap (λ (a : Acting Constraint). newly_awake w.plain.slot_entries w.plain.bodies a.labels) h.acting ∙ woke_is w (kept_of w s is) in
+    subst (λ (hs : List Handle). IsStrictlyIncreasing (map slot_of hs)) (sym same) (asleep_rise w.plain.slot_entries (changed_in w).labels w.plain.islands)
 
 -- ---- the whole step
 
 -- what a step's calls have left, one after another
 pub record AreLeft (w : World) (n : ℕ) (now rested : Acting Constraint) (before left new : List (Option Body)) (joints : List (Option BodyJoint)) (found contacts : List ContactEntry) (sums : StepSums) (gain : Vec2) (events : EventLists) : Type 0 where
-  pub collide : HasTurned w now before found
+  pub collide : HasChanged w now before found
   pub ticks : HasSolved w n left joints contacts sums
   pub phase : rested ≡ rested_acting (timed_bodies n left) joints contacts now
   pub bodies : new ≡ told rested.labels (timed_bodies n left)
   pub gain_is : gain ≡ gained (timed_bodies n left) new
   pub begin : events.begin ≡ (collided_in w).begin
   pub end : events.end ≡ (collided_in w).end
-  pub slept : events.slept ≡ newly_asleep w.plain.places (timed_bodies n left) rested.labels
-  pub woke : events.woke ≡ newly_awake w.plain.places w.plain.bodies now.labels
+  pub slept : events.slept ≡ newly_asleep w.plain.slot_entries (timed_bodies n left) rested.labels
+  pub woke : events.woke ≡ newly_awake w.plain.slot_entries w.plain.bodies now.labels
 
 -- the world of the code's parts
 abbrev pub world_left : World → Acting Constraint → List (Option Body) → List (Option BodyJoint) → List ContactEntry → StepSums → Vec2 → EventLists → World
@@ -327,17 +327,17 @@ step_is_left w n s now rested before left new joints found contacts sums gain ev
     let k = kept_of w s is in
     let q : Solving = solved_in w n in
     let ticked : List (Option Body) = bodies_ticked n q in
-    let final : Acting Constraint = rested_acting ticked q.joints q.contacts (turned_in w) in
+    let final : Acting Constraint = rested_acting ticked q.joints q.contacts (changed_in w) in
     let timed : timed_bodies n left ≡ ticked = ap (timed_bodies n) h.ticks.bodies in
     let rest : rested ≡ final =
     h.phase ∙ ap (λ (bs : List (Option Body)). rested_acting bs joints contacts now) timed ∙ ap (λ (js : List (Option BodyJoint)). rested_acting ticked js contacts now) h.ticks.joints
     ∙ ap (λ (es : List ContactEntry). rested_acting ticked q.joints es now) h.ticks.contacts ∙ ap (rested_acting ticked q.joints q.contacts) h.collide.acting in
     let bodies : new ≡ told final.labels ticked = h.bodies ∙ ap (λ (bs : List (Option Body)). told rested.labels bs) timed ∙ ap (λ (a : Acting Constraint). told a.labels ticked) rest in
     let lost : gain ≡ gained ticked (told final.labels ticked) = h.gain_is ∙ ap (λ (bs : List (Option Body)). gained bs new) timed ∙ ap (gained ticked) bodies in
-    let slept : events.slept ≡ asleep_only_in w.plain.places (turned_in w).labels final.labels =
-    h.slept ∙ ap (λ (bs : List (Option Body)). newly_asleep w.plain.places bs rested.labels) timed ∙ ap (λ (a : Acting Constraint). newly_asleep w.plain.places ticked a.labels) rest ∙ slept_is w n final.labels q.joints q.contacts q.sums k (rises_in w s is) h.ticks.ticked in
-    let woke : events.woke ≡ asleep_only_in w.plain.places (turned_in w).labels w.plain.islands = h.woke ∙ ap (λ (a : Acting Constraint). newly_awake w.plain.places w.plain.bodies a.labels) h.collide.acting ∙ woke_is w k in
-    let told_of : events ≡ events_of w.plain (collided_in w) (turned_in w).labels final.labels = λ j. record { begin = h.begin j; end = h.end j; slept = slept j; woke = woke j } in
+    let slept : events.slept ≡ asleep_only_in w.plain.slot_entries (changed_in w).labels final.labels =
+    h.slept ∙ ap (λ (bs : List (Option Body)). newly_asleep w.plain.slot_entries bs rested.labels) timed ∙ ap (λ (a : Acting Constraint). newly_asleep w.plain.slot_entries ticked a.labels) rest ∙ slept_is w n final.labels q.joints q.contacts q.sums k (rises_in w s is) h.ticks.ticked in
+    let woke : events.woke ≡ asleep_only_in w.plain.slot_entries (changed_in w).labels w.plain.islands = h.woke ∙ ap (λ (a : Acting Constraint). newly_awake w.plain.slot_entries w.plain.bodies a.labels) h.collide.acting ∙ woke_is w k in
+    let told_of : events ≡ events_of w.plain (collided_in w) (changed_in w).labels final.labels = λ j. record { begin = h.begin j; end = h.end j; slept = slept j; woke = woke j } in
     let is_left = step_left w n q k few ticks (rises_in w s is) h.ticks.ticked in
     record {
       same = λ j. world_left w (rest j) (bodies j) (h.ticks.joints j) (h.ticks.contacts j) (h.ticks.sums j) (lost j) (told_of j);

@@ -6,7 +6,7 @@ use Rattle.std.proofs.lemmas.Bool.{cases_eq}
 use Rattle.std.proofs.lemmas.List.{append-nil, append_assoc}
 use Rattle.std.proofs.lemmas.List.Elements.{Contains-append_left, Contains-append_right}
 use Rattle.body_handles.specs.declared.handle.Handle.{Handle}
-use Rattle.body_handles.specs.declared.places.Place.{Place}
+use Rattle.body_handles.specs.declared.slot_table.SlotEntry.{SlotEntry}
 use Rattle.contacts.specs.Constraints.{constraint_number}
 use Rattle.contacts.specs.declared.constraint.Constraint.{Constraint}
 use Rattle.graph_colours.specs.declared.member.Member.{Member}
@@ -26,7 +26,7 @@ use Rattle.plain_world.specs.Bodies.{AreBodies, is_mover}
 use Rattle.plain_world.specs.Sleep.{roused, told, told_body, told_by}
 use Rattle.plain_world.specs.Slots.{body_at}
 use Rattle.sleep_wake.specs.Acting.{Acting, IsConsistent}
-use Rattle.sleep_wake.specs.Changes.{begun, after_change, ended, parted, turned, united}
+use Rattle.sleep_wake.specs.Changes.{begun, after_change, ended, parted, after_changes, united}
 use Rattle.sleep_wake.specs.SleepPhase.{all_put_to_rest, edges_of, is_island, picked_to_split, ready, sleep_phase, split_at, split_picked}
 use Rattle.sleep_wake.specs.Sleeping.{islands_woken, rested_at, rested_by, slept_at, slept_by, split_if_loose}
 use Rattle.sleep_wake.specs.Waking.{movers_woken, put_to_rest, second_woken, set_woken, woken_at, woken_by}
@@ -241,27 +241,27 @@ listed_if : (t : Bool) (slot : ℕ) (h : Handle) (rest : List Handle) → Contai
 listed_if true slot h rest c = contains_tail h.slot (slots_of rest) slot c
 listed_if false slot h rest c = c
 
-listed_where : (test : ℕ → Bool) (n : ℕ) (places : List Place) (k slot : ℕ) → slot ≡ n + k → k < length places → test slot ≡ true → Contains (slots_of (handles_where test n places)) slot
+listed_where : (test : ℕ → Bool) (n : ℕ) (slot_entries : List SlotEntry) (k slot : ℕ) → slot ≡ n + k → k < length slot_entries → test slot ≡ true → Contains (slots_of (handles_where test n slot_entries)) slot
 listed_where test n [] k slot e lt on = absurd (omega (arith, lt))
-listed_where test n (p ∷ places) zero slot e lt on =
+listed_where test n (p ∷ slot_entries) zero slot e lt on =
     let here : n ≡ slot = omega (arith, e) in
-    let rest : List Handle = handles_where test (suc n) places in
+    let rest : List Handle = handles_where test (suc n) slot_entries in
     let h : Handle = record { slot = n; generation = p.generation } in
     subst (λ (t : Bool). Contains (slots_of (cond t (h ∷ rest) rest)) slot) (sym (ap test here ∙ on)) (subst (λ (m : ℕ). Contains (m ∷ slots_of rest) slot) (sym here) (contains_head slot (slots_of rest)))
-listed_where test n (p ∷ places) (suc k) slot e lt on =
-    listed_if (test n) slot (record { slot = n; generation = p.generation }) (handles_where test (suc n) places) (listed_where test (suc n) places k slot (omega (arith, e)) (omega (arith, lt)) on)
+listed_where test n (p ∷ slot_entries) (suc k) slot e lt on =
+    listed_if (test n) slot (record { slot = n; generation = p.generation }) (handles_where test (suc n) slot_entries) (listed_where test (suc n) slot_entries k slot (omega (arith, e)) (omega (arith, lt)) on)
 
 fewer_if : (t : Bool) (h : Handle) (rest : List Handle) (n : ℕ) → length rest ≤ n → length (cond t (h ∷ rest) rest) ≤ suc n
 fewer_if true h rest n le = omega (arith, le)
 fewer_if false h rest n le = omega (arith, le)
 
-fewer_where : (test : ℕ → Bool) (n : ℕ) (places : List Place) → length (handles_where test n places) ≤ length places
+fewer_where : (test : ℕ → Bool) (n : ℕ) (slot_entries : List SlotEntry) → length (handles_where test n slot_entries) ≤ length slot_entries
 fewer_where test n [] = omega arith
-fewer_where test n (p ∷ places) = fewer_if (test n) (record { slot = n; generation = p.generation }) (handles_where test (suc n) places) (length places) (fewer_where test (suc n) places)
+fewer_where test n (p ∷ slot_entries) = fewer_if (test n) (record { slot = n; generation = p.generation }) (handles_where test (suc n) slot_entries) (length slot_entries) (fewer_where test (suc n) slot_entries)
 
-pub fewer_asleep : (places : List Place) (bodies : List (Option Body)) (labels : Labels) → length (newly_asleep places bodies labels) ≤ length places
+pub fewer_asleep : (slot_entries : List SlotEntry) (bodies : List (Option Body)) (labels : Labels) → length (newly_asleep slot_entries bodies labels) ≤ length slot_entries
 unfolding newly_asleep
-fewer_asleep places bodies labels = fewer_where (λ slot. sleeps labels slot && not (was_asleep bodies slot)) 0 places
+fewer_asleep slot_entries bodies labels = fewer_where (λ slot. sleeps labels slot && not (was_asleep bodies slot)) 0 slot_entries
 
 -- ---- a body that is awake, and is told so
 
@@ -361,11 +361,11 @@ changed_slept (End m) s =
     let now : Acting Constraint = movers_woken constraint_number m.movers s in
     slept_then s.labels now.labels (parted m.movers.second m.movers.first now.labels) (movers_slept s m) (parted_slept now.labels m.movers.first m.movers.second)
 
-pub turned_slept : (changes : List (Change Constraint)) (s : Acting Constraint) → HaveSlept s.labels (turned constraint_number changes s).labels
-turned_slept [] s = λ t n e. refl
-turned_slept (c ∷ changes) s =
+pub after_changes_slept : (changes : List (Change Constraint)) (s : Acting Constraint) → HaveSlept s.labels (after_changes constraint_number changes s).labels
+after_changes_slept [] s = λ t n e. refl
+after_changes_slept (c ∷ changes) s =
     let now : Acting Constraint = after_change constraint_number c s in
-    slept_then s.labels now.labels (turned constraint_number changes now).labels (changed_slept c s) (turned_slept changes now)
+    slept_then s.labels now.labels (after_changes constraint_number changes now).labels (changed_slept c s) (after_changes_slept changes now)
 
 is_below : (bodies : List (Option Body)) (slot : ℕ) (b : Body) → body_at bodies slot ≡ Some b → slot < length bodies
 is_below [] slot b e = cc
@@ -459,9 +459,9 @@ phase_on timers s w =
     on_then s.labels now.labels (sleep_phase constraint_number timers s).labels (picked_on (picked_to_split s.labels timers) s w (λ name e. picked_is s.labels timers name e)) (all_rested_on (ready false now.labels timers) now)
 
 -- those who fell asleep are all that are to be told
-pub asleep_beside : (places : List Place) (bodies : List (Option Body)) (old new : Labels) → length bodies ≤ length places → told old bodies ≡ bodies → AreTold bodies old → SleepOn old new → AreToldBeside (slots_of (newly_asleep places bodies new)) new bodies
+pub asleep_beside : (slot_entries : List SlotEntry) (bodies : List (Option Body)) (old new : Labels) → length bodies ≤ length slot_entries → told old bodies ≡ bodies → AreTold bodies old → SleepOn old new → AreToldBeside (slots_of (newly_asleep slot_entries bodies new)) new bodies
 unfolding newly_asleep
-asleep_beside places bodies old new long e are on slot off = by_body (body_at bodies slot) refl
+asleep_beside slot_entries bodies old new long e are on slot off = by_body (body_at bodies slot) refl
   where
     test : ℕ → Bool
     test s = sleeps new s && not (was_asleep bodies s)
@@ -471,7 +471,7 @@ asleep_beside places bodies old new long e are on slot off = by_body (body_at bo
         let below = is_below bodies slot b at in
         let was : was_asleep bodies slot ≡ false = ap is_asleep_in at ∙ ap (λ (m : Option ℕ). is_some m) a in
         let now : sleeps new slot ≡ true = name_tells (label_at new slot) (Some n) down in
-        off (listed_where test 0 places slot slot (omega arith) (omega (arith, below, long)) (λ j. now j && not (was j)))
+        off (listed_where test 0 slot_entries slot slot (omega arith) (omega (arith, below, long)) (λ j. now j && not (was j)))
 
     by_name : (b : Body) (a : Option ℕ) → sleeping_name (label_at new slot) ≡ a → body_at bodies slot ≡ Some b → b.asleep ≡ None → told_body (label_at new slot) b ≡ b
     by_name b None f at up = awake_stays (label_at new slot) b f up
@@ -486,7 +486,7 @@ asleep_beside places bodies old new long e are on slot off = by_body (body_at bo
     by_body (Some b) at = by_asleep b b.asleep refl at
 
 -- the sleep phase tells those alone
-pub rested_beside : (places : List Place) (bodies : List (Option Body)) (s new : Acting Constraint) (timers : List ℕ) → length bodies ≤ length places → AreBodies bodies → AreTold bodies s.labels → IsConsistent constraint_number s → new ≡ sleep_phase constraint_number timers s
-    → AreToldBeside (slots_of (newly_asleep places bodies new.labels)) new.labels bodies
-rested_beside places bodies s new timers long are told settled e =
-    asleep_beside places bodies s.labels new.labels long (told_stays s.labels bodies are told) told (subst (λ (a : Acting Constraint). SleepOn s.labels a.labels) (sym e) (phase_on timers s settled))
+pub rested_beside : (slot_entries : List SlotEntry) (bodies : List (Option Body)) (s new : Acting Constraint) (timers : List ℕ) → length bodies ≤ length slot_entries → AreBodies bodies → AreTold bodies s.labels → IsConsistent constraint_number s → new ≡ sleep_phase constraint_number timers s
+    → AreToldBeside (slots_of (newly_asleep slot_entries bodies new.labels)) new.labels bodies
+rested_beside slot_entries bodies s new timers long are told consistent e =
+    asleep_beside slot_entries bodies s.labels new.labels long (told_stays s.labels bodies are told) told (subst (λ (a : Acting Constraint). SleepOn s.labels a.labels) (sym e) (phase_on timers s consistent))

@@ -1,9 +1,9 @@
 -- What a frame shows of a world, and what settling the ledger leaves.
 use Rattle.std.specs.Prelude.{◌≡◌, ℕ, zero, suc, ◌<◌, ◌≤◌, ◌^◌, ◌==◌, cond, All, List, [], ◌∷◌, ◌++◌, length, Option, Some, None, slice_get}
 use Rattle.body_handles.specs.declared.handle.Handle.{Handle}
-use Rattle.body_handles.specs.declared.places.Place.{Place}
-use Rattle.body_handles.specs.declared.places.TheConstants.{MAX_SLOTS}
-use Rattle.body_handles.specs.Places.{generation_at}
+use Rattle.body_handles.specs.declared.slot_table.SlotEntry.{SlotEntry}
+use Rattle.body_handles.specs.declared.slot_table.TheConstants.{MAX_SLOTS}
+use Rattle.body_handles.specs.SlotEntries.{generation_at}
 use Rattle.impulse_ledger.specs.declared.totals.Total.{Total}
 use Rattle.impulse_ledger.specs.Sums.{total, totals_of}
 use Rattle.plain_world.specs.declared.body.Body.{Body}
@@ -37,14 +37,14 @@ shown h None = None
 shown h (Some b) = shown_body h b
 
 -- what is shown of the slots below n
-abbrev pub shown_up : List Place → List (Option Body) → ℕ → List (Option FrameBody)
-shown_up places bodies zero = []
-shown_up places bodies (suc n) = shown_up places bodies n ++ shown (record { slot = n; generation = generation_at places n }) (body_at bodies n) ∷ []
+abbrev pub shown_up : List SlotEntry → List (Option Body) → ℕ → List (Option FrameBody)
+shown_up slot_entries bodies zero = []
+shown_up slot_entries bodies (suc n) = shown_up slot_entries bodies n ++ shown (record { slot = n; generation = generation_at slot_entries n }) (body_at bodies n) ∷ []
 
 -- the frame of a world: its enabled bodies by slot, the movers' momentum, the ledger's total, and the number of calls
 abbrev pub frame_of : World → View
 frame_of w = record {
-  bodies = shown_up w.plain.places w.plain.bodies (length w.plain.bodies);
+  bodies = shown_up w.plain.slot_entries w.plain.bodies (length w.plain.bodies);
   momentum = record { x = (momentum w.plain.bodies).x; y = (momentum w.plain.bodies).y };
   booked = total (book_of w);
   calls = w.plain.calls;

@@ -1,6 +1,6 @@
 -- The world that the fields of a `WorldCore` show, and what is kept of them.
 use Rattle.std.specs.Prelude.{◌≡◌, Bool, List, Option}
-use Rattle.solver_sets.specs.Anchors.{Anchored, Tell}
+use Rattle.solver_sets.specs.Anchors.{Anchored, AreComplete}
 use Rattle.contacts.specs.declared.constraint.Constraint.{Constraint}
 use Rattle.contacts.specs.Known.{IsKnown}
 use Rattle.contacts.specs.Fates.{moved_by}
@@ -18,7 +18,7 @@ use Rattle.world_rules.specs.World.{World}
 
 abbrev pub world_of : Inside → World
 world_of a = record {
-  plain = record { places = a.handles.places; bodies = a.bodies.bodies; joint_places = a.joint_handles.places; joints = a.joints.joints; contacts = a.contacts.contacts; islands = a.sets.acting.labels; colours = ids_of a.sets.acting.lists; gravity = a.gravity; steps = a.steps; calls = a.calls };
+  plain = record { slot_entries = a.handles.slot_entries; bodies = a.bodies.bodies; joint_entries = a.joint_handles.slot_entries; joints = a.joints.joints; contacts = a.contacts.contacts; islands = a.sets.acting.labels; colours = ids_of a.sets.acting.lists; gravity = a.gravity; steps = a.steps; calls = a.calls };
   entries = a.ledger.entries;
   settled = a.ledger.settled;
   events = a.events;
@@ -38,4 +38,4 @@ AreKnown marks bodies joints contacts = IsKnown (moved_by marks) (forbidden_pair
 pub record IsWorldCore (w : World) (acting : Acting Constraint) (marks : List Bool) (anchors : Anchored) : Type 0 where
   pub whole : IsWhole w acting
   pub known : AreKnown marks w.plain.bodies w.plain.joints w.plain.contacts
-  pub anchored : Tell anchors.holds anchors.lists acting.ties
+  pub anchored : AreComplete anchors.holds anchors.lists acting.ties

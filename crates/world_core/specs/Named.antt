@@ -6,7 +6,7 @@ use Rattle.shapes.specs.declared.shape.ShapeDef.{ShapeDef}
 use Rattle.contacts_base.specs.declared.key.ShapeId.{ShapeId}
 use Rattle.contacts_base.specs.declared.near.Proxy.{Proxy}
 use Rattle.plain_world.specs.declared.body.Body.{Body}
-use Rattle.body_handles.specs.declared.places.TheConstants.{MAX_SLOTS}
+use Rattle.body_handles.specs.declared.slot_table.TheConstants.{MAX_SLOTS}
 use Rattle.plain_world.specs.Bodies.{AreBodies, pose_of, stirs}
 use Rattle.plain_world.specs.Kinds.{is_dynamic}
 
@@ -30,6 +30,6 @@ shape_in id (Some b) = shape_of id b
 
 -- bodies whose shapes are read, with nothing put off in the lists of those that are awake and that are carried along
 pub record AreShown (bodies : List (Option Body)) (pending : ℕ) : Type 0 where
-  pub settled : pending ≡ 0
+  pub flushed : pending ≡ 0
   pub few : length bodies ≤ MAX_SLOTS
   pub all : AreBodies bodies

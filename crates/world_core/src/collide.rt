@@ -3,8 +3,9 @@
 ghost use Rattle.std.specs.Prelude.{◌≡◌, ◌<◌, ◌≤◌, ◌*◌, ◌+◌, ◌++◌, All, OnOk, IfOk, length, []};
 ghost use Rattle.colour_solver.specs.States.{places_from};
 ghost use Rattle.std.specs.Result.{IsOkUnless};
-ghost use Rattle.contacts_base.specs.Near.{number_of};
-ghost use Rattle.contacts.specs.Changes.{keys_touching_only_in, AreRising};
+ghost use Rattle.contacts_base.specs.Proxies.{number_of};
+ghost use Rattle.contacts.specs.Changes.{keys_touching_only_in};
+ghost use Rattle.contacts.specs.ChangedKeys.{AreRising};
 ghost use Rattle.contacts.specs.Fates.{stirs_in};
 ghost use Rattle.plain_world.specs.Bodies.{AreBodies, IsBody};
 ghost use Rattle.plain_world.specs.Changes.{is_awake_in};
@@ -16,7 +17,7 @@ ghost use Rattle.world_core.specs.Named.{shape_of};
 ghost use Rattle.world_rules.specs.Collide.{body_proxies, proxies_of, contacts_after};
 
 use body_handles::MAX_SLOTS;
-use contacts::{ContactTable, PairSweep, ShapesByName, Touches};
+use contacts::{ContactTable, PairSweep, ShapesById, Touches};
 use contacts_base::{Proxy, ShapeId};
 use fixed_geom::{Box2, Refusal};
 use plain_world::{Body, surface_of};
@@ -119,7 +120,7 @@ fn stirs_with(body: &Body, id: ShapeId) -> bool
 
 /// The shape with this name, if its body is there and has it.
 #[inline(always)]
-fn shape_named(bodies: &[Option<Body>], id: ShapeId) -> Option<Proxy>
+fn shape_with_id(bodies: &[Option<Body>], id: ShapeId) -> Option<Proxy>
     requires { AreBodies bodies.now }
     ensures { result ≡ found (proxies_of bodies.now) (id_number id) }
 {
@@ -131,7 +132,7 @@ fn shape_named(bodies: &[Option<Body>], id: ShapeId) -> Option<Proxy>
 }
 
 /// Whether there is a shape with this name, and its body stirs.
-fn stirs_named(bodies: &[Option<Body>], id: ShapeId) -> bool
+fn stirs_by_id(bodies: &[Option<Body>], id: ShapeId) -> bool
     requires { AreBodies bodies.now }
     ensures { result ≡ stirs_in (found (proxies_of bodies.now) (id_number id)) }
 {
@@ -160,7 +161,7 @@ impl<'a> Model for BodyShapes<'a> {
     ghost invariant = { λ a. AreShown a.table.now.bodies a.table.now.pending };
 }
 
-impl ShapesByName for BodyShapes<'_> {
+impl ShapesById for BodyShapes<'_> {
     ghost proxies = { λ s. proxies_of s };
 
     ghost awake = { λ s. places_from is_awake_in 0 s };
@@ -169,11 +170,11 @@ impl ShapesByName for BodyShapes<'_> {
 
     #[inline(always)]
     fn shape(&self, id: ShapeId) -> Option<Proxy> {
-        shape_named(self.table.bodies(), id)
+        shape_with_id(self.table.bodies(), id)
     }
 
     fn stirs(&self, id: ShapeId) -> bool {
-        stirs_named(self.table.bodies(), id)
+        stirs_by_id(self.table.bodies(), id)
     }
 
     fn awake(&self) -> &[u32] {
@@ -194,7 +195,7 @@ impl ShapesByName for BodyShapes<'_> {
 }
 
 /// Finds the near pairs of shapes whose bodies no joint keeps from colliding, and evaluates a contact for each of which a body stirs: what the
-/// contacts become is due then. Those of bodies that aren't marked are known from the contacts that there are. Refused 1 where memory is wanting.
+/// contacts become is pending then. Those of bodies that aren't marked are known from the contacts that there are. Refused 1 where memory is wanting.
 pub(crate) fn collide(
     alloc: Global,
     contacts: &mut ContactTable,
@@ -203,10 +204,10 @@ pub(crate) fn collide(
 ) -> Result<Touches, Refusal>
     requires few { length bodies.now.bodies ≤ MAX_SLOTS }
     requires bodies { AreBodies bodies.now.bodies }
-    requires settled { bodies.now.pending ≡ 0 }
+    requires flushed { bodies.now.pending ≡ 0 }
     requires known { AreKnown bodies.now.marks bodies.now.bodies joints.now.joints contacts.old.contacts }
     ensures contacts { contacts.new.contacts ≡ contacts.old.contacts }
-    ensures due { OnOk result (contacts.new.due ≡ contacts_after bodies.now.bodies joints.now.joints contacts.old.contacts) }
+    ensures pending { OnOk result (contacts.new.pending ≡ contacts_after bodies.now.bodies joints.now.joints contacts.old.contacts) }
     ensures begin { IfOk result (λ touches. touches.begin.items ≡ keys_touching_only_in contacts.old.contacts (contacts_after bodies.now.bodies joints.now.joints contacts.old.contacts)) }
     ensures end { IfOk result (λ touches. touches.end.items ≡ keys_touching_only_in (contacts_after bodies.now.bodies joints.now.joints contacts.old.contacts) contacts.old.contacts) }
     ensures begin_rises { IfOk result (λ touches. AreRising touches.begin.items) }

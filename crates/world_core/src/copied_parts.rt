@@ -45,7 +45,7 @@ pub(crate) fn copy_body_parts(
     handles: &Handles,
     bodies: &BodyTable,
 ) -> Result<CopiedBodies, Refusal>
-    ensures places { IfOk result (λ copied. copied.handles.places ≡ handles.now.places) }
+    ensures slot_entries { IfOk result (λ copied. copied.handles.slot_entries ≡ handles.now.slot_entries) }
     ensures bodies { IfOk result (λ copied. copied.table.bodies ≡ bodies.now.bodies) }
     ensures marks { IfOk result (λ copied. copied.table.marks ≡ bodies.now.marks) }
     ensures memory_only { IsOkUnless result Refusal.NoMemory }
@@ -61,7 +61,7 @@ pub(crate) fn copy_joint_parts(
     handles: &Handles,
     joints: &JointTable,
 ) -> Result<CopiedJoints, Refusal>
-    ensures places { IfOk result (λ copied. copied.handles.places ≡ handles.now.places) }
+    ensures slot_entries { IfOk result (λ copied. copied.handles.slot_entries ≡ handles.now.slot_entries) }
     ensures joints { IfOk result (λ copied. copied.table.joints ≡ joints.now.joints) }
     ensures memory_only { IsOkUnless result Refusal.NoMemory }
 {

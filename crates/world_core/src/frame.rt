@@ -5,7 +5,7 @@ ghost use Rattle.std.specs.Result.{IsOkUnless};
 ghost use Rattle.plain_world.specs.Slots.{AreMatched};
 ghost use Rattle.world_core.specs.Frames.{AreFrameBodies, IsFrame, pose_if, pose_in, shown, shown_body, shown_up};
 
-use body_handles::{Handle, Place};
+use body_handles::{Handle, SlotEntry};
 use fixed_geom::Refusal;
 use impulse_ledger::Total;
 use plain_world::Body;
@@ -144,18 +144,18 @@ fn show(handle: Handle, entry: &Option<Body>) -> Result<Option<FrameBody>, Refus
 /// What is shown of the bodies, by slot. Refused 1 where memory is wanting.
 pub(crate) fn show_bodies(
     alloc: Global,
-    places: &[Place],
+    slot_entries: &[SlotEntry],
     bodies: &[Option<Body>],
 ) -> Result<Vec<Option<FrameBody>>, Refusal>
-    requires matched { AreMatched places.now bodies.now }
-    ensures shown { IfOk result (λ s. s.items ≡ shown_up places.now bodies.now (length bodies.now)) }
+    requires matched { AreMatched slot_entries.now bodies.now }
+    ensures shown { IfOk result (λ s. s.items ≡ shown_up slot_entries.now bodies.now (length bodies.now)) }
     ensures memory_only { IsOkUnless result Refusal.NoMemory }
 {
     let mut shown = Vec::with_capacity(alloc, bodies.len())?;
     for slot in 0..bodies.len() {
         let handle = Handle {
             slot: slot as u32,
-            generation: places[slot].generation,
+            generation: slot_entries[slot].generation,
         };
         shown.push(show(handle, &bodies[slot])?)?;
     }

@@ -2,7 +2,7 @@
 
 ghost use Rattle.std.specs.Prelude.{◌≡◌, ℕ, List, Option, option_map};
 ghost use Rattle.colour_solver.specs.ColourRows.{all_rows};
-ghost use Rattle.colour_solver.specs.ConstraintTurns.{AreRowsBelow, contacts_among, joints_among};
+ghost use Rattle.colour_solver.specs.ConstraintVisits.{AreRowsBelow, contacts_among, joints_among};
 ghost use Rattle.plain_world.specs.declared.body.Body.{Body};
 ghost use Rattle.plain_world.specs.Joints.{AreJoints};
 ghost use Rattle.world_core_base.specs.ConstraintRows.{with_joint_rows};
@@ -49,21 +49,21 @@ fn put_joint_impulses(joints: &mut JointTable, rows: &[JointRow])
 
 /// The place noted for the contact of a row, or the first where none is noted.
 #[inline(always)]
-fn place_at(places: &[usize], index: usize) -> usize {
-    match places.get(index) {
+fn place_at(contact_places: &[usize], index: usize) -> usize {
+    match contact_places.get(index) {
         None => 0,
         Some(place) => *place,
     }
 }
 
 /// Gives each contact the impulses that the step has left it. It is looked for at the place that is noted for its row first.
-fn put_contact_impulses(contacts: &mut ContactTable, rows: &[ContactRow], places: &[usize])
+fn put_contact_impulses(contacts: &mut ContactTable, rows: &[ContactRow], contact_places: &[usize])
     ensures { contacts.new.contacts ≡ with_rows contacts.old.contacts rows.now }
 {
     for index in 0..rows.len() {
         let row = &rows[index];
         contacts.set_impulses(
-            place_at(places, index),
+            place_at(contact_places, index),
             row.bodies.key(),
             impulses_of(&row.first),
             second_impulses(&row.second),
@@ -71,13 +71,13 @@ fn put_contact_impulses(contacts: &mut ContactTable, rows: &[ContactRow], places
     }
 }
 
-/// Gives each joint and each contact the impulses that the step has left it. Beside the row of a contact stands in `places` where that may be.
+/// Gives each joint and each contact the impulses that the step has left it. Beside the row of a contact stands in `contact_places` where that may be.
 #[inline(never)]
 pub(crate) fn put_impulses(
     joints: &mut JointTable,
     contacts: &mut ContactTable,
     rows: &Rows,
-    places: &[usize],
+    contact_places: &[usize],
 )
     ensures joints { joints.new.joints ≡ with_joint_rows joints.old.joints (joints_among (all_rows rows.now)) }
     ensures value { contacts.new.contacts ≡ with_rows contacts.old.contacts (contacts_among (all_rows rows.now)) }
@@ -85,5 +85,5 @@ pub(crate) fn put_impulses(
     ensures contacts { (bodies : List (Option Body)) (n : ℕ) → AreRowsBelow n (all_rows rows.now) → AreContactsOf bodies contacts.old.contacts → AreContactsOf bodies contacts.new.contacts }
 {
     put_joint_impulses(joints, rows.joints());
-    put_contact_impulses(contacts, rows.contacts(), places);
+    put_contact_impulses(contacts, rows.contacts(), contact_places);
 }

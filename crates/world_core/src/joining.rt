@@ -3,7 +3,7 @@
 ghost use Rattle.std.specs.Prelude.{◌≡◌, ◌≢◌, ◌<◌, None, OnOk, Some, length, slice_set};
 ghost use Rattle.std.specs.Option.{option_copied};
 ghost use Rattle.std.specs.Result.{result_err};
-ghost use Rattle.body_handles.specs.Places.{IsLive, places_without};
+ghost use Rattle.body_handles.specs.SlotEntries.{IsLive, slot_entries_without};
 ghost use Rattle.plain_world.specs.Joints.{IsBodyJoint, is_end_in, joint_made, joint_of};
 ghost use Rattle.joint_rows.specs.Joints.{IsJoint};
 ghost use Rattle.world_core_base.specs.JointTables.{own_slots};
@@ -41,7 +41,7 @@ pub(crate) fn check_join(
     bodies: &[Option<Body>],
     def: &JointDef,
 ) -> Result<(), Refusal>
-    ensures refusal { result_err result ≡ join_refusal (body_of handles.now.places bodies.now def.now.a) (body_of handles.now.places bodies.now def.now.b) def.now }
+    ensures refusal { result_err result ≡ join_refusal (body_of handles.now.slot_entries bodies.now def.now.a) (body_of handles.now.slot_entries bodies.now def.now.b) def.now }
     ensures joint { OnOk result (IsBodyJoint bodies.now (joint_made def.now)) }
 {
     match (
@@ -65,16 +65,16 @@ fn is_end_in(body: u32, joint: Option<&BodyJoint>) -> bool
 
 /// The joint in a slot goes, if one of its ends is the body.
 fn drop_if(handles: &mut Handles, joints: &mut JointTable, body: u32, slot: u32)
-    requires matched { AreMatched handles.old.places joints.old.joints }
+    requires matched { AreMatched handles.old.slot_entries joints.old.joints }
     requires slot { slot < length joints.old.joints }
-    ensures gone { slots_of handles.new.places joints.new.joints ≡ unjoined_if body slot (slots_of handles.old.places joints.old.joints) }
-    ensures matched { AreMatched handles.new.places joints.new.joints }
+    ensures gone { slots_of handles.new.slot_entries joints.new.joints ≡ unjoined_if body slot (slots_of handles.old.slot_entries joints.old.joints) }
+    ensures matched { AreMatched handles.new.slot_entries joints.new.joints }
     ensures slots { length joints.new.joints ≡ length joints.old.joints }
 {
     if is_end_in(body, item_at(joints.joints(), slot as usize)) {
         let handle = Handle {
             slot,
-            generation: handles.places()[slot as usize].generation,
+            generation: handles.slot_entries()[slot as usize].generation,
         };
         joints.clear(slot);
         handles.remove(handle);
@@ -83,9 +83,9 @@ fn drop_if(handles: &mut Handles, joints: &mut JointTable, body: u32, slot: u32)
 
 /// The joints of the body in a slot go, which are in these slots, in ascending order.
 pub(crate) fn drop_joints(handles: &mut Handles, joints: &mut JointTable, body: u32, slots: &[u32])
-    requires matched { AreMatched handles.old.places joints.old.joints }
+    requires matched { AreMatched handles.old.slot_entries joints.old.joints }
     requires slots { slots.now ≡ own_slots body joints.old.joints }
-    ensures gone { slots_of handles.new.places joints.new.joints ≡ unjoined_all body (slots_of handles.old.places joints.old.joints) }
+    ensures gone { slots_of handles.new.slot_entries joints.new.joints ≡ unjoined_all body (slots_of handles.old.slot_entries joints.old.joints) }
 {
     for place in 0..slots.len() {
         drop_if(handles, joints, body, slots[place]);
@@ -94,7 +94,7 @@ pub(crate) fn drop_joints(handles: &mut Handles, joints: &mut JointTable, body: 
 
 /// The joint that a handle names; `None` where it names none that lives.
 pub(crate) fn joint_of(handles: &Handles, joints: &JointTable, handle: Handle) -> Option<BodyJoint>
-    ensures { result ≡ joint_of handles.now.places joints.now.joints handle }
+    ensures { result ≡ joint_of handles.now.slot_entries joints.now.joints handle }
 {
     if handles.is_live(handle) {
         item_at(joints.joints(), handle.slot as usize).copied()

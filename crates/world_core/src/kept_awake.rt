@@ -5,9 +5,9 @@ ghost use Rattle.std.specs.Option.{option_copied};
 ghost use Rattle.contacts_base.specs.Split.{contacts_in};
 ghost use Rattle.islands.specs.Labels.{label_at};
 ghost use Rattle.plain_world.specs.Slots.{item_at};
-ghost use Rattle.world_core.specs.Quiet.{HasMarked, KeepMarks, marked_if, marked_joined, marked_pair, marked_touched};
+ghost use Rattle.world_core.specs.Quiet.{HasFlagged, KeepFlags, flagged_if, flagged_joined, flagged_pair, flagged_touched};
 
-use crate::sleep_test::mark;
+use crate::sleep_test::flag;
 use contacts::Constraint;
 use contacts_base::{ContactEntry, ContactKey, Hint, SplitContacts};
 use graph_colours::{Colours, Member, OVERFLOW};
@@ -15,47 +15,47 @@ use islands::Islands;
 use plain_world::{Body, BodyJoint, item_at};
 use solver_sets::is_moving_at;
 
-/// Marks the island of the mover in a slot, if what is beside it moves.
-fn mark_if(marks: &mut Vec<bool>, islands: &Islands, moving: bool, slot: u32)
-    ensures { marks.new.items ≡ marked_if moving (label_at islands.now.labels slot) marks.old.items }
+/// Flags the island of the mover in a slot, if what is beside it moves.
+fn flag_if(flags: &mut Vec<bool>, islands: &Islands, moving: bool, slot: u32)
+    ensures { flags.new.items ≡ flagged_if moving (label_at islands.now.labels slot) flags.old.items }
 {
     if moving {
-        mark(marks, islands, slot);
+        flag(flags, islands, slot);
     }
 }
 
-/// Marks the island of each of two bodies that are beside one another, if the other moves.
-fn mark_pair(marks: &mut Vec<bool>, islands: &Islands, bodies: &[Option<Body>], a: u32, b: u32)
-    ensures { marks.new.items ≡ marked_pair islands.now.labels bodies.now a b marks.old.items }
+/// Flags the island of each of two bodies that are beside one another, if the other moves.
+fn flag_pair(flags: &mut Vec<bool>, islands: &Islands, bodies: &[Option<Body>], a: u32, b: u32)
+    ensures { flags.new.items ≡ flagged_pair islands.now.labels bodies.now a b flags.old.items }
 {
-    mark_if(marks, islands, is_moving_at(bodies, b), a);
-    mark_if(marks, islands, is_moving_at(bodies, a), b);
+    flag_if(flags, islands, is_moving_at(bodies, b), a);
+    flag_if(flags, islands, is_moving_at(bodies, a), b);
 }
 
-fn mark_joined(
-    marks: &mut Vec<bool>,
+fn flag_joined(
+    flags: &mut Vec<bool>,
     islands: &Islands,
     bodies: &[Option<Body>],
     joint: Option<&BodyJoint>,
 )
-    ensures { marks.new.items ≡ marked_joined islands.now.labels bodies.now (option_copied joint.entry) marks.old.items }
+    ensures { flags.new.items ≡ flagged_joined islands.now.labels bodies.now (option_copied joint.entry) flags.old.items }
 {
     if let Some(joint) = joint {
-        mark_pair(marks, islands, bodies, joint.a, joint.b);
+        flag_pair(flags, islands, bodies, joint.a, joint.b);
     }
 }
 
-fn mark_touched(
-    marks: &mut Vec<bool>,
+fn flag_touched(
+    flags: &mut Vec<bool>,
     islands: &Islands,
     bodies: &[Option<Body>],
     entry: &ContactEntry,
 )
-    ensures { marks.new.items ≡ marked_touched islands.now.labels bodies.now (Some entry.now) marks.old.items }
+    ensures { flags.new.items ≡ flagged_touched islands.now.labels bodies.now (Some entry.now) flags.old.items }
 {
     if entry.contact.is_touching() {
-        mark_pair(
-            marks,
+        flag_pair(
+            flags,
             islands,
             bodies,
             entry.key.first.slot,
@@ -64,39 +64,39 @@ fn mark_touched(
     }
 }
 
-fn mark_found(
-    marks: &mut Vec<bool>,
+fn flag_found(
+    flags: &mut Vec<bool>,
     islands: &Islands,
     bodies: &[Option<Body>],
     found: Option<&ContactEntry>,
 )
-    ensures { marks.new.items ≡ marked_touched islands.now.labels bodies.now (option_copied found.entry) marks.old.items }
+    ensures { flags.new.items ≡ flagged_touched islands.now.labels bodies.now (option_copied found.entry) flags.old.items }
 {
     if let Some(entry) = found {
-        mark_touched(marks, islands, bodies, entry);
+        flag_touched(flags, islands, bodies, entry);
     }
 }
 
-/// Marks the islands that the contact with this key keeps awake. It is looked for from `hint` on.
-fn mark_contact(
-    marks: &mut Vec<bool>,
+/// Flags the islands that the contact with this key keeps awake. It is looked for from `hint` on.
+fn flag_contact(
+    flags: &mut Vec<bool>,
     islands: &Islands,
     bodies: &[Option<Body>],
     contacts: &SplitContacts,
     hint: &mut Hint,
     key: ContactKey,
 )
-    ensures { (joints : List (Option BodyJoint)) (names timers : List ℕ) → KeepMarks islands.now.labels bodies.now joints (contacts_in contacts.now) timers → HasMarked names islands.now.labels timers marks.old.items → HasMarked names islands.now.labels timers marks.new.items }
+    ensures { (joints : List (Option BodyJoint)) (names timers : List ℕ) → KeepFlags islands.now.labels bodies.now joints (contacts_in contacts.now) timers → HasFlagged names islands.now.labels timers flags.old.items → HasFlagged names islands.now.labels timers flags.new.items }
 {
     if !(is_moving_at(bodies, key.first.slot) || is_moving_at(bodies, key.second.slot)) {
         return;
     }
-    mark_found(marks, islands, bodies, contacts.find(hint, key));
+    flag_found(flags, islands, bodies, contacts.find(hint, key));
 }
 
-/// Marks the islands that a constraint keeps awake, a contact of which is looked for from `hint` on.
-fn mark_by(
-    marks: &mut Vec<bool>,
+/// Flags the islands that a constraint keeps awake, a contact of which is looked for from `hint` on.
+fn flag_by(
+    flags: &mut Vec<bool>,
     islands: &Islands,
     bodies: &[Option<Body>],
     joints: &[Option<BodyJoint>],
@@ -104,36 +104,36 @@ fn mark_by(
     hint: &mut Hint,
     id: Constraint,
 )
-    ensures { (names timers : List ℕ) → KeepMarks islands.now.labels bodies.now joints.now (contacts_in contacts.now) timers → HasMarked names islands.now.labels timers marks.old.items → HasMarked names islands.now.labels timers marks.new.items }
+    ensures { (names timers : List ℕ) → KeepFlags islands.now.labels bodies.now joints.now (contacts_in contacts.now) timers → HasFlagged names islands.now.labels timers flags.old.items → HasFlagged names islands.now.labels timers flags.new.items }
 {
     match id {
         Constraint::Joint(handle) => {
-            mark_joined(
-                marks,
+            flag_joined(
+                flags,
                 islands,
                 bodies,
                 item_at(joints, handle.slot as usize),
             );
         }
-        Constraint::Contact(key) => mark_contact(marks, islands, bodies, contacts, hint, key),
+        Constraint::Contact(key) => flag_contact(flags, islands, bodies, contacts, hint, key),
     }
 }
 
-/// Marks the islands that the constraints of one colour keep awake.
-fn mark_colour(
-    marks: &mut Vec<bool>,
+/// Flags the islands that the constraints of one colour keep awake.
+fn flag_colour(
+    flags: &mut Vec<bool>,
     islands: &Islands,
     bodies: &[Option<Body>],
     joints: &[Option<BodyJoint>],
     contacts: &SplitContacts,
     members: &[Member<Constraint>],
 )
-    ensures { (names timers : List ℕ) → KeepMarks islands.now.labels bodies.now joints.now (contacts_in contacts.now) timers → HasMarked names islands.now.labels timers marks.old.items → HasMarked names islands.now.labels timers marks.new.items }
+    ensures { (names timers : List ℕ) → KeepFlags islands.now.labels bodies.now joints.now (contacts_in contacts.now) timers → HasFlagged names islands.now.labels timers flags.old.items → HasFlagged names islands.now.labels timers flags.new.items }
 {
     let mut hint = Hint { long: 0, short: 0 };
     for place in 0..members.len() {
-        mark_by(
-            marks,
+        flag_by(
+            flags,
             islands,
             bodies,
             joints,
@@ -144,10 +144,10 @@ fn mark_colour(
     }
 }
 
-/// Marks the islands of the movers that touch a kinematic body that moves or are joined to one, by the constraints that act.
+/// Flags the islands of the movers that touch a kinematic body that moves or are joined to one, by the constraints that act.
 #[inline(never)]
-pub(crate) fn mark_beside(
-    marks: &mut Vec<bool>,
+pub(crate) fn flag_beside(
+    flags: &mut Vec<bool>,
     islands: &Islands,
     bodies: &[Option<Body>],
     joints: &[Option<BodyJoint>],
@@ -155,11 +155,11 @@ pub(crate) fn mark_beside(
     colours: &Colours<Constraint>,
 )
     requires { colours.now.pending ≡ 0 }
-    ensures { (names timers : List ℕ) → KeepMarks islands.now.labels bodies.now joints.now (contacts_in contacts.now) timers → HasMarked names islands.now.labels timers marks.old.items → HasMarked names islands.now.labels timers marks.new.items }
+    ensures { (names timers : List ℕ) → KeepFlags islands.now.labels bodies.now joints.now (contacts_in contacts.now) timers → HasFlagged names islands.now.labels timers flags.old.items → HasFlagged names islands.now.labels timers flags.new.items }
 {
     for colour in 0..OVERFLOW + 1 {
-        mark_colour(
-            marks,
+        flag_colour(
+            flags,
             islands,
             bodies,
             joints,

@@ -3,6 +3,7 @@
 
 mod booking;
 mod collide;
+mod committing;
 mod copied_parts;
 mod frame;
 mod impulses;
@@ -21,11 +22,10 @@ mod scratch;
 mod sleep_phase;
 mod sleep_test;
 mod solving;
-mod turning;
 mod wake_and_sleep;
 mod world;
 
-pub use body_handles::{Handle, Place};
+pub use body_handles::{Handle, SlotEntry};
 pub use colour_solver::{OneThread, StepSolver};
 pub use event_feed::Events;
 pub use fixed_geom::{Refusal, Rot, Vec2};

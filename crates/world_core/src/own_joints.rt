@@ -11,7 +11,7 @@ ghost use Rattle.solver_sets.specs.Joining.{handle_at};
 ghost use Rattle.solver_sets.specs.Ties.{joint_ties_at, slots_of};
 ghost use Rattle.solver_sets.specs.BesideByTies.{joint_tie_of};
 
-use body_handles::{Handle, Place};
+use body_handles::{Handle, SlotEntry};
 use contacts::Constraint;
 use fixed_geom::Refusal;
 use graph_colours::Member;
@@ -77,17 +77,17 @@ fn joint_tie(
 /// The tie of the joint in a slot, if one of its ends is the body.
 fn tie_at(
     bodies: &[Option<Body>],
-    places: &[Place],
+    slot_entries: &[SlotEntry],
     joints: &[Option<BodyJoint>],
     slot: u32,
     body: u32,
 ) -> Option<Member<Constraint>>
-    requires { slot < length places.now }
-    ensures { result ≡ joint_tie_of bodies.now body (handle_at places.now slot) (joint_at joints.now slot) }
+    requires { slot < length slot_entries.now }
+    ensures { result ≡ joint_tie_of bodies.now body (handle_at slot_entries.now slot) (joint_at joints.now slot) }
 {
     let handle = Handle {
         slot,
-        generation: places[slot as usize].generation,
+        generation: slot_entries[slot as usize].generation,
     };
     joint_tie(bodies, body, handle, item_at(joints, slot as usize))
 }
@@ -108,20 +108,23 @@ fn put_tie(ties: &mut Vec<Member<Constraint>>, tie: Option<Member<Constraint>>)
 pub(crate) fn fill_joint_ties(
     ties: &mut Vec<Member<Constraint>>,
     bodies: &[Option<Body>],
-    places: &[Place],
+    slot_entries: &[SlotEntry],
     joints: &[Option<BodyJoint>],
     slots: &[u32],
     body: u32,
 )
-    requires matched { AreMatched places.now joints.now }
+    requires matched { AreMatched slot_entries.now joints.now }
     requires slots { slots.now ≡ own_slots body joints.now }
     requires room { length slots.now ≤ vec_capacity ties.old }
-    ensures ties { ties.new.items ≡ joint_ties_at body bodies.now (slots_of places.now joints.now) }
+    ensures ties { ties.new.items ≡ joint_ties_at body bodies.now (slots_of slot_entries.now joints.now) }
     ensures few { length ties.new.items ≤ length slots.now }
 {
     ties.clear();
     for place in 0..slots.len() {
-        put_tie(ties, tie_at(bodies, places, joints, slots[place], body));
+        put_tie(
+            ties,
+            tie_at(bodies, slot_entries, joints, slots[place], body),
+        );
     }
 }
 
@@ -130,16 +133,23 @@ pub(crate) fn fill_joint_ties(
 pub(crate) fn joint_ties(
     alloc: Global,
     bodies: &[Option<Body>],
-    places: &[Place],
+    slot_entries: &[SlotEntry],
     joints: &JointTable,
     body: u32,
 ) -> Result<Vec<Member<Constraint>>, Refusal>
-    requires { AreMatched places.now joints.now.joints }
-    ensures ties { IfOk result (λ ties. ties.items ≡ joint_ties_at body bodies.now (slots_of places.now joints.now.joints)) }
+    requires { AreMatched slot_entries.now joints.now.joints }
+    ensures ties { IfOk result (λ ties. ties.items ≡ joint_ties_at body bodies.now (slots_of slot_entries.now joints.now.joints)) }
     ensures memory_only { IsOkUnless result Refusal.NoMemory }
 {
     let slots = joints.slots_of(body)?;
     let mut ties = Vec::with_capacity(alloc, slots.len())?;
-    fill_joint_ties(&mut ties, bodies, places, joints.joints(), &slots, body);
+    fill_joint_ties(
+        &mut ties,
+        bodies,
+        slot_entries,
+        joints.joints(),
+        &slots,
+        body,
+    );
     Ok(ties)
 }

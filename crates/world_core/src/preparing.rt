@@ -3,7 +3,8 @@
 ghost use Rattle.std.specs.Prelude.{◌≡◌, ◌+◌, ◌≤◌, OnOk, IfOk, length, vec_capacity};
 ghost use Rattle.std.specs.List.Sorted.{IsStrictlyIncreasing};
 ghost use Rattle.std.specs.Result.{IsOkUnless};
-ghost use Rattle.contacts.specs.Changes.{keys_touching_only_in, AreRising};
+ghost use Rattle.contacts.specs.Changes.{keys_touching_only_in};
+ghost use Rattle.contacts.specs.ChangedKeys.{AreRising};
 ghost use Rattle.contacts.specs.Constraints.{constraint_number};
 ghost use Rattle.plain_world.specs.Bodies.{AreBodies};
 ghost use Rattle.sleep_wake.specs.Acting.{IsConsistent};
@@ -52,14 +53,14 @@ pub(crate) fn prepare(
     requires few { length bodies.old.bodies ≤ MAX_SLOTS }
     requires bodies { AreBodies bodies.old.bodies }
     requires known { AreKnown bodies.old.marks bodies.old.bodies joints.now.joints contacts.old.contacts }
-    requires settled { IsConsistent constraint_number sets.old.acting }
+    requires consistent { IsConsistent constraint_number sets.old.acting }
     ensures entries { ledger.new.entries ≡ ledger.old.entries }
     ensures settled { ledger.new.settled ≡ ledger.old.settled }
     ensures bodies { bodies.new.bodies ≡ bodies.old.bodies }
     ensures marks { bodies.new.marks ≡ bodies.old.marks }
     ensures contacts { contacts.new.contacts ≡ contacts.old.contacts }
     ensures acting { sets.new.acting ≡ sets.old.acting }
-    ensures due { OnOk result (contacts.new.due ≡ contacts_after bodies.old.bodies joints.now.joints contacts.old.contacts) }
+    ensures pending { OnOk result (contacts.new.pending ≡ contacts_after bodies.old.bodies joints.now.joints contacts.old.contacts) }
     ensures begin { IfOk result (λ prepared. prepared.touches.begin.items ≡ keys_touching_only_in contacts.old.contacts (contacts_after bodies.old.bodies joints.now.joints contacts.old.contacts)) }
     ensures end { IfOk result (λ prepared. prepared.touches.end.items ≡ keys_touching_only_in (contacts_after bodies.old.bodies joints.now.joints contacts.old.contacts) contacts.old.contacts) }
     ensures begin_rises { IfOk result (λ prepared. AreRising prepared.touches.begin.items) }
@@ -73,7 +74,7 @@ pub(crate) fn prepare(
     ensures for_colours { OnOk result (COLOURS + 1 ≤ rows.new.more) }
     ensures for_woke { IfOk result (λ prepared. length prepared.asleep.items ≤ vec_capacity scratch.new.woke) }
     ensures for_timers { OnOk result (length bodies.old.bodies ≤ vec_capacity scratch.new.timers) }
-    ensures for_marks { OnOk result (length bodies.old.bodies ≤ vec_capacity scratch.new.marks) }
+    ensures for_awake_flags { OnOk result (length bodies.old.bodies ≤ vec_capacity scratch.new.awake_flags) }
     ensures for_slept { OnOk result (length bodies.old.bodies ≤ vec_capacity scratch.new.slept) }
     ensures for_slots { OnOk result (length bodies.old.bodies ≤ vec_capacity scratch.new.slots) }
     ensures memory_only { IsOkUnless result Refusal.NoMemory }
@@ -85,7 +86,7 @@ pub(crate) fn prepare(
     let changes = list_changes(alloc, bodies.bodies(), &touches.begin, &touches.end)?;
     let begun = touches.begin.len();
     sets.reserve(begun, 0)?;
-    reserve_rows(rows, &mut scratch.places, sets.tie_count(), begun)?;
+    reserve_rows(rows, &mut scratch.contact_places, sets.tie_count(), begun)?;
     let asleep = list_sleepers(alloc, sets, &changes)?;
     scratch.make_room(bodies.bodies().len(), asleep.len())?;
     Ok(Prepared {

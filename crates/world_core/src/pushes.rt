@@ -83,7 +83,7 @@ pub(crate) fn momenta_after(
     offset: Vec2,
 ) -> Result<Momenta, Refusal>
     requires { AreBodies bodies.now }
-    ensures value { result ≡ pushed (body_of handles.now.places bodies.now handle) by offset }
+    ensures value { result ≡ pushed (body_of handles.now.slot_entries bodies.now handle) by offset }
     ensures present { OnOk result (handle.slot < length bodies.now) }
 {
     match body_of(handles, bodies, handle) {
@@ -113,7 +113,7 @@ pub(crate) fn pose_after(
     handle: Handle,
     pose: Pose,
 ) -> Result<Pose, Refusal>
-    ensures value { result ≡ posed (body_of handles.now.places bodies.now handle) pose }
+    ensures value { result ≡ posed (body_of handles.now.slot_entries bodies.now handle) pose }
     ensures present { OnOk result (handle.slot < length bodies.now) }
     ensures pose { IfOk result (λ given. IsPose given) }
 {
@@ -147,7 +147,7 @@ pub(crate) fn course_after(
     handle: Handle,
     course: Course,
 ) -> Result<Course, Refusal>
-    ensures value { result ≡ steered (body_of handles.now.places bodies.now handle) course }
+    ensures value { result ≡ steered (body_of handles.now.slot_entries bodies.now handle) course }
     ensures present { OnOk result (handle.slot < length bodies.now) }
     ensures kinematic { OnOk result (ForSome (body_at bodies.now handle.slot) (λ b. is_kinematic b.kind ≡ true)) }
 {
@@ -163,7 +163,7 @@ pub(crate) fn check_mover(
     bodies: &[Option<Body>],
     handle: Handle,
 ) -> Result<(), Refusal>
-    ensures { result_err result ≡ mover_refusal (body_of handles.now.places bodies.now handle) }
+    ensures { result_err result ≡ mover_refusal (body_of handles.now.slot_entries bodies.now handle) }
 {
     let Some(body) = body_of(handles, bodies, handle) else {
         return Err(Refusal::StaleHandle);

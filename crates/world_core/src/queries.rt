@@ -1,7 +1,7 @@
 //! What a query reads of a world, and a walk over its bodies without a copy.
 
 ghost use Rattle.std.specs.Prelude.{◌≡◌, IfSome, Some, length, option_map};
-ghost use Rattle.body_handles.specs.Places.{IsLive};
+ghost use Rattle.body_handles.specs.SlotEntries.{IsLive};
 ghost use Rattle.plain_world.specs.Placement.{shape_of};
 ghost use Rattle.shapes.specs.Poses.{IsPose};
 ghost use Rattle.shapes.specs.Shapes.{IsShape};
@@ -9,7 +9,7 @@ ghost use Rattle.world_core.specs.Walks.{handle_in, handle_of};
 ghost use Rattle.world_rules.specs.Sound.{IsSound};
 
 use crate::WorldCore;
-use body_handles::{Handle, Place};
+use body_handles::{Handle, SlotEntry};
 use contacts_base::ShapeId;
 use plain_world::shape_of;
 use shapes::{Pose, Shape};
@@ -35,10 +35,10 @@ impl WorldCore {
     /// The id of the body in a slot; `None` where the slot is free or was never used. `bodies` has the body itself in the same
     /// slot, so that both together are a walk over all bodies.
     pub fn handle_in(&self, slot: u32) -> Option<Handle>
-        ensures value { result ≡ handle_in self.now.plain.places slot }
-        ensures live { IfSome result (λ handle. IsLive self.now.plain.places handle) }
+        ensures value { result ≡ handle_in self.now.plain.slot_entries slot }
+        ensures live { IfSome result (λ handle. IsLive self.now.plain.slot_entries handle) }
     {
-        match self.places().get(slot as usize) {
+        match self.slot_entries().get(slot as usize) {
             Some(place) => handle_of(slot, *place),
             None => None,
         }
@@ -46,7 +46,7 @@ impl WorldCore {
 }
 
 /// The id of what the slot was given out for, if it is taken.
-fn handle_of(slot: u32, place: Place) -> Option<Handle>
+fn handle_of(slot: u32, place: SlotEntry) -> Option<Handle>
     ensures { result ≡ handle_of slot (Some place) }
 {
     if place.live {

@@ -8,16 +8,16 @@ use body_handles::Handle;
 use fixed_geom::Refusal;
 use std::alloc::Global;
 
-/// The movers' timers by slot, marks by slot, the handles of the bodies that woke and of those that fell asleep, the slots of either, and where the
+/// The movers' timers by slot, the awake flags by island, the handles of the bodies that woke and of those that fell asleep, the slots of either, and where the
 /// contacts stand that have rows. Their memory is kept from step to step.
 #[derive(Drop)]
 pub(crate) struct Scratch {
     pub timers: Vec<u64>,
-    pub marks: Vec<bool>,
+    pub awake_flags: Vec<bool>,
     pub woke: Vec<Handle>,
     pub slept: Vec<Handle>,
     pub slots: Vec<u32>,
-    pub places: Vec<usize>,
+    pub contact_places: Vec<usize>,
 }
 
 /// Empties a list, and makes room in it for so many items. Refused 1 where memory is wanting.
@@ -68,26 +68,26 @@ impl Scratch {
     pub fn new(alloc: Global) -> Scratch {
         Scratch {
             timers: Vec::new(alloc),
-            marks: Vec::new(alloc),
+            awake_flags: Vec::new(alloc),
             woke: Vec::new(alloc),
             slept: Vec::new(alloc),
             slots: Vec::new(alloc),
-            places: Vec::new(alloc),
+            contact_places: Vec::new(alloc),
         }
     }
 
-    /// Makes room for so many slots in each list but that of those who woke, who are so many at most. Timers and marks stay: of these a step writes down
+    /// Makes room for so many slots in each list but that of those who woke, who are so many at most. Timers and flags stay: of these a step writes down
     /// the awake movers', and what else is in the two lists means nothing. Refused 1 where memory is wanting.
     pub fn make_room(&mut self, slots: usize, woke: usize) -> Result<(), Refusal>
         ensures timers { OnOk result (slots ≤ vec_capacity self.new.timers) }
-        ensures marks { OnOk result (slots ≤ vec_capacity self.new.marks) }
+        ensures awake_flags { OnOk result (slots ≤ vec_capacity self.new.awake_flags) }
         ensures woke { OnOk result (woke ≤ vec_capacity self.new.woke) }
         ensures slept { OnOk result (slots ≤ vec_capacity self.new.slept) }
         ensures slots { OnOk result (slots ≤ vec_capacity self.new.slots) }
         ensures memory_only { IsOkUnless result Refusal.NoMemory }
     {
         keep_room(&mut self.timers, slots)?;
-        keep_room(&mut self.marks, slots)?;
+        keep_room(&mut self.awake_flags, slots)?;
         make_room(&mut self.woke, woke)?;
         make_room(&mut self.slept, slots)?;
         make_room(&mut self.slots, slots)

@@ -9,7 +9,7 @@ ghost use Rattle.plain_world.specs.Bodies.{AreBodies};
 ghost use Rattle.plain_world.specs.Sleep.{timed_bodies, told};
 ghost use Rattle.plain_world.specs.InSlots.{AreTimersWithin};
 ghost use Rattle.sleep_wake.specs.Acting.{IsConsistent};
-ghost use Rattle.solver_sets.specs.BesideByTies.{TellMoving};
+ghost use Rattle.solver_sets.specs.BesideByTies.{ShowMoving};
 ghost use Rattle.solver_sets.specs.SinceTold.{newly_asleep};
 ghost use Rattle.solver_sets.specs.Tied.{AreTied};
 ghost use Rattle.world_core_base.specs.Marked.{AreMarked};
@@ -18,7 +18,7 @@ ghost use Rattle.world_rules.specs.Sound.{AreTold};
 
 use crate::scratch::{Scratch, fill_slots};
 use crate::sleep_test::are_kept_up;
-use body_handles::{MAX_SLOTS, Place};
+use body_handles::{MAX_SLOTS, SlotEntry};
 use contacts::Constraint;
 use contacts_base::SplitContacts;
 use momenta::{Gain, NOTHING};
@@ -34,7 +34,7 @@ pub(crate) fn rest_ready(
     bodies: &mut BodyTable,
     sets: &mut Sets<Constraint>,
     scratch: &mut Scratch,
-    places: &[Place],
+    slot_entries: &[SlotEntry],
     joints: &[Option<BodyJoint>],
     contacts: &SplitContacts,
     ticks: u64,
@@ -44,19 +44,19 @@ pub(crate) fn rest_ready(
     requires within { AreTimersWithin (2 ^ 44) bodies.old.bodies }
     requires tied { AreTied bodies.old.bodies sets.old.acting.labels }
     requires told { AreTold bodies.old.bodies sets.old.acting.labels }
-    requires settled { IsConsistent constraint_number sets.old.acting }
+    requires consistent { IsConsistent constraint_number sets.old.acting }
     requires colours_settled { sets.old.pending ≡ 0 }
     requires bodies_settled { bodies.old.pending ≡ 0 }
-    requires tells { TellMoving (timed_bodies ticks bodies.old.bodies) joints.now (contacts_in contacts.now) sets.old.acting.labels sets.old.acting.lists }
-    requires places { length bodies.old.bodies ≤ length places.now }
+    requires tells { ShowMoving (timed_bodies ticks bodies.old.bodies) joints.now (contacts_in contacts.now) sets.old.acting.labels sets.old.acting.lists }
+    requires slot_entries { length bodies.old.bodies ≤ length slot_entries.now }
     requires ticks { ticks ≤ 8 }
     requires timers { length bodies.old.bodies ≤ vec_capacity scratch.old.timers }
-    requires marks { length bodies.old.bodies ≤ vec_capacity scratch.old.marks }
+    requires awake_flags { length bodies.old.bodies ≤ vec_capacity scratch.old.awake_flags }
     requires slept { length bodies.old.bodies ≤ vec_capacity scratch.old.slept }
-    requires slots { length places.now ≤ vec_capacity scratch.old.slots }
+    requires slots { length slot_entries.now ≤ vec_capacity scratch.old.slots }
     ensures acting { sets.new.acting ≡ rested_acting (timed_bodies ticks bodies.old.bodies) joints.now (contacts_in contacts.now) sets.old.acting }
     ensures bodies { bodies.new.bodies ≡ told sets.new.acting.labels (timed_bodies ticks bodies.old.bodies) }
-    ensures slept { scratch.new.slept.items ≡ newly_asleep places.now (timed_bodies ticks bodies.old.bodies) sets.new.acting.labels }
+    ensures slept { scratch.new.slept.items ≡ newly_asleep slot_entries.now (timed_bodies ticks bodies.old.bodies) sets.new.acting.labels }
     ensures woke { scratch.new.woke ≡ scratch.old.woke }
     ensures gain { as_vector result ≡ gained (timed_bodies ticks bodies.old.bodies) bodies.new.bodies }
     ensures small { IsGain (2 ^ 78) result }
@@ -64,7 +64,7 @@ pub(crate) fn rest_ready(
 {
     bodies.time(ticks);
     let quiet = are_kept_up(
-        &mut scratch.marks,
+        &mut scratch.awake_flags,
         sets.islands(),
         bodies.bodies(),
         bodies.awake(),
@@ -86,7 +86,7 @@ pub(crate) fn rest_ready(
     sets.sleep_phase(&scratch.timers, bodies.awake());
     fill_newly_asleep(
         &mut scratch.slept,
-        places,
+        slot_entries,
         bodies.bodies(),
         sets.islands(),
         bodies.awake(),

@@ -9,10 +9,10 @@ ghost use Rattle.plain_world.specs.Slots.{body_at};
 ghost use Rattle.solver_sets.specs.Beside.{timers_of};
 ghost use Rattle.solver_sets.specs.Tied.{AreTied};
 ghost use Rattle.std.specs.List.{AllWithin};
-ghost use Rattle.world_core.specs.Quiet.{AreBusy, AreCleared, AreKeptUp, HasMarked, TellShort, is_marked_in, is_open_by, is_short_in, marked_by};
+ghost use Rattle.world_core.specs.Quiet.{AreBusy, AreCleared, AreKeptUp, HasFlagged, ShortTimersAgree, is_flagged_in, is_open_by, is_short_in, flagged_by};
 ghost use Rattle.world_rules.specs.Sound.{AreTold};
 
-use crate::kept_awake::mark_beside;
+use crate::kept_awake::flag_beside;
 use contacts::Constraint;
 use contacts_base::SplitContacts;
 use graph_colours::Colours;
@@ -43,97 +43,97 @@ fn are_busy(bodies: &[Option<Body>], awake: &[u32]) -> bool
     true
 }
 
-/// Takes the mark of a slot away.
-fn clear_mark(marks: &mut Vec<bool>, slot: u32)
-    ensures { marks.new.items ≡ slice_set marks.old.items slot false }
+/// Takes the flag of a slot away.
+fn clear_flag(flags: &mut Vec<bool>, slot: u32)
+    ensures { flags.new.items ≡ slice_set flags.old.items slot false }
 {
-    if (slot as usize) < marks.len() {
-        marks[slot as usize] = false;
+    if (slot as usize) < flags.len() {
+        flags[slot as usize] = false;
     }
 }
 
-/// Takes the marks of these slots away. Those of all others stay.
-fn clear_marks(marks: &mut Vec<bool>, awake: &[u32])
-    ensures { AreCleared awake.now marks.new.items }
+/// Takes the flags of these slots away. Those of all others stay.
+fn clear_flags(flags: &mut Vec<bool>, awake: &[u32])
+    ensures { AreCleared awake.now flags.new.items }
 {
     for place in 0..awake.len() {
-        clear_mark(marks, awake[place]);
+        clear_flag(flags, awake[place]);
     }
 }
 
-/// Makes the list of marks so long, if it is shorter. There is room.
-fn lengthen(marks: &mut Vec<bool>, slots: usize)
-    requires { slots ≤ vec_capacity marks.old }
-    ensures { slots ≤ length marks.new.items }
+/// Makes the list of flags so long, if it is shorter. There is room.
+fn lengthen(flags: &mut Vec<bool>, slots: usize)
+    requires { slots ≤ vec_capacity flags.old }
+    ensures { slots ≤ length flags.new.items }
 {
-    if marks.len() < slots {
-        let _ = marks.resize(slots, false);
+    if flags.len() < slots {
+        let _ = flags.resize(slots, false);
     }
 }
 
-/// Marks the island of the mover in a slot, at the slot that names it.
-pub(crate) fn mark(marks: &mut Vec<bool>, islands: &Islands, slot: u32)
-    ensures { marks.new.items ≡ marked_by (label_at islands.now.labels slot) marks.old.items }
+/// Flags the island of the mover in a slot, at the slot that names it.
+pub(crate) fn flag(flags: &mut Vec<bool>, islands: &Islands, slot: u32)
+    ensures { flags.new.items ≡ flagged_by (label_at islands.now.labels slot) flags.old.items }
 {
     if let Some(label) = islands.label_of(slot)
-        && (label.name as usize) < marks.len()
+        && (label.name as usize) < flags.len()
     {
-        marks[label.name as usize] = true;
+        flags[label.name as usize] = true;
     }
 }
 
-/// Marks the island of the mover in a slot, if it hasn't been slow for long enough to sleep.
-fn mark_if_short(marks: &mut Vec<bool>, islands: &Islands, bodies: &[Option<Body>], slot: u32)
-    ensures { marks.new.items ≡ cond (is_short_in (body_at bodies.now slot)) (marked_by (label_at islands.now.labels slot) marks.old.items) marks.old.items }
+/// Flags the island of the mover in a slot, if it hasn't been slow for long enough to sleep.
+fn flag_if_short(flags: &mut Vec<bool>, islands: &Islands, bodies: &[Option<Body>], slot: u32)
+    ensures { flags.new.items ≡ cond (is_short_in (body_at bodies.now slot)) (flagged_by (label_at islands.now.labels slot) flags.old.items) flags.old.items }
 {
     if is_short_at(bodies, slot) {
-        mark(marks, islands, slot);
+        flag(flags, islands, slot);
     }
 }
 
-/// Marks each island with an awake mover that hasn't been slow for long enough to sleep.
-fn mark_all(marks: &mut Vec<bool>, islands: &Islands, bodies: &[Option<Body>], awake: &[u32])
-    ensures { (names timers : List ℕ) → TellShort bodies.now timers → HasMarked names islands.now.labels timers marks.old.items → HasMarked names islands.now.labels timers marks.new.items }
+/// Flags each island with an awake mover that hasn't been slow for long enough to sleep.
+fn flag_all(flags: &mut Vec<bool>, islands: &Islands, bodies: &[Option<Body>], awake: &[u32])
+    ensures { (names timers : List ℕ) → ShortTimersAgree bodies.now timers → HasFlagged names islands.now.labels timers flags.old.items → HasFlagged names islands.now.labels timers flags.new.items }
 {
     for place in 0..awake.len() {
-        mark_if_short(marks, islands, bodies, awake[place]);
+        flag_if_short(flags, islands, bodies, awake[place]);
     }
 }
 
-/// Whether the slot names an island that isn't marked.
-fn is_open(marks: &[bool], islands: &Islands, slot: u32) -> bool
-    ensures { result ≡ is_open_by (label_at islands.now.labels slot) slot (is_marked_in (slice_get marks.now slot)) }
+/// Whether the slot names an island that isn't flagged.
+fn is_open(flags: &[bool], islands: &Islands, slot: u32) -> bool
+    ensures { result ≡ is_open_by (label_at islands.now.labels slot) slot (is_flagged_in (slice_get flags.now slot)) }
 {
     match islands.label_of(slot) {
         None => false,
-        Some(label) => label.name == slot && !is_marked(marks, slot),
+        Some(label) => label.name == slot && !is_flagged(flags, slot),
     }
 }
 
-fn is_marked(marks: &[bool], slot: u32) -> bool
-    ensures { result ≡ is_marked_in (slice_get marks.now slot) }
+fn is_flagged(flags: &[bool], slot: u32) -> bool
+    ensures { result ≡ is_flagged_in (slice_get flags.now slot) }
 {
-    match marks.get(slot as usize) {
+    match flags.get(slot as usize) {
         None => false,
-        Some(mark) => *mark,
+        Some(flag) => *flag,
     }
 }
 
-/// Whether each of these slots that names an island names one that is marked.
-fn are_marked(marks: &[bool], islands: &Islands, slots: &[u32]) -> bool
-    ensures { result ≡ true → AllWithin (λ slot. is_open_by (label_at islands.now.labels slot) slot (is_marked_in (slice_get marks.now slot)) ≡ false) slots.now 0 (length slots.now) }
+/// Whether each of these slots that names an island names one that is flagged.
+fn are_flagged(flags: &[bool], islands: &Islands, slots: &[u32]) -> bool
+    ensures { result ≡ true → AllWithin (λ slot. is_open_by (label_at islands.now.labels slot) slot (is_flagged_in (slice_get flags.now slot)) ≡ false) slots.now 0 (length slots.now) }
 {
     for place in 0..slots.len() {
-        if is_open(marks, islands, slots[place]) {
+        if is_open(flags, islands, slots[place]) {
             return false;
         }
     }
     true
 }
 
-/// Whether each awake island has a mover that keeps it from being ready to sleep. There is room for a mark for each slot.
+/// Whether each awake island has a mover that keeps it from being ready to sleep. There is room for a flag for each slot.
 pub(crate) fn are_kept_up(
-    marks: &mut Vec<bool>,
+    flags: &mut Vec<bool>,
     islands: &Islands,
     bodies: &[Option<Body>],
     awake: &[u32],
@@ -141,19 +141,19 @@ pub(crate) fn are_kept_up(
     contacts: &SplitContacts,
     colours: &Colours<Constraint>,
 ) -> bool
-    requires room { length bodies.now ≤ vec_capacity marks.old }
+    requires room { length bodies.now ≤ vec_capacity flags.old }
     requires awake { awake.now ≡ places_from is_awake_in 0 bodies.now }
     requires tied { AreTied bodies.now islands.now.labels }
     requires told { AreTold bodies.now islands.now.labels }
-    requires settled { colours.now.pending ≡ 0 }
+    requires flushed { colours.now.pending ≡ 0 }
     ensures { result ≡ true → AreKeptUp islands.now.labels (timers_of bodies.now joints.now (contacts_in contacts.now)) }
 {
     if are_busy(bodies, awake) {
         return true;
     }
-    lengthen(marks, bodies.len());
-    clear_marks(marks, awake);
-    mark_all(marks, islands, bodies, awake);
-    mark_beside(marks, islands, bodies, joints, contacts, colours);
-    are_marked(marks, islands, awake)
+    lengthen(flags, bodies.len());
+    clear_flags(flags, awake);
+    flag_all(flags, islands, bodies, awake);
+    flag_beside(flags, islands, bodies, joints, contacts, colours);
+    are_flagged(flags, islands, awake)
 }

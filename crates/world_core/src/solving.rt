@@ -31,7 +31,7 @@ use world_core_base::{BodyTable, JointTable, gather_rows};
 /// is wanting.
 pub(crate) fn reserve_rows(
     rows: &mut Rows,
-    places: &mut Vec<usize>,
+    contact_places: &mut Vec<usize>,
     ties: usize,
     begun: usize,
 ) -> Result<(), Refusal>
@@ -42,8 +42,8 @@ pub(crate) fn reserve_rows(
     let Some(count) = ties.checked_add(begun) else {
         return Err(Refusal::NoMemory);
     };
-    places.clear();
-    places.reserve(count)?;
+    contact_places.clear();
+    contact_places.reserve(count)?;
     rows.reserve(count, COLOURS + 1)
 }
 
@@ -52,7 +52,7 @@ pub(crate) fn reserve_rows(
 pub(crate) fn solve<S: StepSolver>(
     solver: &mut S,
     rows: &mut Rows,
-    places: &mut Vec<usize>,
+    contact_places: &mut Vec<usize>,
     bodies: &mut BodyTable,
     joints: &mut JointTable,
     contacts: &mut ContactTable,
@@ -93,10 +93,10 @@ pub(crate) fn solve<S: StepSolver>(
         bodies.states(),
         joints.joints(),
         kept,
-        places,
+        contact_places,
         colours,
     );
     let sums = bodies.run(solver, rows, gravity, ticks);
-    put_impulses(joints, contacts, rows, places);
+    put_impulses(joints, contacts, rows, contact_places);
     sums
 }

@@ -122,7 +122,7 @@ pub(crate) fn put_to_sleep(
     movers: &[u32],
 ) -> Gain
     requires movers { is_mover_awake sets.old.acting.labels slot ≡ true → HasIsland sets.old.acting.labels movers.now slot }
-    requires settled { IsConsistent constraint_number sets.old.acting }
+    requires consistent { IsConsistent constraint_number sets.old.acting }
     requires few { length bodies.old.bodies ≤ MAX_SLOTS }
     requires bodies { AreBodies bodies.old.bodies }
     requires told { told sets.old.acting.labels bodies.old.bodies ≡ bodies.old.bodies }

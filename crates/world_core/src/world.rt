@@ -27,7 +27,7 @@ use crate::copied_parts::{copy_body_parts, copy_constraint_parts, copy_joint_par
 use crate::frame::{Frame, show_bodies};
 use crate::plain_parts::copy_ids;
 use crate::scratch::Scratch;
-use body_handles::{Handle, Handles, Place};
+use body_handles::{Handle, Handles, SlotEntry};
 use box_tree::BoxTree;
 use colour_solver::{OneThread, Rows, StepSolver};
 use contacts::{Constraint, ContactTable};
@@ -207,7 +207,7 @@ impl WorldCore {
     }
 
     /// The bodies by slot, without a copy: `None` in a slot that is free. The handle of one is its slot with the generation that
-    /// `places` has there.
+    /// `slot_entries` has there.
     pub fn bodies(&self) -> &[Option<Body>]
         ensures bodies { result.now ≡ self.now.plain.bodies }
         ensures sound { IsSound self.now }
@@ -216,10 +216,10 @@ impl WorldCore {
     }
 
     /// The slots that were ever used, with the generation of each and whether it is taken.
-    pub fn places(&self) -> &[Place]
-        ensures { result.now ≡ self.now.plain.places }
+    pub fn slot_entries(&self) -> &[SlotEntry]
+        ensures { result.now ≡ self.now.plain.slot_entries }
     {
-        self.handles.places()
+        self.handles.slot_entries()
     }
 
     /// The gravity, in u/tick².
@@ -290,20 +290,20 @@ impl WorldCore {
         ensures memory_only { IsOkUnless result Refusal.NoMemory }
     {
         let alloc = self.bodies.allocator();
-        let mut places = Vec::new(alloc);
-        places.extend_from_slice(self.handles.places())?;
+        let mut slot_entries = Vec::new(alloc);
+        slot_entries.extend_from_slice(self.handles.slot_entries())?;
         let bodies = copy_bodies(alloc, self.bodies.bodies())?;
-        let mut joint_places = Vec::new(alloc);
-        joint_places.extend_from_slice(self.joint_handles.places())?;
+        let mut joint_entries = Vec::new(alloc);
+        joint_entries.extend_from_slice(self.joint_handles.slot_entries())?;
         let mut joints = Vec::new(alloc);
         joints.extend_from_slice(self.joints.joints())?;
         let contacts = self.contacts.to_entries(alloc)?;
         let islands = self.sets.islands().list_labels()?;
         let colours = copy_ids(alloc, self.sets.colours())?;
         Ok(Plain::new(
-            places,
+            slot_entries,
             bodies,
-            joint_places,
+            joint_entries,
             joints,
             contacts,
             islands,
@@ -318,9 +318,9 @@ impl WorldCore {
     /// stands, and nothing else is. There is a sleeping set for each name under which a body sleeps. Refused 1 where memory is
     /// wanting.
     pub fn census(&self) -> Result<Census, Refusal>
-        ensures value { IfOk result (λ census. census ≡ census_of self.now.plain.places self.now.plain.bodies (joints_in_slots self.now.plain) self.now.plain.contacts) }
-        ensures census { IfOk result (λ census. IsCensus (standings_of self.now.plain.places self.now.plain.bodies (joints_in_slots self.now.plain) self.now.plain.contacts) census) }
-        ensures each_once { IfOk result (λ census. ListsEachOnce self.now.plain.places self.now.plain.bodies (joints_in_slots self.now.plain) self.now.plain.contacts census) }
+        ensures value { IfOk result (λ census. census ≡ census_of self.now.plain.slot_entries self.now.plain.bodies (joints_in_slots self.now.plain) self.now.plain.contacts) }
+        ensures census { IfOk result (λ census. IsCensus (standings_of self.now.plain.slot_entries self.now.plain.bodies (joints_in_slots self.now.plain) self.now.plain.contacts) census) }
+        ensures each_once { IfOk result (λ census. ListsEachOnce self.now.plain.slot_entries self.now.plain.bodies (joints_in_slots self.now.plain) self.now.plain.contacts census) }
         ensures memory_only { IsOkUnless result Refusal.NoMemory }
     {
         if let Some(contacts) = self.contacts.as_one() {
@@ -333,16 +333,16 @@ impl WorldCore {
     /// The census, with the contacts as a list. Refused 1 where memory is wanting.
     fn census_with(&self, contacts: &[ContactEntry]) -> Result<Census, Refusal>
         requires { contacts.now ≡ self.now.plain.contacts }
-        ensures value { IfOk result (λ census. census ≡ census_of self.now.plain.places self.now.plain.bodies (joints_in_slots self.now.plain) self.now.plain.contacts) }
-        ensures census { IfOk result (λ census. IsCensus (standings_of self.now.plain.places self.now.plain.bodies (joints_in_slots self.now.plain) self.now.plain.contacts) census) }
-        ensures each_once { IfOk result (λ census. ListsEachOnce self.now.plain.places self.now.plain.bodies (joints_in_slots self.now.plain) self.now.plain.contacts census) }
+        ensures value { IfOk result (λ census. census ≡ census_of self.now.plain.slot_entries self.now.plain.bodies (joints_in_slots self.now.plain) self.now.plain.contacts) }
+        ensures census { IfOk result (λ census. IsCensus (standings_of self.now.plain.slot_entries self.now.plain.bodies (joints_in_slots self.now.plain) self.now.plain.contacts) census) }
+        ensures each_once { IfOk result (λ census. ListsEachOnce self.now.plain.slot_entries self.now.plain.bodies (joints_in_slots self.now.plain) self.now.plain.contacts census) }
         ensures memory_only { IsOkUnless result Refusal.NoMemory }
     {
         take_census(
             self.bodies.allocator(),
-            self.handles.places(),
+            self.handles.slot_entries(),
             self.bodies.bodies(),
-            self.joint_handles.places(),
+            self.joint_handles.slot_entries(),
             self.joints.joints(),
             contacts,
         )
@@ -355,7 +355,7 @@ impl WorldCore {
         ensures memory_only { IsOkUnless result Refusal.NoMemory }
     {
         let bodies = self.bodies.bodies();
-        let shown = show_bodies(self.bodies.allocator(), self.handles.places(), bodies)?;
+        let shown = show_bodies(self.bodies.allocator(), self.handles.slot_entries(), bodies)?;
         let total = self.ledger.total();
         Ok(Frame::new(shown, total, total, self.calls))
     }

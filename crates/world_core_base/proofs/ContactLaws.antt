@@ -10,7 +10,8 @@ use Rattle.std.proofs.lemmas.List.Elements.{All-append, All-head, All-map, All-s
 use Rattle.momenta.specs.declared.state.BodyState.{BodyState}
 use Rattle.momenta.specs.declared.state.Ends.{Ends}
 use Rattle.contacts_base.specs.Keys.{key_number}
-use Rattle.contacts_base.specs.Contacts.{AreContacts, lookup, number_of, with_impulses, with_second}
+use Rattle.contacts_base.specs.Contacts.{lookup, number_of}
+use Rattle.contacts_base.specs.ContactLists.{AreContacts, with_impulses, with_second}
 use Rattle.contacts_base.specs.Evaluate.{touches}
 use Rattle.contacts_base.specs.Limits.{IsContactPoint}
 use Rattle.contacts_base.specs.declared.key.ShapeId.{ShapeId}

@@ -9,7 +9,7 @@ use Rattle.fixed_geom.specs.Numbers.{rdiv}
 use Rattle.fixed_geom.specs.Reciprocals.{rdiv_reciprocal, share_reciprocal}
 use Rattle.momenta.specs.Motions.{IsMass, IsMotion}
 use Rattle.momenta.specs.Reciprocals.{reciprocals_of}
-use Rattle.momenta.specs.Impulses.{AreStates, IsState}
+use Rattle.momenta.specs.ImpulseBounds.{AreStates, IsState}
 use Rattle.momenta.specs.declared.mass.MassData.{MassData}
 use Rattle.momenta.specs.declared.state.BodyState.{BodyState}
 use Rattle.contacts_base.specs.declared.key.ContactKey.{ContactKey}

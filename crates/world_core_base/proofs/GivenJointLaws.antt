@@ -3,7 +3,7 @@ use Rattle.std.proofs.Common.{◌≡◌, ℕ, suc, ◌+◌, ◌≤◌, List, len
 use Rattle.std.specs.Prelude.{option_map}
 use Rattle.plain_world.specs.declared.joint.BodyJoint.{BodyJoint}
 use Rattle.plain_world.specs.Joints.{joint_at}
-use Rattle.body_handles.specs.declared.places.TheConstants.{MAX_SLOTS}
+use Rattle.body_handles.specs.declared.slot_table.TheConstants.{MAX_SLOTS}
 use Rattle.graph_colours.proofs.Cases.{true_or_false}
 use Rattle.graph_colours.proofs.PlaceLemmas.{is_same, same_from}
 use Rattle.packed_sets.specs.Packs.{Packs}

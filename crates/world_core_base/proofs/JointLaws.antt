@@ -6,13 +6,13 @@ use Rattle.std.proofs.lemmas.Bool.{cases_eq}
 use Rattle.std.proofs.lemmas.List.Elements.{All-nil, All-cons, All-head, All-tail}
 use Rattle.std.proofs.lemmas.Option.{none-some, same_Some}
 use Rattle.joint_rows.specs.Rows.{IsJointRow, joint_row}
-use Rattle.momenta.specs.Impulses.{AreStates}
+use Rattle.momenta.specs.ImpulseBounds.{AreStates}
 use Rattle.momenta.specs.declared.state.BodyState.{BodyState}
 use Rattle.joint_rows.specs.declared.row.JointRow.{JointRow}
 use Rattle.colour_solver_base.specs.Rows.{IsRow}
 use Rattle.colour_solver_base.specs.declared.row.ContactRow.{ContactRow}
 use Rattle.colour_solver.specs.States.{AreAllStates, nobody}
-use Rattle.colour_solver.specs.ConstraintTurns.{AreRowsBelow, IsRowBelow, contacts_among, joints_among}
+use Rattle.colour_solver.specs.ConstraintVisits.{AreRowsBelow, IsRowBelow, contacts_among, joints_among}
 use Rattle.colour_solver.specs.declared.constraint_row.ConstraintRow.{ConstraintRow}
 use Rattle.colour_solver.specs.declared.constraint_row.ConstraintRow.TheVariants as rows
 use Rattle.plain_world.specs.declared.body.Body.{Body}

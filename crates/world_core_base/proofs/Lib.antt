@@ -18,7 +18,7 @@ pub mod RowColourLaws
 pub mod SolvingContacts
 pub mod SolvingJoints
 pub mod JointLaws
-pub mod SolvingTurns
+pub mod SolvingVisits
 pub mod SolvingRuns
 pub mod SolvingBack
 pub mod SolvingLaws

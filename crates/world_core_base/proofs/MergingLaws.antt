@@ -65,8 +65,8 @@ few_below is xs n k = let few = length-places is (take k xs) n in let short = le
 -- ---- the pass
 
 -- the slots below `end` are listed, and all others that pass the test are left
-pub record IsMerged (is : BodyState → Bool) (states : List BodyState) (slots added : List ℕ) (passed : Passed) (turn end : ℕ) (list : List ℕ) : Type 0 where
-  pub passes : HavePassed slots added passed turn
+pub record IsMerged (is : BodyState → Bool) (states : List BodyState) (slots added : List ℕ) (passed : Passed) (visit end : ℕ) (list : List ℕ) : Type 0 where
+  pub passes : HavePassed slots added passed visit
   pub listed : list ≡ places_from is 0 (take end states)
   pub left : (slot : ℕ) → end ≤ slot → is (get_or states slot nobody) ≡ true → IsLeft slots added passed slot
   pub short : length list ≤ end
@@ -77,10 +77,10 @@ is_below a b h = grind (arith, nat_tests)
 not_below : (a b : ℕ) → b ≤ a → nat_lt a b ≡ false
 not_below a b h = grind (arith, nat_tests)
 
-pub merged_more : (is : BodyState → Bool) (states : List BodyState) (slots added : List ℕ) (passed : Passed) (next : Next) (turn turns end end_after : ℕ) (list list_after : List ℕ) → is nobody ≡ false → turns ≡ turn + 1 → IsMerged is states slots added passed turn end list
-    → IsNext slots added passed next → HavePassed slots added next.passed turns → list_after ≡ list ++ cond (nat_lt next.slot end) [] (cond (is (get_or states next.slot nobody)) (next.slot ∷ []) []) → end_after ≡ cond (nat_lt next.slot end) end (next.slot + 1)
-    → IsMerged is states slots added next.passed turns end_after list_after
-merged_more is states slots added passed next turn turns end end_after list list_after none counts h is_next passes lists ends = elim (cases_lt next.slot end) [
+pub merged_more : (is : BodyState → Bool) (states : List BodyState) (slots added : List ℕ) (passed : Passed) (next : Next) (visit visits end end_after : ℕ) (list list_after : List ℕ) → is nobody ≡ false → visits ≡ visit + 1 → IsMerged is states slots added passed visit end list
+    → IsNext slots added passed next → HavePassed slots added next.passed visits → list_after ≡ list ++ cond (nat_lt next.slot end) [] (cond (is (get_or states next.slot nobody)) (next.slot ∷ []) []) → end_after ≡ cond (nat_lt next.slot end) end (next.slot + 1)
+    → IsMerged is states slots added next.passed visits end_after list_after
+merged_more is states slots added passed next visit visits end end_after list list_after none counts h is_next passes lists ends = elim (cases_lt next.slot end) [
   | inl less ↦
       (let here : end_after ≡ end = ends ∙ (λ j. cond (is_below next.slot end less j) end (next.slot + 1)) in
       let same : list_after ≡ list = lists ∙ (λ j. list ++ cond (is_below next.slot end less j) [] (cond (is (get_or states next.slot nobody)) (next.slot ∷ []) [])) ∙ append-nil list in
@@ -113,8 +113,8 @@ merged_more is states slots added passed next turn turns end end_after list list
     below_next k low high = omega (arith, low, high)
 
 -- when all are passed, all are listed
-pub merged_last : (is : BodyState → Bool) (states : List BodyState) (slots added : List ℕ) (passed : Passed) (turn end : ℕ) (list : List ℕ) → length slots + length added ≤ turn → is nobody ≡ false → IsMerged is states slots added passed turn end list → list ≡ places_from is 0 states
-merged_last is states slots added passed turn end list over none h = h.listed ∙ whole (cases_lt end (length states))
+pub merged_last : (is : BodyState → Bool) (states : List BodyState) (slots added : List ℕ) (passed : Passed) (visit end : ℕ) (list : List ℕ) → length slots + length added ≤ visit → is nobody ≡ false → IsMerged is states slots added passed visit end list → list ≡ places_from is 0 states
+merged_last is states slots added passed visit end list over none h = h.listed ∙ whole (cases_lt end (length states))
   where
     none_left : (slot : ℕ) → IsLeft slots added passed slot → ⊥
     none_left slot (inl i) = let there = from_there slots passed.slots slot i in let p = h.passes.in_added in let n = h.passes.count in omega (arith, there, p, n, over)

@@ -13,7 +13,7 @@ use Rattle.contacts.specs.declared.constraint.Constraint.{Constraint}
 use Rattle.contacts.specs.declared.constraint.Constraint.TheVariants as constraints
 use Rattle.graph_colours.specs.declared.member.Member.{Member}
 use Rattle.graph_colours.specs.Members.{AreRising}
-use Rattle.colour_solver.specs.ConstraintTurns.{contacts_among}
+use Rattle.colour_solver.specs.ConstraintVisits.{contacts_among}
 use Rattle.colour_solver.specs.declared.constraint_row.ConstraintRow.{ConstraintRow}
 use Rattle.colour_solver.specs.declared.constraint_row.ConstraintRow.TheVariants as rows
 use Rattle.plain_world.specs.declared.joint.BodyJoint.{BodyJoint}

@@ -8,7 +8,8 @@ use Rattle.std.proofs.lemmas.Option.{none-some, same_Some, slice_get-map}
 use Rattle.momenta.specs.declared.state.BodyState.{BodyState}
 use Rattle.momenta.specs.declared.state.Ends.{Ends}
 use Rattle.contacts_base.specs.Keys.{key_number}
-use Rattle.contacts_base.specs.Contacts.{AreKeysRising, lookup, number_of, with_impulses, with_second}
+use Rattle.contacts_base.specs.Contacts.{AreKeysRising, lookup, number_of}
+use Rattle.contacts_base.specs.ContactLists.{with_impulses, with_second}
 use Rattle.contacts_base.specs.declared.contact.Contact.{Contact}
 use Rattle.contacts_base.specs.declared.contact.ContactEntry.{ContactEntry}
 use Rattle.contacts_base.specs.declared.contact.ContactPoint.{ContactPoint}

@@ -27,16 +27,16 @@ use Rattle.colour_solver.specs.declared.constraint_row.ConstraintRow.TheVariants
 use Rattle.plain_world.specs.declared.body.Body.{Body}
 use Rattle.plain_world.specs.declared.joint.BodyJoint.{BodyJoint}
 use Rattle.plain_world.specs.Joints.{joint_at}
-use Rattle.colour_solver.specs.ConstraintTurns.{contacts_among, joints_among}
+use Rattle.colour_solver.specs.ConstraintVisits.{contacts_among, joints_among}
 use Rattle.world_core_base.specs.ConstraintRows.{constraint_row, joint_row_in, joint_row_of, with_joint_rows}
 use Rattle.world_core_base.specs.Gather.{row_of, states_of, with_motions, with_rows}
-use Rattle.world_core_base.specs.Solving.{Moving, Solving, Turns, begin, bounce, clamp, ends_now, ends_then, left, moving_at, pass, pull, solve, solve_order, solved, tick, ticks, row_turn, turn_between, turn_joined, turn_joint, warm, with_contact}
+use Rattle.world_core_base.specs.Solving.{Moving, Solving, Visits, begin, bounce, clamp, ends_now, ends_then, left, moving_at, pass, pull, solve, solve_order, solved, tick, ticks, row_visit, visit_between, visit_joined, visit_joint, warm, with_contact}
 use Rattle.world_core_base.specs.SolvingArrays.{ArraysAreSolving, IsRunOf}
 use Rattle.world_core_base.proofs.SolvingBack.{IsOther, IsSameBeside, bare, bare_contact, bare_point, rows_back}
 use Rattle.world_core_base.proofs.SolvingContacts.{put_else}
 use Rattle.world_core_base.proofs.SolvingRuns.{ran_alike, run_in, solved_stood}
 use Rattle.world_core_base.proofs.SolvingJoints.{AreImpulsed, IsAway, joints_back, joints_more, joints_then, none_impulsed, put_impulsed}
-use Rattle.world_core_base.proofs.SolvingTurns.{IsJointTurnBare, held, stood}
+use Rattle.world_core_base.proofs.SolvingVisits.{IsJointVisitBare, held, stood}
 
 -- ---- a turn changes impulses alone
 
@@ -48,14 +48,14 @@ points_barely f h None second n = refl
 points_barely f h (Some p) None n = λ j. record { first = Some (h p n j); second = None }
 points_barely f h (Some p) (Some q) n = λ j. record { first = Some (h p n j); second = Some (h q (f p n).ends j) }
 
-abbrev IsTurnBare : Turns → Type 0
-IsTurnBare f = (e : ContactEntry) (begun now : Ends) → bare_contact (f.contact e begun now).contact ≡ bare_contact e.contact
+abbrev IsVisitBare : Visits → Type 0
+IsVisitBare f = (e : ContactEntry) (begun now : Ends) → bare_contact (f.contact e begun now).contact ≡ bare_contact e.contact
 
-warm_bare : IsTurnBare warm
+warm_bare : IsVisitBare warm
 unfolding contact_warmed
 warm_bare e begun now = points_barely (λ p n. record { point = p; ends = point_warmed p n }) (λ p n. refl) e.contact.first e.contact.second now
 
-solve_bare : IsTurnBare solve
+solve_bare : IsVisitBare solve
 unfolding contact_solved
 solve_bare e begun now = points_barely (point_solved e.surface.friction) (λ p n. refl) e.contact.first e.contact.second now
 
@@ -63,7 +63,7 @@ bounced_by : (t : Bool) (p : ContactPoint) (a b : SolvedPoint) → bare_point a.
 bounced_by true p a b e f = e
 bounced_by false p a b e f = f
 
-bounce_bare : IsTurnBare bounce
+bounce_bare : IsVisitBare bounce
 unfolding contact_bounced
 bounce_bare e begun now = points_barely (point_bounced e.surface.restitution begun) (λ p n. bounced_by (bounces e.surface.restitution begun p) p _ (record { point = p; ends = n }) refl refl) e.contact.first e.contact.second now
 
@@ -95,20 +95,20 @@ impulsed_more : (id : Constraint) (order : List Constraint) (es fs : List Contac
 impulsed_more id order es fs h = record { barely = h.barely; others = λ j e at all. h.others j e at (All-tail (IsOther e) id order all) }
 
 -- what a turn leaves of the contacts, of these constraints and one more
-turn_impulsed : (f : Turns) (s : Solving) (id : Constraint) (order : List Constraint) → IsTurnBare f → IsImpulsed (id ∷ order) s.contacts (row_turn f s id).contacts
-turn_impulsed f s (constraints.Joint h) order law = by (joint_at s.joints h.slot)
+visit_impulsed : (f : Visits) (s : Solving) (id : Constraint) (order : List Constraint) → IsVisitBare f → IsImpulsed (id ∷ order) s.contacts (row_visit f s id).contacts
+visit_impulsed f s (constraints.Joint h) order law = by (joint_at s.joints h.slot)
   where
-    between : (j : BodyJoint) (a b : Option Moving) → IsImpulsed (constraints.Joint h ∷ order) s.contacts (turn_joined f s h.slot j a b).contacts
+    between : (j : BodyJoint) (a b : Option Moving) → IsImpulsed (constraints.Joint h ∷ order) s.contacts (visit_joined f s h.slot j a b).contacts
     between j None b = unimpulsed (constraints.Joint h ∷ order) s.contacts
     between j (Some a) None = unimpulsed (constraints.Joint h ∷ order) s.contacts
     between j (Some a) (Some b) = unimpulsed (constraints.Joint h ∷ order) s.contacts
 
-    by : (o : Option BodyJoint) → IsImpulsed (constraints.Joint h ∷ order) s.contacts (turn_joint f s h.slot o).contacts
+    by : (o : Option BodyJoint) → IsImpulsed (constraints.Joint h ∷ order) s.contacts (visit_joint f s h.slot o).contacts
     by None = unimpulsed (constraints.Joint h ∷ order) s.contacts
     by (Some j) = between j (moving_at s.bodies j.a) (moving_at s.bodies j.b)
-turn_impulsed f s (constraints.Contact key) order law = by (lookup s.contacts key) (moving_at s.bodies key.first.slot) (moving_at s.bodies key.second.slot) refl
+visit_impulsed f s (constraints.Contact key) order law = by (lookup s.contacts key) (moving_at s.bodies key.first.slot) (moving_at s.bodies key.second.slot) refl
   where
-    by : (o : Option ContactEntry) (a b : Option Moving) → lookup s.contacts key ≡ o → IsImpulsed (constraints.Contact key ∷ order) s.contacts (turn_between f s key o a b).contacts
+    by : (o : Option ContactEntry) (a b : Option Moving) → lookup s.contacts key ≡ o → IsImpulsed (constraints.Contact key ∷ order) s.contacts (visit_between f s key o a b).contacts
     by None a b is = unimpulsed (constraints.Contact key ∷ order) s.contacts
     by (Some e) None b is = unimpulsed (constraints.Contact key ∷ order) s.contacts
     by (Some e) (Some a) None is = unimpulsed (constraints.Contact key ∷ order) s.contacts
@@ -119,10 +119,10 @@ turn_impulsed f s (constraints.Contact key) order law = by (lookup s.contacts ke
           others = λ j d at all. put_else j key c d s.contacts (All-head (IsOther d) (constraints.Contact key) order all) at;
         }
 
-pass_impulsed : (f : Turns) (order : List Constraint) (s : Solving) → IsTurnBare f → IsImpulsed order s.contacts (pass f order s).contacts
+pass_impulsed : (f : Visits) (order : List Constraint) (s : Solving) → IsVisitBare f → IsImpulsed order s.contacts (pass f order s).contacts
 pass_impulsed f [] s law = unimpulsed [] s.contacts
 pass_impulsed f (id ∷ order) s law =
-    impulsed_then (id ∷ order) s.contacts (row_turn f s id).contacts (pass f order (row_turn f s id)).contacts (turn_impulsed f s id order law) (impulsed_more id order (row_turn f s id).contacts (pass f order (row_turn f s id)).contacts (pass_impulsed f order (row_turn f s id) law))
+    impulsed_then (id ∷ order) s.contacts (row_visit f s id).contacts (pass f order (row_visit f s id)).contacts (visit_impulsed f s id order law) (impulsed_more id order (row_visit f s id).contacts (pass f order (row_visit f s id)).contacts (pass_impulsed f order (row_visit f s id) law))
 
 tick_impulsed : (g : Vec2) (order : List Constraint) (s : Solving) → IsImpulsed order s.contacts (tick g order s).contacts
 tick_impulsed g order s =
@@ -142,30 +142,30 @@ solved_impulsed n g order bodies joints contacts =
 -- ---- joints that have other impulses, of these constraints alone
 
 -- what a turn leaves of the joints, of these constraints and one more
-turn_joints : (f : Turns) (s : Solving) (id : Constraint) (order : List Constraint) → IsJointTurnBare f → AreImpulsed (id ∷ order) s.joints (row_turn f s id).joints
-turn_joints f s (constraints.Contact key) order law = by (lookup s.contacts key) (moving_at s.bodies key.first.slot) (moving_at s.bodies key.second.slot)
+visit_joints : (f : Visits) (s : Solving) (id : Constraint) (order : List Constraint) → IsJointVisitBare f → AreImpulsed (id ∷ order) s.joints (row_visit f s id).joints
+visit_joints f s (constraints.Contact key) order law = by (lookup s.contacts key) (moving_at s.bodies key.first.slot) (moving_at s.bodies key.second.slot)
   where
-    by : (o : Option ContactEntry) (a b : Option Moving) → AreImpulsed (constraints.Contact key ∷ order) s.joints (turn_between f s key o a b).joints
+    by : (o : Option ContactEntry) (a b : Option Moving) → AreImpulsed (constraints.Contact key ∷ order) s.joints (visit_between f s key o a b).joints
     by None a b = none_impulsed (constraints.Contact key ∷ order) s.joints
     by (Some e) None b = none_impulsed (constraints.Contact key ∷ order) s.joints
     by (Some e) (Some a) None = none_impulsed (constraints.Contact key ∷ order) s.joints
     by (Some e) (Some a) (Some b) = none_impulsed (constraints.Contact key ∷ order) s.joints
-turn_joints f s (constraints.Joint h) order law = by (joint_at s.joints h.slot) refl
+visit_joints f s (constraints.Joint h) order law = by (joint_at s.joints h.slot) refl
   where
-    between : (j : BodyJoint) (a b : Option Moving) → joint_at s.joints h.slot ≡ Some j → AreImpulsed (constraints.Joint h ∷ order) s.joints (turn_joined f s h.slot j a b).joints
+    between : (j : BodyJoint) (a b : Option Moving) → joint_at s.joints h.slot ≡ Some j → AreImpulsed (constraints.Joint h ∷ order) s.joints (visit_joined f s h.slot j a b).joints
     between j None b is = none_impulsed (constraints.Joint h ∷ order) s.joints
     between j (Some a) None is = none_impulsed (constraints.Joint h ∷ order) s.joints
     between j (Some a) (Some b) is =
         put_impulsed (constraints.Joint h ∷ order) s.joints h.slot j (record j { joint = (f.joint j.joint (ends_then a b) (ends_now a b)).joint }) is (law j (ends_then a b) (ends_now a b)) (λ other all. All-head (IsAway other) (constraints.Joint h) order all)
 
-    by : (o : Option BodyJoint) → joint_at s.joints h.slot ≡ o → AreImpulsed (constraints.Joint h ∷ order) s.joints (turn_joint f s h.slot o).joints
+    by : (o : Option BodyJoint) → joint_at s.joints h.slot ≡ o → AreImpulsed (constraints.Joint h ∷ order) s.joints (visit_joint f s h.slot o).joints
     by None is = none_impulsed (constraints.Joint h ∷ order) s.joints
     by (Some j) is = between j (moving_at s.bodies j.a) (moving_at s.bodies j.b) is
 
-pass_joints : (f : Turns) (order : List Constraint) (s : Solving) → IsJointTurnBare f → AreImpulsed order s.joints (pass f order s).joints
+pass_joints : (f : Visits) (order : List Constraint) (s : Solving) → IsJointVisitBare f → AreImpulsed order s.joints (pass f order s).joints
 pass_joints f [] s law = none_impulsed [] s.joints
 pass_joints f (id ∷ order) s law =
-    joints_then (id ∷ order) s.joints (row_turn f s id).joints (pass f order (row_turn f s id)).joints (turn_joints f s id order law) (joints_more id order (row_turn f s id).joints (pass f order (row_turn f s id)).joints (pass_joints f order (row_turn f s id) law))
+    joints_then (id ∷ order) s.joints (row_visit f s id).joints (pass f order (row_visit f s id)).joints (visit_joints f s id order law) (joints_more id order (row_visit f s id).joints (pass f order (row_visit f s id)).joints (pass_joints f order (row_visit f s id) law))
 
 tick_joints : (g : Vec2) (order : List Constraint) (s : Solving) → AreImpulsed order s.joints (tick g order s).joints
 tick_joints g order s =

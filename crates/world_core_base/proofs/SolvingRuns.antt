@@ -33,13 +33,13 @@ use Rattle.joint_rows.specs.Joints.{joint_bias, direction_along, joint_gap, join
 use Rattle.joint_rows.specs.Rows.{joint_solved, joint_warmed}
 use Rattle.joint_rows.proofs.JointRows.{rows_are_joints}
 use Rattle.colour_solver.specs.declared.constraint_row.ConstraintRow.{ConstraintRow}
-use Rattle.colour_solver.specs.ConstraintTurns.{constraint_bounced, either_turn, joint_unbounced}
+use Rattle.colour_solver.specs.ConstraintVisits.{constraint_bounced, either_visit, joint_unbounced}
 use Rattle.colour_solver.specs.Passes as arrays
 use Rattle.colour_solver.specs.States as step
 use Rattle.colour_solver.specs.States.{as_vector, nobody}
 use Rattle.colour_solver.specs.Masses.{carrier, standing}
 use Rattle.colour_solver.specs.Ticks as runs
-use Rattle.colour_solver.specs.Ticks.{Run, carry_all, clamp_all, pull_all, ran, run_of, start, turn_all}
+use Rattle.colour_solver.specs.Ticks.{Run, carry_all, clamp_all, pull_all, ran, run_of, start, visit_all}
 use Rattle.colour_solver.proofs.VectorLaws.{minus_same}
 use Rattle.plain_world.specs.declared.body.Body.{Body}
 use Rattle.plain_world.specs.declared.joint.BodyJoint.{BodyJoint}
@@ -48,11 +48,11 @@ use Rattle.plain_world.specs.Bodies.{is_awake, is_carried}
 use Rattle.world_core_base.specs.Carried.{solver_mass}
 use Rattle.world_core_base.specs.ConstraintRows.{constraint_row, rows_in, rows_of}
 use Rattle.world_core_base.specs.Gather.{bodies_of, state_of, states_of}
-use Rattle.world_core_base.specs.Solving.{Moving, Solving, Turns, all_changed, carried_on, begin, bounce, carry, motion_changed, clamp, gain, gain_of, gain_between, moving, moving_at, pass, pull, solve, solve_order, solved, state_with, tick, ticks, row_turn, turn_between, turn_joined, turn_joint, warm}
+use Rattle.world_core_base.specs.Solving.{Moving, Solving, Visits, all_changed, carried_on, begin, bounce, carry, motion_changed, clamp, gain, gain_of, gain_between, moving, moving_at, pass, pull, solve, solve_order, solved, state_with, tick, ticks, row_visit, visit_between, visit_joined, visit_joint, warm}
 use Rattle.world_core_base.specs.SolvingArrays.{CanSolve, HasEnds}
 use Rattle.world_core_base.proofs.GatherLaws.{carried_state, mass_carried}
 use Rattle.world_core_base.proofs.SolvingJoints.{all_ends_as, bare_joints}
-use Rattle.world_core_base.proofs.SolvingTurns.{AreOnce, IsJointTurnBare, IsPassed, IsTurnAlike, bare_turn, held, pass_alike, rows_now, stood, stood_turn}
+use Rattle.world_core_base.proofs.SolvingVisits.{AreOnce, IsJointVisitBare, IsPassed, IsVisitAlike, bare_visit, held, pass_alike, rows_now, stood, stood_visit}
 
 -- the run that a solving is
 abbrev pub run_in : List (Option Body) → List Constraint → Solving → Run
@@ -82,45 +82,45 @@ record AreBookedAlike (s t : Solving) : Type 0 where
   gravity : t.sums.gravity ≡ s.sums.gravity
   clamp : t.sums.clamp ≡ s.sums.clamp
 
-booked_turn : (f : Turns) (s : Solving) (id : Constraint) → AreBookedAlike s (row_turn f s id)
-booked_turn f s (constraints.Joint h) = by (joint_at s.joints h.slot)
+booked_visit : (f : Visits) (s : Solving) (id : Constraint) → AreBookedAlike s (row_visit f s id)
+booked_visit f s (constraints.Joint h) = by (joint_at s.joints h.slot)
   where
-    between : (j : BodyJoint) (a b : Option Moving) → AreBookedAlike s (turn_joined f s h.slot j a b)
+    between : (j : BodyJoint) (a b : Option Moving) → AreBookedAlike s (visit_joined f s h.slot j a b)
     between j None b = record { gravity = refl; clamp = refl }
     between j (Some a) None = record { gravity = refl; clamp = refl }
     between j (Some a) (Some b) = record { gravity = refl; clamp = refl }
 
-    by : (o : Option BodyJoint) → AreBookedAlike s (turn_joint f s h.slot o)
+    by : (o : Option BodyJoint) → AreBookedAlike s (visit_joint f s h.slot o)
     by None = record { gravity = refl; clamp = refl }
     by (Some j) = between j (moving_at s.bodies j.a) (moving_at s.bodies j.b)
-booked_turn f s (constraints.Contact key) = by (lookup s.contacts key) (moving_at s.bodies key.first.slot) (moving_at s.bodies key.second.slot)
+booked_visit f s (constraints.Contact key) = by (lookup s.contacts key) (moving_at s.bodies key.first.slot) (moving_at s.bodies key.second.slot)
   where
-    by : (o : Option ContactEntry) (a b : Option Moving) → AreBookedAlike s (turn_between f s key o a b)
+    by : (o : Option ContactEntry) (a b : Option Moving) → AreBookedAlike s (visit_between f s key o a b)
     by None a b = record { gravity = refl; clamp = refl }
     by (Some e) None b = record { gravity = refl; clamp = refl }
     by (Some e) (Some a) None = record { gravity = refl; clamp = refl }
     by (Some e) (Some a) (Some b) = record { gravity = refl; clamp = refl }
 
-booked_pass : (f : Turns) (order : List Constraint) (s : Solving) → AreBookedAlike s (pass f order s)
+booked_pass : (f : Visits) (order : List Constraint) (s : Solving) → AreBookedAlike s (pass f order s)
 booked_pass f [] s = record { gravity = refl; clamp = refl }
 booked_pass f (id ∷ order) s =
-    let first : AreBookedAlike s (row_turn f s id) = booked_turn f s id in
-    let rest : AreBookedAlike (row_turn f s id) (pass f order (row_turn f s id)) = booked_pass f order (row_turn f s id) in
+    let first : AreBookedAlike s (row_visit f s id) = booked_visit f s id in
+    let rest : AreBookedAlike (row_visit f s id) (pass f order (row_visit f s id)) = booked_pass f order (row_visit f s id) in
     record { gravity = rest.gravity ∙ first.gravity; clamp = rest.clamp ∙ first.clamp }
 
-stays_pass : (f : Turns) (bodies : List (Option Body)) (joints : List (Option BodyJoint)) (order : List Constraint) (s : Solving) → IsJointTurnBare f → IsOf bodies joints s → IsOf bodies joints (pass f order s)
+stays_pass : (f : Visits) (bodies : List (Option Body)) (joints : List (Option BodyJoint)) (order : List Constraint) (s : Solving) → IsJointVisitBare f → IsOf bodies joints s → IsOf bodies joints (pass f order s)
 stays_pass f bodies joints [] s law of = of
-stays_pass f bodies joints (id ∷ order) s law of = stays_pass f bodies joints order (row_turn f s id) law (record { stands = stood_turn f s id ∙ of.stands; barely = bare_turn f s id law ∙ of.barely })
+stays_pass f bodies joints (id ∷ order) s law of = stays_pass f bodies joints order (row_visit f s id) law (record { stands = stood_visit f s id ∙ of.stands; barely = bare_visit f s id law ∙ of.barely })
 
 ends_of_all : (bodies : List (Option Body)) (joints : List (Option BodyJoint)) (order : List Constraint) (s : Solving) → IsOf bodies joints s → All (HasEnds bodies joints) order → All (HasEnds (stood s.bodies) s.joints) order
 ends_of_all bodies joints order s of there =
     all_ends_as (stood s.bodies) joints s.joints order (sym of.barely) (subst (λ (l : List (Option Body)). All (HasEnds l joints) order) (sym of.stands) there)
 
-same_turns : (f : Turns) (k : JointRow → Ends → JointAfter) (g : ContactRow → Ends → RowAfter ContactRow) (bodies : List (Option Body)) (joints : List (Option BodyJoint)) (order : List Constraint) → IsTurnAlike f k g → AreOnce order → All (HasEnds bodies joints) order
-    → IsSamePass bodies joints order (turn_all (either_turn k g)) (pass f order)
-same_turns f k g bodies joints order law once there = record {
+same_visits : (f : Visits) (k : JointRow → Ends → JointAfter) (g : ContactRow → Ends → RowAfter ContactRow) (bodies : List (Option Body)) (joints : List (Option BodyJoint)) (order : List Constraint) → IsVisitAlike f k g → AreOnce order → All (HasEnds bodies joints) order
+    → IsSamePass bodies joints order (visit_all (either_visit k g)) (pass f order)
+same_visits f k g bodies joints order law once there = record {
   run = λ s e.
-      let h : IsPassed (either_turn k g) (states_of bodies) (map held s.bodies) (rows_now (states_of bodies) s order) s.sums.immovable order (pass f order s) =
+      let h : IsPassed (either_visit k g) (states_of bodies) (map held s.bodies) (rows_now (states_of bodies) s order) s.sums.immovable order (pass f order s) =
       pass_alike f k g order s (states_of bodies) (map held s.bodies) law once (ends_of_all bodies joints order s e there) (ap states_of (sym e.stands)) refl in
       let booked : AreBookedAlike s (pass f order s) = booked_pass f order s in
       λ j. record {
@@ -264,7 +264,7 @@ joint_solve_moved begun now j h =
     masses_then begun now (solve.joint j begun now).ends h
     (solved_masses (joint_line j begun) (joint_bias (joint_stretch j begun +ℤ parted_along (direction_along (joint_gap j begun)) now)) (neg_ℤ MAX_JOINT_IMPULSE) MAX_JOINT_IMPULSE j.impulse now)
 
-warm_alike : IsTurnAlike warm joint_warmed row_warmed
+warm_alike : IsVisitAlike warm joint_warmed row_warmed
 warm_alike = record {
   alike = λ key e begun now r is h. rows_are_contacts.warm (bodies_of key e.surface) begun now e.contact r is h;
   idle = warm_idle;
@@ -273,7 +273,7 @@ warm_alike = record {
   joint_bare = λ j begun now. refl;
 }
 
-solve_alike : IsTurnAlike solve joint_solved row_solved
+solve_alike : IsVisitAlike solve joint_solved row_solved
 solve_alike = record {
   alike = λ key e begun now r is h. rows_are_contacts.solve (bodies_of key e.surface) begun now e.contact r is h;
   idle = solve_idle;
@@ -282,7 +282,7 @@ solve_alike = record {
   joint_bare = λ j begun now. refl;
 }
 
-bounce_alike : IsTurnAlike bounce joint_unbounced row_bounced
+bounce_alike : IsVisitAlike bounce joint_unbounced row_bounced
 bounce_alike = record {
   alike = λ key e begun now r is h. rows_are_contacts.bounce (bodies_of key e.surface) begun now e.contact r is h;
   idle = bounce_idle;
@@ -298,8 +298,8 @@ unfolding runs.tick
 same_tick g bodies joints order once there =
     then_pass bodies joints order _ _ _ _ (same_pull g bodies joints order)
     (then_pass bodies joints order _ _ _ _ (same_clamp speed_clamped bodies joints order)
-    (then_pass bodies joints order _ _ _ _ (same_turns warm joint_warmed row_warmed bodies joints order warm_alike once there)
-    (then_pass bodies joints order _ _ _ _ (same_turns solve joint_solved row_solved bodies joints order solve_alike once there)
+    (then_pass bodies joints order _ _ _ _ (same_visits warm joint_warmed row_warmed bodies joints order warm_alike once there)
+    (then_pass bodies joints order _ _ _ _ (same_visits solve joint_solved row_solved bodies joints order solve_alike once there)
     (then_pass bodies joints order _ _ _ _ (same_clamp speed_clamped bodies joints order)
     (then_pass bodies joints order _ _ _ _ (same_clamp advanced bodies joints order) (same_carry bodies joints order))))))
 
@@ -313,7 +313,7 @@ same_ticks (suc n) g bodies joints order once there = then_pass bodies joints or
 same_ran : (n : ℕ) (g : Vec2) (bodies : List (Option Body)) (joints : List (Option BodyJoint)) (order : List Constraint) → AreOnce order → All (HasEnds bodies joints) order → IsSamePass bodies joints order (ran n g) (λ s. pass bounce order (ticks n g order s))
 unfolding ran
 same_ran n g bodies joints order once there =
-    then_pass bodies joints order (runs.ticks n g) (turn_all constraint_bounced) (ticks n g order) (pass bounce order) (same_ticks n g bodies joints order once there) (same_turns bounce joint_unbounced row_bounced bodies joints order bounce_alike once there)
+    then_pass bodies joints order (runs.ticks n g) (visit_all constraint_bounced) (ticks n g order) (pass bounce order) (same_ticks n g bodies joints order once there) (same_visits bounce joint_unbounced row_bounced bodies joints order bounce_alike once there)
 
 -- ---- what a step begins with
 

@@ -8,7 +8,8 @@ use Rattle.contacts_base.specs.declared.evaluation.Impulses.{Impulses}
 use Rattle.contacts_base.specs.declared.surface.Surface.{Surface}
 use Rattle.contacts_base.specs.Surfaces.{IsSurface}
 use Rattle.contacts_base.specs.declared.contact.ContactEntry.{ContactEntry}
-use Rattle.contacts_base.specs.Contacts.{impulses_given, lookup, with_points}
+use Rattle.contacts_base.specs.Contacts.{lookup}
+use Rattle.contacts_base.specs.ContactLists.{impulses_given, with_points}
 use Rattle.contacts_base.specs.Limits.{IsContact}
 use Rattle.contacts.specs.declared.constraint.Constraint.{Constraint}
 use Rattle.contacts.specs.declared.constraint.Constraint.TheVariants as constraints

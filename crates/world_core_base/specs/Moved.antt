@@ -1,7 +1,7 @@
 -- A body as the ticks have left it: its motion given back, and then its fat boxes.
 use Rattle.std.specs.Prelude.{◌≡◌, true, Option, option_map}
 use Rattle.momenta.specs.declared.state.BodyState.{BodyState}
-use Rattle.momenta.specs.Impulses.{IsState}
+use Rattle.momenta.specs.ImpulseBounds.{IsState}
 use Rattle.colour_solver.specs.States.{HasCourse}
 use Rattle.plain_world.specs.declared.body.Body.{Body}
 use Rattle.plain_world.specs.Bodies.{IsBody, is_carried}

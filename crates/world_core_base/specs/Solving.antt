@@ -88,26 +88,26 @@ given_by_immovable before after = cond before.a.movable (cond before.b.movable n
 -- ---- the turn of one constraint
 
 -- What a pass does at a joint, and what at a contact: each is told how its bodies stood when the step began, and how they are now.
-pub record Turns : Type 0 where
+pub record Visits : Type 0 where
   pub joint : Joint → Ends → Ends → SolvedJoint
   pub contact : ContactEntry → Ends → Ends → SolvedContact
 
 -- the warm start: the kept impulses are given once more
-abbrev pub warm : Turns
+abbrev pub warm : Visits
 warm = record {
   joint = λ j start now. joint_warmed start j now;
   contact = λ e start now. contact_warmed e.contact now;
 }
 
 -- the impulses of the solver: a joint's along the line of its anchors, and at a contact each point's along its normal, and then friction
-abbrev pub solve : Turns
+abbrev pub solve : Visits
 solve = record {
   joint = λ j start now. joint_solved start j now;
   contact = λ e start now. contact_solved e.surface.friction e.contact now;
 }
 
 -- restitution: a part of the speed at which the bodies of a contact came together when the step began is given back; a joint has none
-abbrev pub bounce : Turns
+abbrev pub bounce : Visits
 bounce = record {
   joint = λ j start now. record { joint = j; ends = now };
   contact = λ e start now. contact_bounced e.surface.restitution start e.contact now;
@@ -131,14 +131,14 @@ put_joint_back slot j a b solved s = record {
 }
 
 -- the turn of the joint in a slot, if it is there and both its bodies are
-abbrev pub turn_joined : Turns → Solving → ℕ → BodyJoint → Option Moving → Option Moving → Solving
-turn_joined f s slot j None b = s
-turn_joined f s slot j (Some a) None = s
-turn_joined f s slot j (Some a) (Some b) = put_joint_back slot j a b (f.joint j.joint (ends_then a b) (ends_now a b)) s
+abbrev pub visit_joined : Visits → Solving → ℕ → BodyJoint → Option Moving → Option Moving → Solving
+visit_joined f s slot j None b = s
+visit_joined f s slot j (Some a) None = s
+visit_joined f s slot j (Some a) (Some b) = put_joint_back slot j a b (f.joint j.joint (ends_then a b) (ends_now a b)) s
 
-abbrev pub turn_joint : Turns → Solving → ℕ → Option BodyJoint → Solving
-turn_joint f s slot None = s
-turn_joint f s slot (Some j) = turn_joined f s slot j (moving_at s.bodies j.a) (moving_at s.bodies j.b)
+abbrev pub visit_joint : Visits → Solving → ℕ → Option BodyJoint → Solving
+visit_joint f s slot None = s
+visit_joint f s slot (Some j) = visit_joined f s slot j (moving_at s.bodies j.a) (moving_at s.bodies j.b)
 
 -- the contact and its two bodies put back, and what an immovable one gave booked
 abbrev pub put_back : ContactKey → Moving → Moving → SolvedContact → Solving → Solving
@@ -150,16 +150,16 @@ put_back key a b solved s = record {
 }
 
 -- the turn of the contact, if it is there and both its bodies are
-abbrev pub turn_between : Turns → Solving → ContactKey → Option ContactEntry → Option Moving → Option Moving → Solving
-turn_between f s key None a b = s
-turn_between f s key (Some e) None b = s
-turn_between f s key (Some e) (Some a) None = s
-turn_between f s key (Some e) (Some a) (Some b) = put_back key a b (f.contact e (ends_then a b) (ends_now a b)) s
+abbrev pub visit_between : Visits → Solving → ContactKey → Option ContactEntry → Option Moving → Option Moving → Solving
+visit_between f s key None a b = s
+visit_between f s key (Some e) None b = s
+visit_between f s key (Some e) (Some a) None = s
+visit_between f s key (Some e) (Some a) (Some b) = put_back key a b (f.contact e (ends_then a b) (ends_now a b)) s
 
 -- the turn of a constraint
-abbrev pub row_turn : Turns → Solving → Constraint → Solving
-row_turn f s (constraints.Joint h) = turn_joint f s h.slot (joint_at s.joints h.slot)
-row_turn f s (constraints.Contact key) = turn_between f s key (lookup s.contacts key) (moving_at s.bodies key.first.slot) (moving_at s.bodies key.second.slot)
+abbrev pub row_visit : Visits → Solving → Constraint → Solving
+row_visit f s (constraints.Joint h) = visit_joint f s h.slot (joint_at s.joints h.slot)
+row_visit f s (constraints.Contact key) = visit_between f s key (lookup s.contacts key) (moving_at s.bodies key.first.slot) (moving_at s.bodies key.second.slot)
 
 -- ---- passes
 
@@ -168,8 +168,8 @@ abbrev pub solve_order : List (List Constraint) → List Constraint
 solve_order colours = flat_map (λ ids. ids) colours
 
 -- a pass over the active constraints: one turn after another
-abbrev pub pass : Turns → List Constraint → Solving → Solving
-pass f order s = fold (row_turn f) s order
+abbrev pub pass : Visits → List Constraint → Solving → Solving
+pass f order s = fold (row_visit f) s order
 
 -- an awake mover with its motion changed; any other body as it was
 abbrev pub motion_changed : (MassData → Motion → Motion) → Moving → Moving

@@ -15,7 +15,7 @@ use Rattle.plain_world.specs.declared.body.Body.{Body}
 use Rattle.plain_world.specs.declared.joint.BodyJoint.{BodyJoint}
 use Rattle.plain_world.specs.Joints.{joint_at}
 use Rattle.plain_world.specs.Slots.{body_at}
-use Rattle.colour_solver.specs.ConstraintTurns.{contacts_among, joints_among}
+use Rattle.colour_solver.specs.ConstraintVisits.{contacts_among, joints_among}
 use Rattle.world_core_base.specs.ConstraintRows.{rows_of, with_joint_rows}
 use Rattle.world_core_base.specs.Gather.{states_of, with_motions, with_rows}
 use Rattle.world_core_base.specs.Solving.{Solving, bodies_of, solve_order, solved}

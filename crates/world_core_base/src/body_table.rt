@@ -12,7 +12,7 @@ ghost use Rattle.colour_solver.specs.States.{AreAllStates, as_vector, is_carried
 ghost use Rattle.colour_solver.specs.Ticks.{AreSums, added, ran, run_of, start};
 ghost use Rattle.colour_solver.specs.Colour.{AreColours};
 ghost use Rattle.colour_solver.specs.ColourRows.{all_rows};
-ghost use Rattle.colour_solver.specs.ConstraintTurns.{AreRowsBelow};
+ghost use Rattle.colour_solver.specs.ConstraintVisits.{AreRowsBelow};
 ghost use Rattle.world_core_base.specs.Awake.{with_state};
 ghost use Rattle.world_core_base.specs.Listing.{IsRelisted};
 ghost use Rattle.plain_world.specs.Bodies.{AreBodies};
@@ -173,7 +173,7 @@ impl BodyTable {
 
     /// The awake movers' slots, ascending, where no edit of the list is put off.
     pub fn awake(&self) -> &[u32]
-        requires settled { self.now.pending ≡ 0 }
+        requires flushed { self.now.pending ≡ 0 }
         ensures { result.now ≡ places_from is_awake_in 0 self.now.bodies }
     {
         self.awake.as_slice()
@@ -181,7 +181,7 @@ impl BodyTable {
 
     /// The slots of the bodies that are carried along, ascending, where no edit of the list is put off.
     pub fn carried(&self) -> &[u32]
-        requires settled { self.now.pending ≡ 0 }
+        requires flushed { self.now.pending ≡ 0 }
         ensures { result.now ≡ places_from is_carried_in 0 self.now.bodies }
     {
         self.carried.as_slice()
@@ -400,13 +400,13 @@ impl BodyTable {
         requires bodies { AreBodies self.old.bodies }
         requires timers { AreTimersWithin (2 ^ 44) self.old.bodies }
         requires ticks { ticks ≤ 2 ^ 44 }
-        requires settled { self.old.pending ≡ 0 }
+        requires flushed { self.old.pending ≡ 0 }
         ensures bodies { self.new.bodies ≡ timed_bodies ticks self.old.bodies }
         ensures all_bodies { AreBodies self.new.bodies }
         ensures slots { HaveSameSlots self.old.bodies self.new.bodies }
         ensures standing { HaveSameStanding self.old.bodies self.new.bodies }
         ensures marked { AreMarked self.old self.new }
-        ensures settled { self.new.pending ≡ 0 }
+        ensures flushed { self.new.pending ≡ 0 }
     {
         self.room = 0;
         time_bodies(&mut self.bodies, self.awake.as_slice(), ticks);
@@ -429,7 +429,7 @@ impl BodyTable {
         requires rows { AreRowsBelow (length self.old.bodies) (all_rows rows.old) }
         requires apart { AreColours (states_of self.old.bodies) rows.old }
         requires count { count ≤ 8 }
-        requires settled { self.old.pending ≡ 0 }
+        requires flushed { self.old.pending ≡ 0 }
         ensures run { run_of (ran count gravity (start (states_of self.old.bodies) (all_rows rows.old))).states (all_rows rows.new) result ≡ ran count gravity (start (states_of self.old.bodies) (all_rows rows.old)) }
         ensures bodies { self.new.bodies ≡ renewed_bodies (with_motions self.old.bodies (ran count gravity (start (states_of self.old.bodies) (all_rows rows.old))).states) }
         ensures rows { AreRowsBelow (length self.old.bodies) (all_rows rows.new) }
@@ -439,7 +439,7 @@ impl BodyTable {
         ensures small { AreSums (2 ^ 83) result }
         ensures momentum { momentum self.new.bodies ≡ plus (momentum self.old.bodies) (added result) }
         ensures marked { AreMarked self.old self.new }
-        ensures settled { self.new.pending ≡ 0 }
+        ensures flushed { self.new.pending ≡ 0 }
     {
         self.room = 0;
         let sums = solver.run_step(

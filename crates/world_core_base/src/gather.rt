@@ -5,11 +5,11 @@ ghost use Rattle.std.specs.Option.{ForSome, option_to_list};
 ghost use Rattle.contacts_base.specs.Keys.{key_number};
 ghost use Rattle.contacts_base.specs.Split.{contacts_in};
 ghost use Rattle.contacts.specs.Constraints.{constraint_number};
-ghost use Rattle.momenta.specs.Impulses.{AreStates};
+ghost use Rattle.momenta.specs.ImpulseBounds.{AreStates};
 ghost use Rattle.colour_solver_base.specs.Rows.{AreSurfaces};
 ghost use Rattle.colour_solver.specs.States.{AreAllStates};
 ghost use Rattle.colour_solver.specs.ColourRows.{all_rows};
-ghost use Rattle.colour_solver.specs.ConstraintTurns.{AreRowsBelow, IsRowBelow, contacts_among};
+ghost use Rattle.colour_solver.specs.ConstraintVisits.{AreRowsBelow, IsRowBelow, contacts_among};
 ghost use Rattle.colour_solver.specs.declared.constraint_row.ConstraintRow.TheVariants as kinds;
 ghost use Rattle.graph_colours.specs.Colours.{all_members};
 ghost use Rattle.graph_colours.specs.Members.{AreRising};
@@ -303,7 +303,7 @@ pub fn gather_rows(
     places: &mut Vec<usize>,
     colours: &Colours<Constraint>,
 )
-    requires settled { colours.now.pending ≡ 0 }
+    requires flushed { colours.now.pending ≡ 0 }
     requires all_states { AreAllStates states.now }
     requires joints { All (HaveJointsOn states.now joints.now) colours.now.lists }
     requires contacts { AreContactsOn states.now (contacts_in contacts.now) }

@@ -5,7 +5,7 @@
 ghost use Rattle.std.specs.Prelude.{◌≡◌, ◌<◌, ◌≤◌, ◌+◌, ◌*◌, ◌/◌, ◌↔◌, ℕ, List, Option as TheOption, IfOk, OnOk, Contains, None, length, slice_set};
 ghost use Rattle.std.specs.List.Sorted.{IsStrictlyIncreasing};
 ghost use Rattle.std.specs.Result.{IsOkUnless};
-ghost use Rattle.body_handles.specs.declared.places.TheConstants.{MAX_SLOTS};
+ghost use Rattle.body_handles.specs.declared.slot_table.TheConstants.{MAX_SLOTS};
 ghost use Rattle.packed_sets.specs.Packs.{IsAbsent, list_at};
 ghost use Rattle.plain_world.specs.declared.joint.BodyJoint.{BodyJoint as TheJoint};
 ghost use Rattle.world_core_base.specs.JointEnds.{AreEnds, AreNoted, HasRoomAt, HasRoomFor, ends_of, halves};

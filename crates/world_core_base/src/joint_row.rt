@@ -3,7 +3,7 @@
 ghost use Rattle.std.specs.Prelude.{◌≡◌, ◌<◌, length};
 ghost use Rattle.std.specs.Option.{ForSome};
 ghost use Rattle.joint_rows.specs.Rows.{IsJointRow};
-ghost use Rattle.momenta.specs.Impulses.{AreStates};
+ghost use Rattle.momenta.specs.ImpulseBounds.{AreStates};
 ghost use Rattle.colour_solver.specs.States.{AreAllStates};
 ghost use Rattle.plain_world.specs.Joints.{joint_at};
 ghost use Rattle.world_core_base.specs.ConstraintRows.{IsJointOn, IsJointThere, joint_bodies, joint_ends, joint_row_in};

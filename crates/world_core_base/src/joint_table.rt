@@ -4,7 +4,7 @@ mod from_joints;
 
 ghost use Rattle.std.specs.Prelude.{◌≡◌, ◌≤◌, ◌<◌, ◌/◌, ℕ, [], true, Contains, IfOk, None, OnOk, Some, length, option_map, slice_index_or, slice_set, vec_len};
 ghost use Rattle.std.specs.Result.{IsOkUnless};
-ghost use Rattle.body_handles.specs.declared.places.TheConstants.{MAX_SLOTS};
+ghost use Rattle.body_handles.specs.declared.slot_table.TheConstants.{MAX_SLOTS};
 ghost use Rattle.plain_world.specs.Joints.{forbidden_pairs, idle_if, idle_joints, is_end_in, joint_at};
 ghost use Rattle.plain_world.specs.InSlots.{impulse_set, with_impulse};
 ghost use Rattle.world_core_base.specs.JointTables.{own_slots};

@@ -54,7 +54,7 @@ pub(crate) struct SlotList {
     // For how many bodies in all there is room.
     capacity: usize,
     // Whether the list is up to date.
-    settled: bool,
+    flushed: bool,
 }
 
 impl Model for SlotList {
@@ -63,7 +63,7 @@ impl Model for SlotList {
 
     ghost Value = { Listing };
 
-    ghost view = { λ a. record { slots = a.slots.items; added = a.added.items; capacity = a.capacity; pending = cond a.settled 0 1 } };
+    ghost view = { λ a. record { slots = a.slots.items; added = a.added.items; capacity = a.capacity; pending = cond a.flushed 0 1 } };
 
     ghost invariant = { λ a. IsSlotList a.slots.items a.capacity (vec_capacity a.slots) (vec_capacity a.spare) };
 }
@@ -118,7 +118,7 @@ impl SlotList {
             added: Vec::new(alloc),
             spare: Vec::new(alloc),
             capacity: 0,
-            settled: true,
+            flushed: true,
         }
     }
 
@@ -141,7 +141,7 @@ impl SlotList {
             added: Vec::with_capacity(alloc, states.len())?,
             spare: Vec::with_capacity(alloc, states.len())?,
             capacity: states.len(),
-            settled: true,
+            flushed: true,
         })
     }
 
@@ -158,7 +158,7 @@ impl SlotList {
             added: copy_in_room(alloc, &self.added, n)?,
             spare: Vec::with_capacity(alloc, n)?,
             capacity: n,
-            settled: self.settled,
+            flushed: self.flushed,
         })
     }
 
@@ -194,7 +194,7 @@ impl SlotList {
     {
         list_group(&mut self.slots, group, states);
         self.added.clear();
-        self.settled = true;
+        self.flushed = true;
     }
 
     /// Lists the slot, where a body of the group is in it now, or takes it out: that is put off, but for where there is no room left to note it. Takes
@@ -206,7 +206,7 @@ impl SlotList {
         ensures capacity { self.new.capacity ≡ self.old.capacity }
     {
         if note(&mut self.added, group, states, slot) {
-            self.settled = false;
+            self.flushed = false;
         } else {
             self.list_anew(group, states);
         }
@@ -232,7 +232,7 @@ impl SlotList {
         ensures pending { self.new.pending ≡ 0 }
         ensures capacity { self.new.capacity ≡ self.old.capacity }
     {
-        if self.settled {
+        if self.flushed {
             return;
         }
         renew(
@@ -242,6 +242,6 @@ impl SlotList {
             group,
             states,
         );
-        self.settled = true;
+        self.flushed = true;
     }
 }

@@ -9,7 +9,7 @@ ghost use Rattle.world_digest.specs.Digests.{digest_of};
 ghost use Rattle.serde_json.specs.Written.{compact_text};
 ghost use Rattle.world_file.specs.Files.{value_of};
 ghost use Rattle.world_queries.specs.Limits.{is_region};
-ghost use Rattle.world_queries.specs.Placed.{placed_shapes};
+ghost use Rattle.world_queries.specs.Posed.{posed_shapes};
 ghost use Rattle.world_rules.specs.Apply.{IsMade, empty_world, gravity_refusal};
 ghost use Rattle.world_rules.specs.World.{book_of};
 
@@ -83,7 +83,7 @@ impl Desk {
     /// Keeps the shapes over a region, in u. Refused 5 where its corners are beyond their limits or exchanged, else 1 where memory is wanting;
     /// what was kept then stays.
     pub fn region(&mut self, alloc: Global, bounds: &Box2) -> Result<(), Refusal>
-        ensures found { OnOk result (self.new.found.items ≡ region bounds.now (placed_shapes self.old.world.plain.bodies)) }
+        ensures found { OnOk result (self.new.found.items ≡ region bounds.now (posed_shapes self.old.world.plain.bodies)) }
         ensures allowed { OnOk result (is_region bounds.now ≡ true) }
         ensures world { self.new.world ≡ self.old.world }
         ensures refused { OnErr result (self.new ≡ self.old) }

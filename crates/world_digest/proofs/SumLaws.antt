@@ -9,34 +9,34 @@ absorbed_both s [] ys = refl
 absorbed_both s (x ∷ xs) ys = absorbed_both (absorbed s x) xs ys
 
 -- first one list is taken, and then the other
-pub told_both : (a b c : Sums) (xs ys : List ℕ) → b ≡ absorbed_all a xs → c ≡ absorbed_all b ys → c ≡ absorbed_all a (xs ++ ys)
-told_both a b c xs ys first then_ = then_ ∙ ap (λ s. absorbed_all s ys) first ∙ sym (absorbed_both a xs ys)
+pub fed_both : (a b c : Sums) (xs ys : List ℕ) → b ≡ absorbed_all a xs → c ≡ absorbed_all b ys → c ≡ absorbed_all a (xs ++ ys)
+fed_both a b c xs ys first then_ = then_ ∙ ap (λ s. absorbed_all s ys) first ∙ sym (absorbed_both a xs ys)
 
 -- and so on
-pub told_three : (s a b c : Sums) (ws xs ys : List ℕ) → a ≡ absorbed_all s ws → b ≡ absorbed_all a xs → c ≡ absorbed_all b ys → c ≡ absorbed_all s (ws ++ xs ++ ys)
-told_three s a b c ws xs ys h i j = told_both s b c (ws ++ xs) ys (told_both s a b ws xs h i) j
+pub fed_three : (s a b c : Sums) (ws xs ys : List ℕ) → a ≡ absorbed_all s ws → b ≡ absorbed_all a xs → c ≡ absorbed_all b ys → c ≡ absorbed_all s (ws ++ xs ++ ys)
+fed_three s a b c ws xs ys h i j = fed_both s b c (ws ++ xs) ys (fed_both s a b ws xs h i) j
 
-pub told_four : (s a b c d : Sums) (ws xs ys zs : List ℕ) → a ≡ absorbed_all s ws → b ≡ absorbed_all a xs → c ≡ absorbed_all b ys → d ≡ absorbed_all c zs → d ≡ absorbed_all s (ws ++ xs ++ ys ++ zs)
-told_four s a b c d ws xs ys zs h i j k = told_both s c d (ws ++ xs ++ ys) zs (told_three s a b c ws xs ys h i j) k
+pub fed_four : (s a b c d : Sums) (ws xs ys zs : List ℕ) → a ≡ absorbed_all s ws → b ≡ absorbed_all a xs → c ≡ absorbed_all b ys → d ≡ absorbed_all c zs → d ≡ absorbed_all s (ws ++ xs ++ ys ++ zs)
+fed_four s a b c d ws xs ys zs h i j k = fed_both s c d (ws ++ xs ++ ys) zs (fed_three s a b c ws xs ys h i j) k
 
-pub told_six : (s a b c d e f : Sums) (us vs ws xs ys zs : List ℕ) → a ≡ absorbed_all s us → b ≡ absorbed_all a vs → c ≡ absorbed_all b ws → d ≡ absorbed_all c xs → e ≡ absorbed_all d ys → f ≡ absorbed_all e zs
+pub fed_six : (s a b c d e f : Sums) (us vs ws xs ys zs : List ℕ) → a ≡ absorbed_all s us → b ≡ absorbed_all a vs → c ≡ absorbed_all b ws → d ≡ absorbed_all c xs → e ≡ absorbed_all d ys → f ≡ absorbed_all e zs
     → f ≡ absorbed_all s (us ++ vs ++ ws ++ xs ++ ys ++ zs)
-told_six s a b c d e f us vs ws xs ys zs h i j k l m = told_three s d e f (us ++ vs ++ ws ++ xs) ys zs (told_four s a b c d us vs ws xs h i j k) l m
+fed_six s a b c d e f us vs ws xs ys zs h i j k l m = fed_three s d e f (us ++ vs ++ ws ++ xs) ys zs (fed_four s a b c d us vs ws xs h i j k) l m
 
 -- a list is taken that is another by an equation
-pub told_list : {T : Type 0} (words : T → List ℕ) (xs ys : List T) (s t : Sums) → xs ≡ ys → t ≡ absorbed_all s (list_words words xs) → t ≡ absorbed_all s (list_words words ys)
-told_list words xs ys s t same told = told ∙ ap (λ zs. absorbed_all s (list_words words zs)) same
+pub fed_list : {T : Type 0} (words : T → List ℕ) (xs ys : List T) (s t : Sums) → xs ≡ ys → t ≡ absorbed_all s (list_words words xs) → t ≡ absorbed_all s (list_words words ys)
+fed_list words xs ys s t same fed = fed ∙ ap (λ zs. absorbed_all s (list_words words zs)) same
 
 rest_at : {T : Type 0} (xs : List T) (k : ℕ) (x : T) → k < length xs → x ≡ slice_index_or xs k x → drop k xs ≡ x ∷ drop (k + 1) xs
 rest_at xs k x low is = drop-cons xs k x low ∙ rw (add-one, ← is) refl
 
 -- one item more of a list is taken
-pub told_more : {T : Type 0} (words : T → List ℕ) (xs : List T) (k : ℕ) (x : T) (all s t : Sums)
+pub fed_more : {T : Type 0} (words : T → List ℕ) (xs : List T) (k : ℕ) (x : T) (all s t : Sums)
     → k < length xs → x ≡ slice_index_or xs k x → t ≡ absorbed_all s (words x)
     → absorbed_all s (flat_map words (drop k xs)) ≡ all
     → absorbed_all t (flat_map words (drop (k + 1) xs)) ≡ all
-told_more words xs k x all s t low is told known =
-    ap (λ u. absorbed_all u (flat_map words (drop (k + 1) xs))) told
+fed_more words xs k x all s t low is fed known =
+    ap (λ u. absorbed_all u (flat_map words (drop (k + 1) xs))) fed
     ∙ sym (absorbed_both s (words x) (flat_map words (drop (k + 1) xs)))
     ∙ ap (λ l. absorbed_all s (flat_map words l)) (sym (rest_at xs k x low is))
     ∙ known

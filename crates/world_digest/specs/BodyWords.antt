@@ -2,7 +2,7 @@
 use Rattle.std.specs.Prelude.{ℕ, ◌+◌, ◌++◌, List, [], ◌∷◌, Option, Some, None}
 use Rattle.fixed_geom.specs.declared.boxes.Box2.{Box2}
 use Rattle.fixed_geom.specs.declared.vectors.Vec2.{Vec2}
-use Rattle.body_handles.specs.declared.places.Place.{Place}
+use Rattle.body_handles.specs.declared.slot_table.SlotEntry.{SlotEntry}
 use Rattle.islands.specs.declared.label.IslandState.{IslandState}
 use Rattle.islands.specs.declared.label.IslandState.TheVariants.{Whole, Loose, Asleep}
 use Rattle.islands.specs.declared.label.Label.{Label}
@@ -23,8 +23,8 @@ abbrev pub vector_words : Vec2 → List ℕ
 vector_words v = integer_word v.x ∷ integer_word v.y ∷ []
 
 -- a slot: at which generation it stands, and whether it is given out
-abbrev pub place_words : Place → List ℕ
-place_words p = p.generation ∷ truth_word p.live ∷ []
+abbrev pub slot_entry_words : SlotEntry → List ℕ
+slot_entry_words p = p.generation ∷ truth_word p.live ∷ []
 
 abbrev pub form_word : Shape → ℕ
 form_word (Circle center radius) = 0

@@ -5,7 +5,7 @@ use Rattle.impulse_ledger.specs.declared.totals.Total.{Total}
 use Rattle.impulse_ledger.specs.declared.totals.Totals.{Totals}
 use Rattle.plain_world.specs.Plain.{Plain}
 use Rattle.sha2.specs.Sha256.{sha256}
-use Rattle.world_digest.specs.BodyWords.{body_words, label_words, place_words, vector_words}
+use Rattle.world_digest.specs.BodyWords.{body_words, label_words, slot_entry_words, vector_words}
 use Rattle.world_digest.specs.ConstraintWords.{colours_words, contact_words, joint_words}
 use Rattle.world_digest.specs.Sums.{absorbed_all, bytes_of, first_sums, list_words, option_words, wide_words}
 
@@ -17,7 +17,7 @@ totals_words t = total_words t.command ++ total_words t.gravity ++ total_words t
 
 -- what stands in the slots of bodies and of joints
 abbrev pub slots_words : Plain → List ℕ
-slots_words p = list_words place_words p.places ++ list_words (option_words body_words) p.bodies ++ list_words place_words p.joint_places ++ list_words (option_words joint_words) p.joints
+slots_words p = list_words slot_entry_words p.slot_entries ++ list_words (option_words body_words) p.bodies ++ list_words slot_entry_words p.joint_entries ++ list_words (option_words joint_words) p.joints
 
 -- contacts, islands, and the constraints of each colour, those in the overflow last
 abbrev pub links_words : Plain → List ℕ

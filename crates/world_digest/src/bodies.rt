@@ -1,12 +1,12 @@
 //! Bodies and islands as words.
 
 ghost use Rattle.std.specs.Prelude.{◌≡◌};
-ghost use Rattle.world_digest.specs.BodyWords.{body_words, box_words, filter_words, form_word, form_words, island_state_word, kind_word, kind_words, label_words, mass_words, motion_words, place_words, shape_words, sleep_word, state_words, vector_words};
+ghost use Rattle.world_digest.specs.BodyWords.{body_words, box_words, filter_words, form_word, form_words, island_state_word, kind_word, kind_words, label_words, mass_words, motion_words, slot_entry_words, shape_words, sleep_word, state_words, vector_words};
 ghost use Rattle.world_digest.specs.Sums.{absorbed_all};
 
 use crate::sums::Sums;
-use crate::words::{Words, tell_all};
-use body_handles::Place;
+use crate::words::{Words, feed_all};
+use body_handles::SlotEntry;
 use fixed_geom::{Box2, Vec2};
 use islands::{IslandState, Label};
 use momenta::{MassData, Motion};
@@ -17,16 +17,16 @@ impl Words for Vec2 {
     ghost words = { λ v. vector_words v };
 
     #[inline(always)]
-    fn tell(&self, sums: &mut Sums) {
+    fn feed(&self, sums: &mut Sums) {
         sums.integer(self.x);
         sums.integer(self.y);
     }
 }
 
-impl Words for Place {
-    ghost words = { λ p. place_words p };
+impl Words for SlotEntry {
+    ghost words = { λ p. slot_entry_words p };
 
-    fn tell(&self, sums: &mut Sums) {
+    fn feed(&self, sums: &mut Sums) {
         sums.natural(u64::from(self.generation));
         sums.truth(self.live);
     }
@@ -55,10 +55,10 @@ fn form_word(shape: &Shape) -> u64
 impl Words for Shape {
     ghost words = { λ s. form_words s };
 
-    fn tell(&self, sums: &mut Sums) {
+    fn feed(&self, sums: &mut Sums) {
         sums.natural(form_word(self));
-        self.first_end().tell(sums);
-        self.second_end().tell(sums);
+        self.first_end().feed(sums);
+        self.second_end().feed(sums);
         sums.integer(self.radius());
     }
 }
@@ -66,7 +66,7 @@ impl Words for Shape {
 impl Words for Filter {
     ghost words = { λ f. filter_words f };
 
-    fn tell(&self, sums: &mut Sums) {
+    fn feed(&self, sums: &mut Sums) {
         sums.natural(self.category);
         sums.natural(self.mask);
         sums.integer(i64::from(self.group));
@@ -76,20 +76,20 @@ impl Words for Filter {
 impl Words for ShapeDef {
     ghost words = { λ d. shape_words d };
 
-    fn tell(&self, sums: &mut Sums) {
-        self.shape.tell(sums);
+    fn feed(&self, sums: &mut Sums) {
+        self.shape.feed(sums);
         sums.integer(self.friction);
         sums.integer(self.restitution);
-        self.filter.tell(sums);
+        self.filter.feed(sums);
     }
 }
 
 impl Words for Box2 {
     ghost words = { λ b. box_words b };
 
-    fn tell(&self, sums: &mut Sums) {
-        self.lo.tell(sums);
-        self.hi.tell(sums);
+    fn feed(&self, sums: &mut Sums) {
+        self.lo.feed(sums);
+        self.hi.feed(sums);
     }
 }
 
@@ -106,10 +106,10 @@ fn kind_word(kind: Kind) -> u64
 impl Words for Kind {
     ghost words = { λ k. kind_words k };
 
-    fn tell(&self, sums: &mut Sums) {
+    fn feed(&self, sums: &mut Sums) {
         let course = self.carried_by();
         sums.natural(kind_word(*self));
-        course.velocity.tell(sums);
+        course.velocity.feed(sums);
         sums.integer(course.spin);
     }
 }
@@ -118,10 +118,10 @@ impl Words for Motion {
     ghost words = { λ m. motion_words m };
 
     #[inline(always)]
-    fn tell(&self, sums: &mut Sums) {
-        self.p.tell(sums);
+    fn feed(&self, sums: &mut Sums) {
+        self.p.feed(sums);
         sums.wide(self.l);
-        self.x.tell(sums);
+        self.x.feed(sums);
         sums.integer(self.rot.c);
         sums.integer(self.rot.s);
     }
@@ -130,7 +130,7 @@ impl Words for Motion {
 impl Words for MassData {
     ghost words = { λ m. mass_words m };
 
-    fn tell(&self, sums: &mut Sums) {
+    fn feed(&self, sums: &mut Sums) {
         sums.integer(self.mass);
         sums.integer(self.inertia);
     }
@@ -146,7 +146,7 @@ fn sleep_word(asleep: Option<u32>) -> u64
 }
 
 /// Whether it is enabled, with whom it sleeps, and its timer.
-fn tell_state(body: &Body, sums: &mut Sums)
+fn feed_state(body: &Body, sums: &mut Sums)
     ensures { sums.new ≡ absorbed_all sums.old (state_words body.now) }
 {
     sums.truth(body.enabled);
@@ -157,13 +157,13 @@ fn tell_state(body: &Body, sums: &mut Sums)
 impl Words for Body {
     ghost words = { λ b. body_words b };
 
-    fn tell(&self, sums: &mut Sums) {
-        self.motion.tell(sums);
-        self.mass.tell(sums);
-        self.kind.tell(sums);
-        tell_state(self, sums);
-        tell_all(self.shapes.as_slice(), sums);
-        tell_all(self.fats.as_slice(), sums);
+    fn feed(&self, sums: &mut Sums) {
+        self.motion.feed(sums);
+        self.mass.feed(sums);
+        self.kind.feed(sums);
+        feed_state(self, sums);
+        feed_all(self.shapes.as_slice(), sums);
+        feed_all(self.fats.as_slice(), sums);
     }
 }
 
@@ -180,7 +180,7 @@ fn island_state_word(state: IslandState) -> u64
 impl Words for Label {
     ghost words = { λ l. label_words l };
 
-    fn tell(&self, sums: &mut Sums) {
+    fn feed(&self, sums: &mut Sums) {
         sums.natural(u64::from(self.name));
         sums.natural(island_state_word(self.state));
     }

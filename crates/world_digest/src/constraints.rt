@@ -7,7 +7,7 @@ ghost use Rattle.graph_colours.specs.declared.limits.TheConstants.{COLOURS};
 ghost use Rattle.std.specs.Prelude.{◌+◌};
 
 use crate::sums::Sums;
-use crate::words::{Words, tell_all};
+use crate::words::{Words, feed_all};
 use body_handles::Handle;
 use contacts::Constraint;
 use contacts_base::{ContactEntry, ContactKey, ContactPoint};
@@ -18,9 +18,9 @@ use plain_world::{BodyJoint, Plain};
 impl Words for Joint {
     ghost words = { λ j. row_joint_words j };
 
-    fn tell(&self, sums: &mut Sums) {
-        self.from.tell(sums);
-        self.to.tell(sums);
+    fn feed(&self, sums: &mut Sums) {
+        self.from.feed(sums);
+        self.to.feed(sums);
         sums.integer(self.length);
         sums.integer(self.impulse);
     }
@@ -29,18 +29,18 @@ impl Words for Joint {
 impl Words for BodyJoint {
     ghost words = { λ j. joint_words j };
 
-    fn tell(&self, sums: &mut Sums) {
+    fn feed(&self, sums: &mut Sums) {
         sums.natural(u64::from(self.a));
         sums.natural(u64::from(self.b));
         sums.truth(self.collide);
-        self.joint.tell(sums);
+        self.joint.feed(sums);
     }
 }
 
 impl Words for ContactKey {
     ghost words = { λ k. key_words k };
 
-    fn tell(&self, sums: &mut Sums) {
+    fn feed(&self, sums: &mut Sums) {
         sums.natural(self.first.number());
         sums.natural(self.second.number());
     }
@@ -50,11 +50,11 @@ impl Words for ContactPoint {
     ghost words = { λ p. point_words p };
 
     #[inline(always)]
-    fn tell(&self, sums: &mut Sums) {
-        self.normal.tell(sums);
+    fn feed(&self, sums: &mut Sums) {
+        self.normal.feed(sums);
         sums.integer(self.separation);
-        self.ra.tell(sums);
-        self.rb.tell(sums);
+        self.ra.feed(sums);
+        self.rb.feed(sums);
         sums.integer(self.normal_impulse);
         sums.integer(self.tangent_impulse);
         sums.natural(self.candidate);
@@ -64,20 +64,20 @@ impl Words for ContactPoint {
 impl Words for ContactEntry {
     ghost words = { λ e. contact_words e };
 
-    fn tell(&self, sums: &mut Sums) {
+    fn feed(&self, sums: &mut Sums) {
         let surface = self.surface.get();
-        self.key.tell(sums);
+        self.key.feed(sums);
         sums.integer(surface.friction);
         sums.integer(surface.restitution);
-        self.contact.first().tell(sums);
-        self.contact.second().tell(sums);
+        self.contact.first().feed(sums);
+        self.contact.second().feed(sums);
     }
 }
 
 impl Words for Handle {
     ghost words = { λ h. handle_words h };
 
-    fn tell(&self, sums: &mut Sums) {
+    fn feed(&self, sums: &mut Sums) {
         sums.natural(u64::from(self.slot));
         sums.natural(u64::from(self.generation));
     }
@@ -86,25 +86,25 @@ impl Words for Handle {
 impl Words for Constraint {
     ghost words = { λ c. constraint_words c };
 
-    fn tell(&self, sums: &mut Sums) {
+    fn feed(&self, sums: &mut Sums) {
         match self {
             Constraint::Joint(handle) => {
                 sums.natural(0);
-                handle.tell(sums);
+                handle.feed(sums);
             }
             Constraint::Contact(key) => {
                 sums.natural(1);
-                key.tell(sums);
+                key.feed(sums);
             }
         }
     }
 }
 
 /// The constraints of each colour, those in the overflow last.
-pub(crate) fn tell_colours(plain: &Plain, sums: &mut Sums)
+pub(crate) fn feed_colours(plain: &Plain, sums: &mut Sums)
     ensures { sums.new ≡ absorbed_all sums.old (colours_words plain.now.colours (COLOURS + 1)) }
 {
     for colour in 0..COLOURS + 1 {
-        tell_all(plain.members(colour), sums);
+        feed_all(plain.members(colour), sums);
     }
 }

@@ -4,16 +4,16 @@ ghost use Rattle.std.specs.Prelude.{◌≡◌};
 ghost use Rattle.world_digest.specs.Digests.{counts_words, digest_of, links_words, slots_words, total_words, totals_words, words_of};
 ghost use Rattle.world_digest.specs.Sums.{absorbed_all};
 
-use crate::constraints::tell_colours;
+use crate::constraints::feed_colours;
 use crate::sums::Sums;
-use crate::words::{Words, tell_all};
+use crate::words::{Words, feed_all};
 use impulse_ledger::{Total, Totals};
 use plain_world::Plain;
 
 impl Words for Total {
     ghost words = { λ t. total_words t };
 
-    fn tell(&self, sums: &mut Sums) {
+    fn feed(&self, sums: &mut Sums) {
         sums.wide(self.x);
         sums.wide(self.y);
     }
@@ -22,40 +22,40 @@ impl Words for Total {
 impl Words for Totals {
     ghost words = { λ t. totals_words t };
 
-    fn tell(&self, sums: &mut Sums) {
-        self.command.tell(sums);
-        self.gravity.tell(sums);
-        self.immovable.tell(sums);
-        self.clamp.tell(sums);
-        self.rest.tell(sums);
-        self.departed.tell(sums);
+    fn feed(&self, sums: &mut Sums) {
+        self.command.feed(sums);
+        self.gravity.feed(sums);
+        self.immovable.feed(sums);
+        self.clamp.feed(sums);
+        self.rest.feed(sums);
+        self.departed.feed(sums);
     }
 }
 
 /// What stands in the slots of bodies and of joints.
-fn tell_slots(plain: &Plain, sums: &mut Sums)
+fn feed_slots(plain: &Plain, sums: &mut Sums)
     ensures { sums.new ≡ absorbed_all sums.old (slots_words plain.now) }
 {
-    tell_all(plain.places(), sums);
-    tell_all(plain.bodies(), sums);
-    tell_all(plain.joint_places(), sums);
-    tell_all(plain.joints(), sums);
+    feed_all(plain.slot_entries(), sums);
+    feed_all(plain.bodies(), sums);
+    feed_all(plain.joint_entries(), sums);
+    feed_all(plain.joints(), sums);
 }
 
 /// Contacts, islands and colours.
-fn tell_links(plain: &Plain, sums: &mut Sums)
+fn feed_links(plain: &Plain, sums: &mut Sums)
     ensures { sums.new ≡ absorbed_all sums.old (links_words plain.now) }
 {
-    tell_all(plain.contacts(), sums);
-    tell_all(plain.islands(), sums);
-    tell_colours(plain, sums);
+    feed_all(plain.contacts(), sums);
+    feed_all(plain.islands(), sums);
+    feed_colours(plain, sums);
 }
 
 /// The gravity, and how many steps and calls were accepted.
-fn tell_counts(plain: &Plain, sums: &mut Sums)
+fn feed_counts(plain: &Plain, sums: &mut Sums)
     ensures { sums.new ≡ absorbed_all sums.old (counts_words plain.now) }
 {
-    plain.gravity().tell(sums);
+    plain.gravity().feed(sums);
     sums.natural(plain.steps());
     sums.natural(plain.calls());
 }
@@ -69,9 +69,9 @@ pub fn digest(plain: &Plain, totals: &Totals) -> [u8; 32]
     ensures { result ≡ digest_of plain.now totals.now }
 {
     let mut sums = Sums::new();
-    tell_slots(plain, &mut sums);
-    tell_links(plain, &mut sums);
-    tell_counts(plain, &mut sums);
-    totals.tell(&mut sums);
+    feed_slots(plain, &mut sums);
+    feed_links(plain, &mut sums);
+    feed_counts(plain, &mut sums);
+    totals.feed(&mut sums);
     sums.finish()
 }

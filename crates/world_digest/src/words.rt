@@ -11,17 +11,17 @@ pub(crate) trait Words {
     ghost words: { Self → List ℕ };
 
     /// Gives its words to the sums.
-    fn tell(&self, sums: &mut Sums)
+    fn feed(&self, sums: &mut Sums)
         ensures { sums.new ≡ absorbed_all sums.old (words self.now) };
 }
 
 /// The words of a list: how many items there are, and then the words of each.
-pub(crate) fn tell_all<T: Words>(items: &[T], sums: &mut Sums)
+pub(crate) fn feed_all<T: Words>(items: &[T], sums: &mut Sums)
     ensures { sums.new ≡ absorbed_all sums.old (list_words T.words items.now) }
 {
     sums.natural(items.len() as u64);
     for item in items {
-        item.tell(sums);
+        item.feed(sums);
     }
 }
 
@@ -29,12 +29,12 @@ pub(crate) fn tell_all<T: Words>(items: &[T], sums: &mut Sums)
 impl<T: Words> Words for Option<T> {
     ghost words = { λ o. option_words T.words o };
 
-    fn tell(&self, sums: &mut Sums) {
+    fn feed(&self, sums: &mut Sums) {
         match self {
             None => sums.natural(0),
             Some(item) => {
                 sums.natural(1);
-                item.tell(sums);
+                item.feed(sums);
             }
         }
     }

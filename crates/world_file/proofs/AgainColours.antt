@@ -9,7 +9,7 @@ use Rattle.std.proofs.lemmas.List.Elements.{All-head, All-tail}
 use Rattle.std.proofs.lemmas.List.Quantifiers.{position-Some}
 use Rattle.std.proofs.lemmas.List.Sums.{sum_by-append, sum_by-cons}
 use Rattle.std.proofs.lemmas.Option.{none-some}
-use Rattle.body_handles.specs.declared.places.Place.{Place}
+use Rattle.body_handles.specs.declared.slot_table.SlotEntry.{SlotEntry}
 use Rattle.contacts.proofs.Members.{Each, IsIn, each_append, each_in, in_append, in_from_contains, in_left, in_right}
 use Rattle.contacts.specs.Constraints.{constraint_number}
 use Rattle.contacts.specs.declared.constraint.Constraint.{Constraint}
@@ -17,9 +17,9 @@ use Rattle.contacts.specs.declared.constraint.Constraint.TheVariants.{Joint, Con
 use Rattle.contacts_base.specs.Contacts.{AreKeysRising, number_of}
 use Rattle.contacts_base.specs.Evaluate.{touches}
 use Rattle.contacts_base.specs.declared.contact.ContactEntry.{ContactEntry}
-use Rattle.graph_colours.specs.Colours as graph
+use Rattle.graph_colours.specs.FoundMembers.{colour_of, has_id}
 use Rattle.graph_colours.specs.Colours.{IsColouring, all_members, ids_of, list_at}
-use Rattle.graph_colours.specs.Members.{AreApart, has_id, is_free}
+use Rattle.graph_colours.specs.Members.{AreApart, is_free}
 use Rattle.graph_colours.specs.Movers.{shares}
 use Rattle.graph_colours.specs.declared.limits.TheConstants.{COLOURS}
 use Rattle.graph_colours.specs.declared.member.Member.{Member}
@@ -62,8 +62,8 @@ id_there : (c : Constraint) (ms : List (Member Constraint)) → has_id constrain
 unfolding has_id
 id_there c ms = any_id c ms
 
-colour_by_ids : (c : Constraint) (lists : List (List (Member Constraint))) → graph.colour_of constraint_number c lists ≡ plain.colour_of c (ids_of lists)
-unfolding graph.colour_of plain.colour_of
+colour_by_ids : (c : Constraint) (lists : List (List (Member Constraint))) → colour_of constraint_number c lists ≡ plain.colour_of c (ids_of lists)
+unfolding colour_of plain.colour_of
 colour_by_ids c lists =
     let ids : List (Member Constraint) → List Constraint = map (λ (m : Member Constraint). m.id) in
     let same : position_or_len (has_constraint c) (map ids lists) ≡ position_or_len (has_id constraint_number c) lists = found_in_map ids (has_constraint c) (has_id constraint_number c) lists (λ ms. sym (id_there c ms)) in
@@ -149,7 +149,7 @@ pub record AreGiven (ties : List Tie) (lists : List (List (Member Constraint))) 
   pub rises : Rises tie_number (members_among ties)
   pub there : (m : Member Constraint) → IsIn m (all_members lists) → IsIn m (members_among ties)
 
-colour_in : (ties : List Tie) (lists : List (List (Member Constraint))) (colours : List (List Constraint)) → AreGiven ties lists colours → (t : Tie) → IsIn t ties → t.colour ≡ graph.colour_of constraint_number t.member.id lists
+colour_in : (ties : List Tie) (lists : List (List (Member Constraint))) (colours : List (List Constraint)) → AreGiven ties lists colours → (t : Tie) → IsIn t ties → t.colour ≡ colour_of constraint_number t.member.id lists
 colour_in ties lists colours g t i = g.named t i ∙ ap (λ (ids : List (List Constraint)). plain.colour_of t.member.id ids) (sym g.ids) ∙ sym (colour_by_ids t.member.id lists)
 
 has_there : (id : Constraint) (ms : List (Member Constraint)) → has_id constraint_number id ms ≡ true → (y : Member Constraint) × IsIn y ms × (constraint_number y.id ≡ constraint_number id)
@@ -160,12 +160,12 @@ there_has : (id : Constraint) (x : Member Constraint) (ms : List (Member Constra
 unfolding has_id
 there_has id x ms i e = any_in (λ (m : Member Constraint). constraint_number m.id == constraint_number id) x ms i (eq-eqb (constraint_number x.id) (constraint_number id) e)
 
-found_at : (id : Constraint) (lists : List (List (Member Constraint))) (k : ℕ) → graph.colour_of constraint_number id lists ≡ Some k → (k < length lists) × (has_id constraint_number id (list_at lists k) ≡ true)
-unfolding graph.colour_of
+found_at : (id : Constraint) (lists : List (List (Member Constraint))) (k : ℕ) → colour_of constraint_number id lists ≡ Some k → (k < length lists) × (has_id constraint_number id (list_at lists k) ≡ true)
+unfolding colour_of
 found_at id lists k e = let o = position-Some (has_id constraint_number id) lists k [] e in (o.0, o.1)
 
-missed_at : (id : Constraint) (lists : List (List (Member Constraint))) (k : ℕ) → graph.colour_of constraint_number id lists ≡ None → k < length lists → has_id constraint_number id (list_at lists k) ≡ false
-unfolding graph.colour_of
+missed_at : (id : Constraint) (lists : List (List (Member Constraint))) (k : ℕ) → colour_of constraint_number id lists ≡ None → k < length lists → has_id constraint_number id (list_at lists k) ≡ false
+unfolding colour_of
 missed_at id lists k e lt = none_passes (has_id constraint_number id) lists e k [] lt
 
 member_there : (ties : List Tie) (t : Tie) → IsIn t ties → IsIn t.member (members_among ties)
@@ -287,16 +287,16 @@ colourless_by : (o : Option (Member Constraint)) (colour : Option ℕ) → (o �
 colourless_by None colour h = ap (λ (c : Option ℕ). is_none c) (h refl)
 colourless_by (Some m) colour h = refl
 
-pub joints_colourless : (bodies : List (Option Body)) (places : List Place) (colours : List (List Constraint)) (slot : ℕ) (ps : List Place) (js : List (Option BodyJoint))
-    → ((b : Bond) → IsIn b (joint_bonds_from slot ps js) → sets.tie_of bodies b ≡ None → plain.colour_of b.id colours ≡ None) → are_joints_colourless bodies slot ps (saved_joints places colours slot ps js) ≡ true
-joints_colourless bodies places colours slot [] js h = refl
-joints_colourless bodies places colours slot (p ∷ ps) [] h = refl
-joints_colourless bodies places colours slot (p ∷ ps) (None ∷ js) h = joints_colourless bodies places colours (suc slot) ps js h
-joints_colourless bodies places colours slot (p ∷ ps) (Some j ∷ js) h =
+pub joints_colourless : (bodies : List (Option Body)) (slot_entries : List SlotEntry) (colours : List (List Constraint)) (slot : ℕ) (ps : List SlotEntry) (js : List (Option BodyJoint))
+    → ((b : Bond) → IsIn b (joint_bonds_from slot ps js) → sets.tie_of bodies b ≡ None → plain.colour_of b.id colours ≡ None) → are_joints_colourless bodies slot ps (saved_joints slot_entries colours slot ps js) ≡ true
+joints_colourless bodies slot_entries colours slot [] js h = refl
+joints_colourless bodies slot_entries colours slot (p ∷ ps) [] h = refl
+joints_colourless bodies slot_entries colours slot (p ∷ ps) (None ∷ js) h = joints_colourless bodies slot_entries colours (suc slot) ps js h
+joints_colourless bodies slot_entries colours slot (p ∷ ps) (Some j ∷ js) h =
     let id : Constraint = Joint (record { slot = slot; generation = p.generation }) in
-    both_hold (is_colourless (tie_read (tie_with id (joint_movers bodies j)) (plain.colour_of id colours)) (plain.colour_of id colours)) (are_joints_colourless bodies (suc slot) ps (saved_joints places colours (suc slot) ps js))
+    both_hold (is_colourless (tie_read (tie_with id (joint_movers bodies j)) (plain.colour_of id colours)) (plain.colour_of id colours)) (are_joints_colourless bodies (suc slot) ps (saved_joints slot_entries colours (suc slot) ps js))
     (colourless_by (tie_with id (joint_movers bodies j)) (plain.colour_of id colours) (λ e. h (joint_bond (record { slot = slot; generation = p.generation }) j) (inl refl) e))
-    (joints_colourless bodies places colours (suc slot) ps js (λ b i e. h b (inr i) e))
+    (joints_colourless bodies slot_entries colours (suc slot) ps js (λ b i e. h b (inr i) e))
 
 -- the tie of a contact, if it touches and has movers
 abbrev pub touching_tie : List (Option Body) → ContactEntry → Option (Member Constraint)
@@ -345,14 +345,14 @@ one_named : (colours : List (List Constraint)) (id : Constraint) (o : Option Mov
 one_named colours id None = tt
 one_named colours id (Some m) = (refl, tt)
 
-joints_named : (bodies : List (Option Body)) (places : List Place) (colours : List (List Constraint)) (slot : ℕ) (ps : List Place) (js : List (Option BodyJoint)) → Each (IsNamed colours) (flat_map tie_if_any (joint_ties bodies slot ps (saved_joints places colours slot ps js)))
-joints_named bodies places colours slot [] js = tt
-joints_named bodies places colours slot (p ∷ ps) [] = tt
-joints_named bodies places colours slot (p ∷ ps) (None ∷ js) = joints_named bodies places colours (suc slot) ps js
-joints_named bodies places colours slot (p ∷ ps) (Some j ∷ js) =
+joints_named : (bodies : List (Option Body)) (slot_entries : List SlotEntry) (colours : List (List Constraint)) (slot : ℕ) (ps : List SlotEntry) (js : List (Option BodyJoint)) → Each (IsNamed colours) (flat_map tie_if_any (joint_ties bodies slot ps (saved_joints slot_entries colours slot ps js)))
+joints_named bodies slot_entries colours slot [] js = tt
+joints_named bodies slot_entries colours slot (p ∷ ps) [] = tt
+joints_named bodies slot_entries colours slot (p ∷ ps) (None ∷ js) = joints_named bodies slot_entries colours (suc slot) ps js
+joints_named bodies slot_entries colours slot (p ∷ ps) (Some j ∷ js) =
     let id : Constraint = Joint (record { slot = slot; generation = p.generation }) in
-    each_append (IsNamed colours) (tie_if_any (tie_read (tie_with id (joint_movers bodies j)) (plain.colour_of id colours))) (flat_map tie_if_any (joint_ties bodies (suc slot) ps (saved_joints places colours (suc slot) ps js)))
-    (one_named colours id (joint_movers bodies j)) (joints_named bodies places colours (suc slot) ps js)
+    each_append (IsNamed colours) (tie_if_any (tie_read (tie_with id (joint_movers bodies j)) (plain.colour_of id colours))) (flat_map tie_if_any (joint_ties bodies (suc slot) ps (saved_joints slot_entries colours (suc slot) ps js)))
+    (one_named colours id (joint_movers bodies j)) (joints_named bodies slot_entries colours (suc slot) ps js)
 
 contact_named : (colours : List (List Constraint)) (t : Bool) (id : Constraint) (o : Option Movers) → Each (IsNamed colours) (tie_if_any (cond t (tie_read (tie_with id o) (plain.colour_of id colours)) None))
 contact_named colours true id o = one_named colours id o
@@ -364,8 +364,8 @@ contacts_named bodies colours (e ∷ es) =
     each_append (IsNamed colours) (contact_listed bodies (saved_contact colours e)) (flat_map (contact_listed bodies) (map (saved_contact colours) es))
     (contact_named colours (touches e.contact) (Contact e.key) (contact_movers bodies e.key)) (contacts_named bodies colours es)
 
-pub ties_named : (bodies : List (Option Body)) (places : List Place) (colours : List (List Constraint)) (ps : List Place) (js : List (Option BodyJoint)) (es : List ContactEntry) (t : Tie)
-    → IsIn t (flat_map tie_if_any (joint_ties bodies 0 ps (saved_joints places colours 0 ps js)) ++ flat_map (contact_listed bodies) (map (saved_contact colours) es)) → t.colour ≡ plain.colour_of t.member.id colours
-ties_named bodies places colours ps js es t i =
-    each_in (IsNamed colours) t (flat_map tie_if_any (joint_ties bodies 0 ps (saved_joints places colours 0 ps js)) ++ flat_map (contact_listed bodies) (map (saved_contact colours) es))
-    (each_append (IsNamed colours) (flat_map tie_if_any (joint_ties bodies 0 ps (saved_joints places colours 0 ps js))) (flat_map (contact_listed bodies) (map (saved_contact colours) es)) (joints_named bodies places colours 0 ps js) (contacts_named bodies colours es)) i
+pub ties_named : (bodies : List (Option Body)) (slot_entries : List SlotEntry) (colours : List (List Constraint)) (ps : List SlotEntry) (js : List (Option BodyJoint)) (es : List ContactEntry) (t : Tie)
+    → IsIn t (flat_map tie_if_any (joint_ties bodies 0 ps (saved_joints slot_entries colours 0 ps js)) ++ flat_map (contact_listed bodies) (map (saved_contact colours) es)) → t.colour ≡ plain.colour_of t.member.id colours
+ties_named bodies slot_entries colours ps js es t i =
+    each_in (IsNamed colours) t (flat_map tie_if_any (joint_ties bodies 0 ps (saved_joints slot_entries colours 0 ps js)) ++ flat_map (contact_listed bodies) (map (saved_contact colours) es))
+    (each_append (IsNamed colours) (flat_map tie_if_any (joint_ties bodies 0 ps (saved_joints slot_entries colours 0 ps js))) (flat_map (contact_listed bodies) (map (saved_contact colours) es)) (joints_named bodies slot_entries colours 0 ps js) (contacts_named bodies colours es)) i

@@ -1,22 +1,20 @@
 -- What is written of the islands of a world fits together.
-use Rattle.std.proofs.Common.{◌≡◌, ℕ, zero, suc, ◌+◌, ◌≤◌, ◌⊎◌, Bool, true, false, not, cond, nat_le, [], ◌∷◌, map, Option, Some, None, Contains, inl, inr, refl, sym, ap, ◌∙◌, subst, arith, eq-eqb, le-leb}
+use Rattle.std.proofs.Common.{◌≡◌, ℕ, zero, suc, ◌+◌, ◌≤◌, Bool, true, false, not, cond, nat_le, List, [], ◌∷◌, map, Option, Some, None, is_some, refl, ap, ◌∙◌, subst, arith, eq-eqb, le-leb}
 use Rattle.std.proofs.lemmas.Option.{none-some, same_Some}
-use Rattle.islands.specs.Labels.{Labels, is_asleep, is_loose, label_at, merged}
-use Rattle.islands.specs.Merging.{merged_all}
-use Rattle.islands.specs.Links.{Edges, Linked}
+use Rattle.islands.specs.Labels.{Labels, is_asleep, is_loose, label_at, own_label}
+use Rattle.islands.specs.Links.{Edges, Joined, Linked}
 use Rattle.islands.specs.Partition.{AreIslands, AreTogether, IsPartition}
 use Rattle.islands.specs.declared.label.IslandState.{IslandState}
 use Rattle.islands.specs.declared.label.IslandState.TheVariants.{Asleep, Loose, Whole}
 use Rattle.islands.specs.declared.label.Label.{Label}
 use Rattle.islands.proofs.JoinLemmas.{joined_within}
 use Rattle.islands.proofs.LabelLemmas.{one_label}
-use Rattle.islands.proofs.SplitLemmas.{IsLabelled, still_labelled}
 use Rattle.world_file_base.specs.declared.saved.Membership.{Membership}
-use Rattle.world_file.specs.Fitting.{apart_from, are_named_well, are_whole, components_of, is_link_kept, is_named, is_named_well, is_same_membership, is_same_name, is_same_truth, is_tie_kept, is_whole_at, membership_at}
+use Rattle.world_file.specs.Fitting.{are_named_well, are_whole, as_one_island, components_of, is_link_kept, is_named, is_named_well, is_same_membership, is_same_name, is_same_truth, is_tie_kept, is_whole_at, links_among, membership_at}
 use Rattle.world_file.specs.declared.ties.Tie.{Tie}
 use Rattle.world_file.specs.Again.{membership_of}
-use Rattle.world_file.proofs.AgainParts.{both_hold, labels_again}
-use Rattle.world_file.proofs.SavedIslands.{all_whole, apart_labelled, apart_whole, components_are}
+use Rattle.world_file.proofs.AgainParts.{both_hold}
+use Rattle.world_file.proofs.ComponentLaws.{component_is, is_mover_at, linked_among, linked_by_all}
 
 pub said_at : (labels : Labels) (k : ℕ) → membership_at (map membership_of labels) k ≡ membership_of (label_at labels k)
 said_at [] k = refl
@@ -103,47 +101,22 @@ wholes_by components slot (o ∷ rest) h =
     (one_whole (label_at components slot) o (λ l e loose. subst (λ (n : ℕ). HasName (label_at components n) l.name) here (h 0 l e loose)))
     (wholes_by components (suc slot) rest (λ k l e loose. let next : slot + suc k ≡ suc slot + k = omega arith in subst (λ (n : ℕ). HasName (label_at components n) l.name) next (h (suc k) l e loose)))
 
-abbrev NoLinkOr : Edges → ℕ → ℕ → Type 0
-NoLinkOr links s t = ⊥ ⊎ Linked links s t
+-- the component of a mover, whose island isn't loose, has the name of the island
+has_component : (labels : Labels) (links : Edges) → AreIslands (Linked links) labels → (k : ℕ) (l : Label) → label_at labels k ≡ Some l → is_loose l.state ≡ false → HasName (label_at (components_of (map membership_of labels) links) k) l.name
+has_component labels links w k l e loose =
+    let ms : List Membership = map membership_of labels in
+    let edges : Edges = links_among (as_one_island ms) links in
+    let P : ℕ → Type 0 = λ s. label_at labels s ≡ Some l in
+    let mover : (s : ℕ) → P s → is_mover_at ms s ≡ true = λ s p. ap (λ (m : Membership). is_some m.island) (said_at labels s ∙ ap (λ (o : Option Label). membership_of o) p) in
+    let on : (a b : ℕ) → Linked links a b → P a → P b = λ a b r p. let q = w.together a b r in q.2 ∙ ap (λ (x : Label). Some x) (one_label labels a q.0 l q.1 p) in
+    let within : (a b : ℕ) → Linked links a b → P a → Linked edges a b × P b = λ a b r p. let q = on a b r p in (linked_among ms links a b r (mover a p) (mover b q), q) in
+    let back : (a b : ℕ) → Linked edges a b → P a → Linked links a b × P b = λ a b r p. let link = linked_by_all ms links a b r in (link, on a b link p) in
+    let c = component_is ms links k (mover k e) in
+    let to_name : Joined (Linked edges) k l.name = (joined_within (Linked links) (Linked edges) P k l.name within e (w.connected k l.name l e (w.partition.named k l e) loose)).0 in
+    let there : P c.name = (joined_within (Linked edges) (Linked links) P k c.name back e c.joined).1 in
+    let down : c.name ≤ l.name = c.lowest l.name to_name in
+    let up : l.name ≤ c.name = w.partition.low c.name l there in
+    record { label = own_label c.name; there = c.label; named = omega (arith, down, up) }
 
-inside_again : (labels : Labels) (links : Edges) → AreIslands (Linked links) labels → (a b : ℕ) → Contains links (a, b) → AreTogether labels a b
-inside_again labels links w a b h = w.together a b (inl h)
-
-components_again : (labels : Labels) (links : Edges) → AreIslands (Linked links) labels → AreIslands (NoLinkOr links) (components_of (map membership_of labels) links)
-components_again labels links w = components_are (map membership_of labels) links (λ a b h. subst (λ (ls : Labels). AreTogether ls a b) (sym (labels_again labels)) (inside_again labels links w a b h))
-
-component_there : (labels : Labels) (links : Edges) → AreIslands (Linked links) labels → (k : ℕ) (l : Label) → label_at labels k ≡ Some l → is_loose l.state ≡ false
-    → (c : Label) → label_at (components_of (map membership_of labels) links) k ≡ Some c → c.name ≡ l.name
-component_there labels links w k l e loose c f =
-    let comps : Labels = components_of (map membership_of labels) links in
-    let v : AreIslands (NoLinkOr links) comps = components_again labels links w in
-    let low_slot : label_at labels l.name ≡ Some l = w.partition.named k l e in
-    let P : ℕ → Type 0 = λ s. label_at comps s ≡ Some c in
-    let on : (a b : ℕ) → Linked links a b → P a → NoLinkOr links a b × P b = λ a b r p. let q = v.together a b (inr r) in (inr r, q.2 ∙ ap (λ (x : Label). Some x) (one_label comps a q.0 c q.1 p)) in
-    let there : P l.name = (joined_within (Linked links) (NoLinkOr links) P k l.name on f (w.connected k l.name l e low_slot loose)).1 in
-    let down : c.name ≤ l.name = v.partition.low l.name c there in
-    let home : label_at comps c.name ≡ Some c = v.partition.named k c f in
-    let Q : ℕ → Type 0 = λ s. label_at labels s ≡ Some l in
-    let back : (a b : ℕ) → NoLinkOr links a b → Q a → Linked links a b × Q b = λ a b r p. elim r [
-      | inl none ↦ absurd none
-      | inr link ↦ (let q = w.together a b link in (link, q.2 ∙ ap (λ (x : Label). Some x) (one_label labels a q.0 l q.1 p)))
-    ] in
-    let whole : is_loose c.state ≡ false = all_whole (apart_from 0 (map membership_of labels)) links (apart_whole (map membership_of labels)) k c f in
-    let same : label_at labels c.name ≡ Some l = (joined_within (NoLinkOr links) (Linked links) Q k c.name back e (v.connected k c.name c f home whole)).1 in
-    let up : l.name ≤ c.name = w.partition.low c.name l same in
-    omega (arith, down, up)
-
-has_component : (labels : Labels) (links : Edges) → AreIslands (Linked links) labels → ((k : ℕ) (l : Label) → label_at labels k ≡ Some l → IsLabelled (components_of (map membership_of labels) links) k) → (k : ℕ) (l : Label) → label_at labels k ≡ Some l → is_loose l.state ≡ false → HasName (label_at (components_of (map membership_of labels) links) k) l.name
-has_component labels links w labelled k l e loose = let o = labelled k l e in record { label = o.0; there = o.1; named = component_there labels links w k l e loose o.0 o.1 }
-
-pub whole_again : (labels : Labels) (links : Edges) → AreIslands (Linked links) labels → ((k : ℕ) (l : Label) → label_at labels k ≡ Some l → IsLabelled (components_of (map membership_of labels) links) k) → are_whole (components_of (map membership_of labels) links) 0 (map membership_of labels) ≡ true
-whole_again labels links w labelled = wholes_by (components_of (map membership_of labels) links) 0 labels (λ k l e loose. let same : k ≡ 0 + k = omega arith in subst (λ (n : ℕ). HasName (label_at (components_of (map membership_of labels) links) n) l.name) same (has_component labels links w labelled k l e loose))
-
--- a mover is in a component
-pub still_all : (labels : Labels) (edges : Edges) (s : ℕ) → IsLabelled labels s → IsLabelled (merged_all labels edges) s
-still_all labels [] s h = h
-still_all labels (e ∷ edges) s h = still_all (merged labels e.0 e.1) edges s (still_labelled labels e.0 e.1 s h)
-
-pub component_labelled : (labels : Labels) (links : Edges) (k : ℕ) (l : Label) → label_at labels k ≡ Some l → IsLabelled (components_of (map membership_of labels) links) k
-component_labelled labels links k l e =
-    still_all (apart_from 0 (map membership_of labels)) links k (apart_labelled (map membership_of labels) k l (ap (λ (ls : Labels). label_at ls k) (labels_again labels) ∙ e))
+pub whole_again : (labels : Labels) (links : Edges) → AreIslands (Linked links) labels → are_whole (components_of (map membership_of labels) links) 0 (map membership_of labels) ≡ true
+whole_again labels links w = wholes_by (components_of (map membership_of labels) links) 0 labels (λ k l e loose. let same : k ≡ 0 + k = omega arith in subst (λ (n : ℕ). HasName (label_at (components_of (map membership_of labels) links) n) l.name) same (has_component labels links w k l e loose))

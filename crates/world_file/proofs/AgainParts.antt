@@ -5,8 +5,8 @@ use Rattle.std.proofs.lemmas.Bool.{false≢true}
 use Rattle.std.proofs.lemmas.Bool.Decides.{nat_tests}
 use Rattle.std.proofs.lemmas.List.Elements.{All-head, All-tail}
 use Rattle.std.proofs.lemmas.Option.{none-some, same_Some}
-use Rattle.body_handles.specs.Places.{is_live, is_live_at}
-use Rattle.body_handles.specs.declared.places.Place.{Place}
+use Rattle.body_handles.specs.SlotEntries.{is_live, is_live_at}
+use Rattle.body_handles.specs.declared.slot_table.SlotEntry.{SlotEntry}
 use Rattle.contacts.proofs.Members.{Each, IsIn}
 use Rattle.contacts.proofs.Rising.{IsRising, rising_from_increasing}
 use Rattle.contacts.specs.declared.constraint.Constraint.{Constraint}
@@ -20,11 +20,11 @@ use Rattle.islands.specs.Labels.{Labels, is_asleep, is_loose}
 use Rattle.islands.specs.declared.label.IslandState.{IslandState}
 use Rattle.islands.specs.declared.label.IslandState.TheVariants.{Asleep, Loose, Whole}
 use Rattle.islands.specs.declared.label.Label.{Label}
-use Rattle.plain_world.specs.Formed.{shape_named, shape_of_body}
+use Rattle.plain_world.specs.Formed.{shape_with_id, shape_of_body}
 use Rattle.plain_world.specs.Joints.{AreJoints, IsBodyJoint}
 use Rattle.plain_world.specs.Kinds.{is_dynamic}
 use Rattle.plain_world.specs.Plain.{colour_of}
-use Rattle.plain_world.specs.Slots.{AreMatched, body_at, is_taken_place, shapes_in}
+use Rattle.plain_world.specs.Slots.{AreMatched, body_at, is_taken_entry, shapes_in}
 use Rattle.plain_world.specs.declared.body.Body.{Body}
 use Rattle.plain_world.specs.declared.joint.BodyJoint.{BodyJoint}
 use Rattle.world_file_base.specs.SavedJoints.{generation_there}
@@ -48,16 +48,16 @@ each_pass p (x ∷ xs) h = both_hold (p x) (list_all p xs) (h x (inl refl)) (eac
 
 -- ---- the parts again
 
-joint_again : (places : List Place) (colour : Option ℕ) (o : Option BodyJoint) → joint_kept (option_map (saved_joint places colour) o) ≡ o
-joint_again places colour None = refl
-joint_again places colour (Some j) = refl
+joint_again : (slot_entries : List SlotEntry) (colour : Option ℕ) (o : Option BodyJoint) → joint_kept (option_map (saved_joint slot_entries colour) o) ≡ o
+joint_again slot_entries colour None = refl
+joint_again slot_entries colour (Some j) = refl
 
-pub joints_again : (places : List Place) (colours : List (List Constraint)) (slot : ℕ) (ps : List Place) (js : List (Option BodyJoint)) → length ps ≡ length js → map joint_kept (saved_joints places colours slot ps js) ≡ js
-joints_again places colours slot [] [] e = refl
-joints_again places colours slot [] (o ∷ js) e = absurd (omega arith)
-joints_again places colours slot (p ∷ ps) [] e = absurd (omega arith)
-joints_again places colours slot (p ∷ ps) (o ∷ js) e =
-    ap₂ (λ (x : Option BodyJoint) (xs : List (Option BodyJoint)). x ∷ xs) (joint_again places (colour_of (Joint (record { slot = slot; generation = p.generation })) colours) o) (joints_again places colours (suc slot) ps js (omega arith))
+pub joints_again : (slot_entries : List SlotEntry) (colours : List (List Constraint)) (slot : ℕ) (ps : List SlotEntry) (js : List (Option BodyJoint)) → length ps ≡ length js → map joint_kept (saved_joints slot_entries colours slot ps js) ≡ js
+joints_again slot_entries colours slot [] [] e = refl
+joints_again slot_entries colours slot [] (o ∷ js) e = absurd (omega arith)
+joints_again slot_entries colours slot (p ∷ ps) [] e = absurd (omega arith)
+joints_again slot_entries colours slot (p ∷ ps) (o ∷ js) e =
+    ap₂ (λ (x : Option BodyJoint) (xs : List (Option BodyJoint)). x ∷ xs) (joint_again slot_entries (colour_of (Joint (record { slot = slot; generation = p.generation })) colours) o) (joints_again slot_entries colours (suc slot) ps js (omega arith))
 
 state_again : (state : IslandState) → cond (is_asleep state) Asleep (cond (is_loose state) Loose Whole) ≡ state
 state_again Whole = refl
@@ -79,32 +79,32 @@ contacts_again bodies colours (e ∷ es) all =
 
 -- ---- joints fit
 
-live_again : (o : Option Place) → is_taken_place o ≡ true → is_live_at o (generation_there o) ≡ true
+live_again : (o : Option SlotEntry) → is_taken_entry o ≡ true → is_live_at o (generation_there o) ≡ true
 live_again None h = h
 live_again (Some p) h = both_hold p.live (p.generation == p.generation) h (eq-eqb p.generation p.generation refl)
 
-id_live : (places : List Place) (bodies : List (Option Body)) (slot : ℕ) → AreMatched places bodies → is_some (body_at bodies slot) ≡ true → is_live places (id_in places slot) ≡ true
-id_live places bodies slot m h = live_again (slice_get places slot) (sym (m.taken slot) ∙ h)
+id_live : (slot_entries : List SlotEntry) (bodies : List (Option Body)) (slot : ℕ) → AreMatched slot_entries bodies → is_some (body_at bodies slot) ≡ true → is_live slot_entries (id_in slot_entries slot) ≡ true
+id_live slot_entries bodies slot m h = live_again (slice_get slot_entries slot) (sym (m.taken slot) ∙ h)
 
 not_same : (a b : ℕ) → a ≢ b → not (a == b) ≡ true
 not_same a b h = grind (arith, nat_tests)
 
-joint_fits : (places : List Place) (bodies : List (Option Body)) (colour : Option ℕ) (j : BodyJoint) → AreMatched places bodies → IsBodyJoint bodies j → is_joint_fitting places (Some (saved_joint places colour j)) ≡ true
-joint_fits places bodies colour j m h =
-    both_hold (is_live places (id_in places j.a)) (is_live places (id_in places j.b) && not (j.a == j.b)) (id_live places bodies j.a m h.first)
-    (both_hold (is_live places (id_in places j.b)) (not (j.a == j.b)) (id_live places bodies j.b m h.second) (not_same j.a j.b h.apart))
+joint_fits : (slot_entries : List SlotEntry) (bodies : List (Option Body)) (colour : Option ℕ) (j : BodyJoint) → AreMatched slot_entries bodies → IsBodyJoint bodies j → is_joint_fitting slot_entries (Some (saved_joint slot_entries colour j)) ≡ true
+joint_fits slot_entries bodies colour j m h =
+    both_hold (is_live slot_entries (id_in slot_entries j.a)) (is_live slot_entries (id_in slot_entries j.b) && not (j.a == j.b)) (id_live slot_entries bodies j.a m h.first)
+    (both_hold (is_live slot_entries (id_in slot_entries j.b)) (not (j.a == j.b)) (id_live slot_entries bodies j.b m h.second) (not_same j.a j.b h.apart))
 
-slot_fits : (places : List Place) (bodies : List (Option Body)) (colour : Option ℕ) (o : Option BodyJoint) → AreMatched places bodies → ((j : BodyJoint) → o ≡ Some j → IsBodyJoint bodies j) → is_joint_fitting places (option_map (saved_joint places colour) o) ≡ true
-slot_fits places bodies colour None m h = refl
-slot_fits places bodies colour (Some j) m h = joint_fits places bodies colour j m (h j refl)
+slot_fits : (slot_entries : List SlotEntry) (bodies : List (Option Body)) (colour : Option ℕ) (o : Option BodyJoint) → AreMatched slot_entries bodies → ((j : BodyJoint) → o ≡ Some j → IsBodyJoint bodies j) → is_joint_fitting slot_entries (option_map (saved_joint slot_entries colour) o) ≡ true
+slot_fits slot_entries bodies colour None m h = refl
+slot_fits slot_entries bodies colour (Some j) m h = joint_fits slot_entries bodies colour j m (h j refl)
 
-pub joints_fit : (places : List Place) (bodies : List (Option Body)) (colours : List (List Constraint)) (slot : ℕ) (ps : List Place) (js : List (Option BodyJoint)) → AreMatched places bodies → AreJoints bodies js → list_all (is_joint_fitting places) (saved_joints places colours slot ps js) ≡ true
-joints_fit places bodies colours slot [] js m are = refl
-joints_fit places bodies colours slot (p ∷ ps) [] m are = refl
-joints_fit places bodies colours slot (p ∷ ps) (o ∷ js) m are =
+pub joints_fit : (slot_entries : List SlotEntry) (bodies : List (Option Body)) (colours : List (List Constraint)) (slot : ℕ) (ps : List SlotEntry) (js : List (Option BodyJoint)) → AreMatched slot_entries bodies → AreJoints bodies js → list_all (is_joint_fitting slot_entries) (saved_joints slot_entries colours slot ps js) ≡ true
+joints_fit slot_entries bodies colours slot [] js m are = refl
+joints_fit slot_entries bodies colours slot (p ∷ ps) [] m are = refl
+joints_fit slot_entries bodies colours slot (p ∷ ps) (o ∷ js) m are =
     let colour : Option ℕ = colour_of (Joint (record { slot = slot; generation = p.generation })) colours in
-    both_hold (is_joint_fitting places (option_map (saved_joint places colour) o)) (list_all (is_joint_fitting places) (saved_joints places colours (suc slot) ps js))
-    (slot_fits places bodies colour o m (λ j e. are 0 j e)) (joints_fit places bodies colours (suc slot) ps js m (λ k j e. are (suc k) j e))
+    both_hold (is_joint_fitting slot_entries (option_map (saved_joint slot_entries colour) o)) (list_all (is_joint_fitting slot_entries) (saved_joints slot_entries colours (suc slot) ps js))
+    (slot_fits slot_entries bodies colour o m (λ j e. are 0 j e)) (joints_fit slot_entries bodies colours (suc slot) ps js m (λ k j e. are (suc k) j e))
 
 -- ---- contacts fit
 
@@ -149,8 +149,8 @@ points_by (Some p) (Some q) h =
 
 contact_fits : (bodies : List (Option Body)) (colours : List (List Constraint)) (e : ContactEntry) → IsContactOf bodies e → HasBodies bodies e → is_contact_fitting bodies (saved_contact colours e) ≡ true
 contact_fits bodies colours e of has =
-    both_hold (is_some (shape_named bodies e.key.first)) _ (shape_there (body_at bodies e.key.first.slot) e.key.first.index has.first_shape)
-    (both_hold (is_some (shape_named bodies e.key.second)) _ (shape_there (body_at bodies e.key.second.slot) e.key.second.index has.second_shape)
+    both_hold (is_some (shape_with_id bodies e.key.first)) _ (shape_there (body_at bodies e.key.first.slot) e.key.first.index has.first_shape)
+    (both_hold (is_some (shape_with_id bodies e.key.second)) _ (shape_there (body_at bodies e.key.second.slot) e.key.second.index has.second_shape)
     (both_hold (nat_lt e.key.first.slot e.key.second.slot) _ (lt-ltb e.key.first.slot e.key.second.slot has.order)
     (both_hold (is_dynamic_body (body_at bodies e.key.first.slot) || is_dynamic_body (body_at bodies e.key.second.slot)) _
     (elim of.mover [

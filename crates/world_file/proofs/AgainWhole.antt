@@ -30,7 +30,8 @@ use Rattle.solver_sets.specs.Ties.{Bond, joint_bonds}
 use Rattle.solver_sets.proofs.ListLaws.{mapped_in, rises_from_pairs}
 use Rattle.solver_sets.proofs.TieLaws.{tie_number}
 use Rattle.world_file.specs.Files.{plain_of}
-use Rattle.world_file.specs.Fitting.{share_no_mover, are_joints_colourless, are_named_well, are_rising_after, are_whole, colours_below, colours_keep, components_of, entry_read, fitting_asks, is_coloured_well, is_contact_colourless, is_contact_fitting, is_joint_fitting, is_tie_kept, joint_kept, members_among, momentum_keeps, references_keep, ties_read}
+use Rattle.world_file.specs.Fitting.{share_no_mover, are_joints_colourless, are_named_well, are_rising_after, are_whole, colours_below, colours_keep, components_of, entry_read, is_coloured_well, is_contact_colourless, is_contact_fitting, is_joint_fitting, is_tie_kept, joint_kept, members_among, momentum_keeps, references_keep, ties_read}
+use Rattle.world_file.specs.AskedParts.{fitting_asks}
 use Rattle.world_file.specs.Saved.{Saved}
 use Rattle.world_file.specs.declared.ties.Tie.{Tie}
 use Rattle.world_rules.specs.Sets.{acting_of}
@@ -40,7 +41,7 @@ use Rattle.world_rules.specs.World.{World, book_of, joints_in_slots}
 use Rattle.world_file.specs.Again.{saved_contact, saved_of}
 use Rattle.world_file.specs.Laws.{WhatIsWrittenFits, totals_of_world}
 use Rattle.world_file.proofs.AgainColours.{AreActing, AreGiven, apart_again, colours_again, contact_lone, contacts_colourless, joint_lone, joints_colourless, lone, ties_named, touching_tie, well_again}
-use Rattle.world_file.proofs.AgainIslands.{component_labelled, named_again, tie_kept, whole_again}
+use Rattle.world_file.proofs.AgainIslands.{named_again, tie_kept, whole_again}
 use Rattle.world_file.proofs.AgainParts.{both_hold, contacts_again, contacts_fit, each_from_all, each_pass, joints_again, joints_fit, keys_rise, labels_again}
 use Rattle.world_file.proofs.FirstBroken.{found_unfit}
 use Rattle.world_file.proofs.ReadParts.{AreFitting}
@@ -76,10 +77,10 @@ abbrev pub lists : World → List (List (Member Constraint))
 lists w = sets.members_of w.plain.bodies (joints_in_slots w.plain) w.plain.colours
 
 joint_slots : (w : World) → IsSound w → AreJointSlots (joints_in_slots w.plain)
-joint_slots w h = record { matched = h.formed.joint_slots; places = h.formed.joint_places }
+joint_slots w h = record { matched = h.formed.joint_slots; slot_entries = h.formed.joint_entries }
 
 all_joints : (w : World) → IsSound w → map joint_kept (saved w).joints ≡ w.plain.joints
-all_joints w h = joints_again w.plain.places w.plain.colours 0 w.plain.joint_places w.plain.joints h.formed.joint_slots.slots
+all_joints w h = joints_again w.plain.slot_entries w.plain.colours 0 w.plain.joint_entries w.plain.joints h.formed.joint_slots.slots
 
 all_contacts : (w : World) → IsSound w → map (entry_read w.plain.bodies) (saved w).contacts ≡ w.plain.contacts
 all_contacts w h = contacts_again w.plain.bodies w.plain.colours w.plain.contacts (each_from_all (HasBodies w.plain.bodies) w.plain.contacts h.formed.there)
@@ -91,11 +92,11 @@ does_touch colours (e ∷ es) = (refl, does_touch colours es)
 ties_same : (w : World) → IsSound w → members_among (ties w) ≡ world_ties w
 ties_same w h =
     ties_are (saved w) (does_touch w.plain.colours w.plain.contacts)
-    ∙ ap₂ (λ (js : List (Option BodyJoint)) (es : List ContactEntry). sets.ties_of w.plain.bodies (sets.slots_of w.plain.joint_places js) es) (all_joints w h) (all_contacts w h)
+    ∙ ap₂ (λ (js : List (Option BodyJoint)) (es : List ContactEntry). sets.ties_of w.plain.bodies (sets.slots_of w.plain.joint_entries js) es) (all_joints w h) (all_contacts w h)
 
-pub settled : (w : World) → IsSound w → IsConsistent constraint_number (acting (world_ties w) w.plain.islands (lists w))
+pub is_consistent : (w : World) → IsSound w → IsConsistent constraint_number (acting (world_ties w) w.plain.islands (lists w))
 unfolding acting_of
-settled w h = h.promises.settled
+is_consistent w h = h.promises.consistent
 
 to_world : (w : World) → IsSound w → (m : Member Constraint) → IsIn m (members_among (ties w)) → Contains (world_ties w) m
 to_world w h m i = contains_from_in (world_ties w) m (subst (λ (ms : List (Member Constraint)). IsIn m ms) (ties_same w h) i)
@@ -105,19 +106,19 @@ from_world w h m i = subst (λ (ms : List (Member Constraint)). IsIn m ms) (sym 
 
 given : (w : World) → IsSound w → AreGiven (ties w) (lists w) w.plain.colours
 given w h = record {
-  named = ties_named w.plain.bodies w.plain.places w.plain.colours w.plain.joint_places w.plain.joints w.plain.contacts;
+  named = ties_named w.plain.bodies w.plain.slot_entries w.plain.colours w.plain.joint_entries w.plain.joints w.plain.contacts;
   ids = h.formed.moved;
-  colouring = (settled w h).colouring;
-  rises = rises_from_pairs tie_number (members_among (ties w)) (subst (λ (ms : List (Member Constraint)). AreRising constraint_number ms) (sym (ties_same w h)) (settled w h).rising);
-  there = λ m i. from_world w h m (((settled w h).acting m).0 (contains_from_in (all_members (lists w)) m i)).0;
+  colouring = (is_consistent w h).colouring;
+  rises = rises_from_pairs tie_number (members_among (ties w)) (subst (λ (ms : List (Member Constraint)). AreRising constraint_number ms) (sym (ties_same w h)) (is_consistent w h).rising);
+  there = λ m i. from_world w h m (((is_consistent w h).acting m).0 (contains_from_in (all_members (lists w)) m i)).0;
 }
 
 acts : (w : World) → IsSound w → AreActing (ties w) (lists w) w.plain.islands
 acts w h = record {
-  movers = λ m i. (settled w h).movers m (to_world w h m i);
-  together = λ m b i e. tie_together constraint_number (acting (world_ties w) w.plain.islands (lists w)) m b (settled w h) (to_world w h m i) e;
-  awake = λ m i. (((settled w h).acting m).0 (contains_from_in (all_members (lists w)) m i)).1;
-  acting = λ m i awake. in_from_contains (all_members (lists w)) m (((settled w h).acting m).1 (to_world w h m i, awake));
+  movers = λ m i. (is_consistent w h).movers m (to_world w h m i);
+  together = λ m b i e. tie_together constraint_number (acting (world_ties w) w.plain.islands (lists w)) m b (is_consistent w h) (to_world w h m i) e;
+  awake = λ m i. (((is_consistent w h).acting m).0 (contains_from_in (all_members (lists w)) m i)).1;
+  acting = λ m i awake. in_from_contains (all_members (lists w)) m (((is_consistent w h).acting m).1 (to_world w h m i, awake));
 }
 
 tie_there : (w : World) (t : Tie) → IsIn t (ties w) → IsIn t.member (members_among (ties w))
@@ -127,7 +128,7 @@ tie_there w t i = mapped_in (λ (x : Tie). x.member) (ties w) t i
 
 references : (w : World) → IsSound w → references_keep (saved w) ≡ true
 references w h =
-    both_hold (list_all (is_joint_fitting w.plain.places) (saved w).joints) _ (joints_fit w.plain.places w.plain.bodies w.plain.colours 0 w.plain.joint_places w.plain.joints h.formed.matched h.formed.joints)
+    both_hold (list_all (is_joint_fitting w.plain.slot_entries) (saved w).joints) _ (joints_fit w.plain.slot_entries w.plain.bodies w.plain.colours 0 w.plain.joint_entries w.plain.joints h.formed.matched h.formed.joints)
     (both_hold (list_all (is_contact_fitting w.plain.bodies) (saved w).contacts) (are_rising_after None (saved w).contacts)
     (contacts_fit w.plain.bodies w.plain.colours w.plain.contacts (each_from_all (IsContactOf w.plain.bodies) w.plain.contacts h.formed.pairs) (each_from_all (HasBodies w.plain.bodies) w.plain.contacts h.formed.there))
     (keys_rise w.plain.colours w.plain.contacts h.formed.contacts))
@@ -136,10 +137,10 @@ links : (w : World) → IsSound w → list_all (is_tie_kept (saved w).membership
 links w h = each_pass (is_tie_kept (saved w).memberships) (ties w) (λ t i. tie_kept w.plain.islands t (λ b e. (acts w h).together t.member b (tie_there w t i) e))
 
 islands_linked : (w : World) → IsSound w → AreIslands (Linked (links_of (members_among (ties w)))) w.plain.islands
-islands_linked w h = subst (λ (ms : List (Member Constraint)). AreIslands (Linked (links_of ms)) w.plain.islands) (sym (ties_same w h)) (settled w h).islands
+islands_linked w h = subst (λ (ms : List (Member Constraint)). AreIslands (Linked (links_of ms)) w.plain.islands) (sym (ties_same w h)) (is_consistent w h).islands
 
 wholes : (w : World) → IsSound w → are_whole (components_of (saved w).memberships (links_of (members_among (ties w)))) 0 (saved w).memberships ≡ true
-wholes w h = whole_again w.plain.islands (links_of (members_among (ties w))) (islands_linked w h) (component_labelled w.plain.islands (links_of (members_among (ties w))))
+wholes w h = whole_again w.plain.islands (links_of (members_among (ties w))) (islands_linked w h)
 
 joint_none : (w : World) → IsSound w → (b : Bond) → IsIn b (joint_bonds (joints_in_slots w.plain)) → sets.tie_of w.plain.bodies b ≡ None → colour_of b.id w.plain.colours ≡ None
 joint_none w h b i e = lone (ties w) (lists w) w.plain.colours (given w h) b.id (λ x k. joint_lone w.plain.bodies (joints_in_slots w.plain) w.plain.contacts (joint_slots w h) h.formed.contacts b i e x (in_from_contains (world_ties w) x (to_world w h x k)))
@@ -149,7 +150,7 @@ contact_none w h c i e = lone (ties w) (lists w) w.plain.colours (given w h) (Co
 
 colours : (w : World) → IsSound w → colours_keep (saved w) ≡ true
 colours w h =
-    both_hold (are_joints_colourless w.plain.bodies 0 w.plain.joint_places (saved w).joints) _ (joints_colourless w.plain.bodies w.plain.places w.plain.colours 0 w.plain.joint_places w.plain.joints (joint_none w h))
+    both_hold (are_joints_colourless w.plain.bodies 0 w.plain.joint_entries (saved w).joints) _ (joints_colourless w.plain.bodies w.plain.slot_entries w.plain.colours 0 w.plain.joint_entries w.plain.joints (joint_none w h))
     (both_hold (list_all (is_contact_colourless w.plain.bodies) (saved w).contacts) _ (contacts_colourless w.plain.bodies w.plain.colours w.plain.contacts (contact_none w h))
     (both_hold (list_all (is_coloured_well (saved w).memberships) (ties w)) (list_all share_no_mover (colours_below (ties w) COLOURS))
     (each_pass (is_coloured_well (saved w).memberships) (ties w) (well_again (ties w) (lists w) w.plain.colours w.plain.islands (given w h) (acts w h)))
@@ -167,7 +168,7 @@ momentum_again w h =
 pub fits : (w : World) → IsSound w → AreFitting (saved w)
 fits w h = record {
   references = references w h;
-  named = named_again w.plain.islands (settled w h).islands.partition;
+  named = named_again w.plain.islands (is_consistent w h).islands.partition;
   links = links w h;
   whole = wholes w h;
   colours = colours w h;
@@ -176,9 +177,9 @@ fits w h = record {
 
 plain_again : (w : World) → IsSound w → plain_of (saved w) ≡ w.plain
 plain_again w h = λ i. record {
-  places = w.plain.places;
+  slot_entries = w.plain.slot_entries;
   bodies = w.plain.bodies;
-  joint_places = w.plain.joint_places;
+  joint_entries = w.plain.joint_entries;
   joints = all_joints w h i;
   contacts = all_contacts w h i;
   islands = labels_again w.plain.islands i;

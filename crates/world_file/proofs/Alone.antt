@@ -11,8 +11,8 @@ use Rattle.islands.proofs.LabelLemmas.{added_here, added_other, relabel_at}
 use Rattle.sleep_wake.specs.Acting.{link_of, links_of}
 use Rattle.world_file_base.specs.SavedSlots.{no_membership}
 use Rattle.world_file_base.specs.declared.saved.Membership.{Membership}
-use Rattle.world_file.specs.Fitting.{alone_at, apart_from, are_whole, is_whole_at, members_among, membership_at}
-use Rattle.world_file.specs.Lone.{AreSameLabels, added_if, joined_by}
+use Rattle.world_file.specs.Fitting.{are_whole, is_whole_at, members_among, membership_at}
+use Rattle.world_file.specs.Lone.{AreSameLabels, added_if, alone_at, apart_from, joined_by}
 use Rattle.world_file.specs.declared.ties.Tie.{Tie}
 
 -- ---- each mover alone

@@ -5,9 +5,10 @@ use Rattle.serde_json.specs.Events.{items_len}
 use Rattle.serde_json.specs.Find.{as_array, as_bool, as_str}
 use Rattle.fixed_geom.specs.Vectors.{is_within}
 use Rattle.world_file_base.specs.Asks.{Ask, asked, clause_number, lesser_clause}
-use Rattle.world_file_base.specs.Reading.{ends_asks, first_in, greatest, greatest_group, group_asks, is_null, island_asks, items_in, least, least_group, list_asks, natural_of, number_asks, pair_asks, second_item, signed_asks, text_asks, text_in, truth_asks, unsigned_asks, vector_asks, vector_in, vector_within_asks, whole_asks, whole_in, whole_of}
+use Rattle.world_file_base.specs.Reading.{first_in, greatest, greatest_group, is_null, items_in, least, least_group, natural_of, second_item, text_in, vector_in, whole_in, whole_of}
+use Rattle.world_file_base.specs.AskedValues.{ends_asks, group_asks, island_asks, list_asks, number_asks, pair_asks, signed_asks, text_asks, truth_asks, unsigned_asks, vector_asks, vector_within_asks, whole_asks, decimal_asks, handle_asks}
 use Rattle.shapes.specs.Shapes.{is_between}
-use Rattle.world_file_base.specs.Texts.{decimal_asks, handle_asks, handle_of_text, number_of_text, sized}
+use Rattle.world_file_base.specs.Texts.{handle_of_text, number_of_text, sized}
 use Rattle.world_file_base.specs.declared.clause.Clause.{Clause}
 use Rattle.world_file_base.specs.declared.clause.Clause.TheVariants.{Form, Limits}
 use Rattle.world_file_base.specs.declared.reader.Reader.{Reader}
@@ -17,8 +18,8 @@ abbrev pub IsUnbroken : Reader → Type 0
 IsUnbroken r = r.broken ≡ None
 
 -- where a question leaves nothing broken, P holds, and nothing was broken before
-abbrev pub Tells : Type 0 → Ask → Type 0
-Tells P ask = (r : Reader) → IsUnbroken (ask r) → P × IsUnbroken r
+abbrev pub Establishes : Type 0 → Ask → Type 0
+Establishes P ask = (r : Reader) → IsUnbroken (ask r) → P × IsUnbroken r
 
 -- the second alone
 abbrev pub Passes : Ask → Type 0
@@ -32,12 +33,12 @@ pub still_broken : (c : Clause) (o : Option Clause) → lesser_clause c o ≡ No
 still_broken c None e = cc
 still_broken c (Some d) e = one_of_two (nat_lt (clause_number c) (clause_number d)) c d e
 
-pub tells : (b : Bool) (c : Clause) → Tells (b ≡ true) (asked b c)
-tells true c r h = (refl, h)
-tells false c r h = absurd (still_broken c r.broken h)
+pub establishes : (b : Bool) (c : Clause) → Establishes (b ≡ true) (asked b c)
+establishes true c r h = (refl, h)
+establishes false c r h = absurd (still_broken c r.broken h)
 
 pub passes : (b : Bool) (c : Clause) → Passes (asked b c)
-passes b c r h = (tells b c r h).1
+passes b c r h = (establishes b c r h).1
 
 pub passes_if : (t : Bool) (ask : Ask) → Passes ask → (r : Reader) → IsUnbroken (cond t r (ask r)) → IsUnbroken r
 passes_if true ask p r h = h

@@ -29,13 +29,16 @@ use Rattle.shapes.specs.Shapes.{IsShapeDef, shapes_refusal}
 use Rattle.shapes.specs.declared.pose.Pose.{Pose}
 use Rattle.shapes.specs.declared.shape.ShapeDef.{ShapeDef}
 use Rattle.world_file_base.specs.Asks.{Ask, asked, noted}
-use Rattle.world_file_base.specs.Reading.{has_keys, island_asks, island_in, items_in, list_asks, signed_asks, signed_in, text_asks, text_in, truth_asks, truth_in, unsigned_asks, unsigned_in, vector_asks, vector_in, vector_within, vector_within_asks}
-use Rattle.world_file_base.specs.Texts.{decimal_asks, decimal_in}
+use Rattle.world_file_base.specs.Reading.{has_keys, island_in, items_in, signed_in, text_in, truth_in, unsigned_in, vector_in, vector_within}
+use Rattle.world_file_base.specs.AskedValues.{island_asks, list_asks, signed_asks, text_asks, truth_asks, unsigned_asks, vector_asks, vector_within_asks, decimal_asks}
+use Rattle.world_file_base.specs.Texts.{decimal_in}
 use Rattle.world_file_base.specs.Written.{decimal_of, integer, list_data, natural, vector_of}
 use Rattle.world_file_base.specs.declared.clause.Clause.TheVariants.{FatBoxes, Form, Islands, Limits, Memberships}
 use Rattle.world_file_base.specs.declared.reader.Reader.{Reader}
-use Rattle.world_file_base.specs.SavedBodies.{are_in_boxes, bare_kind, body_asks, body_in, body_data, course_asks, facing_in, fit_asks, island_fits, island_told, is_at_rest, is_pose, keys_asks, kind_asks, kind_in, kind_name, least_mass, mass_asks, mass_in, membership_asks, membership_in, momenta_asks, momenta_in, most_angular, most_inertia, most_mass, motion_asks, motion_in, named_kind, numbers_asks, pose_asks, pose_in, put_course_data, put_label, put_numbers, rest_asks, sleeping_under, told_asks, whole_body_asks, with_course}
-use Rattle.world_file_base.specs.SavedShapes.{defs_in, fats_in, shapes_asks, shapes_of}
+use Rattle.world_file_base.specs.SavedBodies.{are_in_boxes, bare_kind, body_in, body_data, facing_in, island_fits, is_island_or_nothing, is_at_rest, kind_in, kind_name, least_mass, mass_in, membership_in, momenta_in, most_angular, most_inertia, most_mass, motion_in, named_kind, pose_in, put_course_data, put_label, put_numbers, sleeping_under, with_course}
+use Rattle.world_file_base.specs.AskedBodies.{body_asks, course_asks, fit_asks, is_pose, keys_asks, kind_asks, mass_asks, membership_asks, momenta_asks, motion_asks, numbers_asks, pose_asks, rest_asks, fitting_membership_asks, whole_body_asks}
+use Rattle.world_file_base.specs.SavedShapes.{defs_in, fats_in, shapes_of}
+use Rattle.world_file_base.specs.AskedShapes.{shapes_asks}
 use Rattle.world_file_base.specs.declared.saved.Membership.{Membership}
 use Rattle.world_file.specs.Again.{membership_of}
 use Rattle.world_file.proofs.AgainParts.{both_hold, each_from_all}
@@ -43,14 +46,14 @@ use Rattle.world_file.proofs.BackNumbers.{IsBack, asked_true, between_true, deci
 use Rattle.world_file.proofs.BackShapes.{shapes_back}
 
 -- what stands under a key is read as x, and nothing is broken
-record IsBackAt {X : Type 0} (read : Option Data → X) (ask : Option Data → Ask) (o : Option Data) (x : X) : Type 0 where
-  value : read o ≡ x
-  asks : (r : Reader) → ask o r ≡ r
+pub record IsBackAt {X : Type 0} (read : Option Data → X) (ask : Option Data → Ask) (o : Option Data) (x : X) : Type 0 where
+  pub value : read o ≡ x
+  pub asks : (r : Reader) → ask o r ≡ r
 
-back_at : {X : Type 0} (read : Option Data → X) (ask : Option Data → Ask) (o : Option Data) (d : Data) (x : X) → o ≡ Some d → IsBack read ask d x → IsBackAt read ask o x
+pub back_at : {X : Type 0} (read : Option Data → X) (ask : Option Data → Ask) (o : Option Data) (d : Data) (x : X) → o ≡ Some d → IsBack read ask d x → IsBackAt read ask o x
 back_at read ask o d x e h = record { value = ap read e ∙ h.value; asks = λ r. ap (λ (v : Option Data). ask v r) e ∙ h.asks r }
 
-truth_back : (b : Bool) → IsBack truth_in truth_asks (boolean b) b
+pub truth_back : (b : Bool) → IsBack truth_in truth_asks (boolean b) b
 truth_back b = record { value = refl; asks = λ r. refl }
 
 -- ---- its keys
@@ -86,7 +89,7 @@ body_keys (Kinematic course) (Some label) b = record { at = refl; enabled = refl
 body_keys Dynamic None b = record { at = refl; enabled = refl; facing = refl; inertia = refl; kind = refl; l = refl; mass = refl; p = refl; shapes = refl; timer = refl; asleep = refl; island = refl; loose = refl }
 body_keys Dynamic (Some label) b = record { at = refl; enabled = refl; facing = refl; inertia = refl; kind = refl; l = refl; mass = refl; p = refl; shapes = refl; timer = refl; asleep = refl; island = refl; loose = refl }
 
-abbrev HasCourseKeys : Kind → Data → Type 0
+abbrev pub HasCourseKeys : Kind → Data → Type 0
 HasCourseKeys Static d = has_keys 13 d ≡ true
 HasCourseKeys (Kinematic course) d = (get (codes "velocity") d ≡ Some (vector_of course.velocity)) × (get (codes "spin") d ≡ Some (integer course.spin)) × (has_keys 15 d ≡ true)
 HasCourseKeys Dynamic d = has_keys 13 d ≡ true
@@ -131,11 +134,11 @@ course_back (Kinematic course) d is h =
     }
 course_back Dynamic d is h = record { value = refl; asks = λ r. asked_true (has_keys 13 d) Form r h }
 
-record IsKindBack (k : Kind) (d : Data) : Type 0 where
-  value : kind_in d ≡ k
-  asks : (r : Reader) → kind_asks d r ≡ r
+pub record IsKindBack (k : Kind) (d : Data) : Type 0 where
+  pub value : kind_in d ≡ k
+  pub asks : (r : Reader) → kind_asks d r ≡ r
 
-kind_back : (k : Kind) (d : Data) → get (codes "kind") d ≡ Some (string (kind_name k)) → IsCourse (carried_by k) → HasCourseKeys k d → IsKindBack k d
+pub kind_back : (k : Kind) (d : Data) → get (codes "kind") d ≡ Some (string (kind_name k)) → IsCourse (carried_by k) → HasCourseKeys k d → IsKindBack k d
 unfolding kind_in kind_asks
 kind_back k d e is h =
     let named : named_kind (text_in (get (codes "kind") d)) ≡ Some (bare k) = ap (λ (o : Option Data). named_kind (text_in o)) e ∙ name_back k in
@@ -151,9 +154,9 @@ kind_back k d e is h =
 
 -- ---- its mass and its motion
 
-record IsMassBack (k : Kind) (m : MassData) (d : Data) : Type 0 where
-  value : mass_in k d ≡ m
-  asks : (r : Reader) → mass_asks k d r ≡ r
+pub record IsMassBack (k : Kind) (m : MassData) (d : Data) : Type 0 where
+  pub value : mass_in k d ≡ m
+  pub asks : (r : Reader) → mass_asks k d r ≡ r
 
 mass_by : (k : Kind) (m : MassData) (d : Data) → get (codes "mass") d ≡ Some (integer m.mass) → get (codes "inertia") d ≡ Some (integer m.inertia) → least_mass k ≤ℤ m.mass → m.mass ≤ℤ most_mass k → pos 0 ≤ℤ m.inertia → m.inertia ≤ℤ most_inertia k → IsMassBack k m d
 unfolding mass_in mass_asks
@@ -171,16 +174,16 @@ zero_high z e = omega (arith, ints, e)
 most_is : (n : ℕ) (z : ℤ) → unsigned_abs z ≤ n → z ≤ℤ pos n
 most_is n z h = omega (arith, ints, h)
 
-mass_back : (k : Kind) (m : MassData) (d : Data) → IsMassOf k m → get (codes "mass") d ≡ Some (integer m.mass) → get (codes "inertia") d ≡ Some (integer m.inertia) → IsMassBack k m d
+pub mass_back : (k : Kind) (m : MassData) (d : Data) → IsMassOf k m → get (codes "mass") d ≡ Some (integer m.mass) → get (codes "inertia") d ≡ Some (integer m.inertia) → IsMassBack k m d
 mass_back Static m d is e f = mass_by Static m d e f (zero_low m.mass is.0) (zero_high m.mass is.0) (zero_low m.inertia is.1) (zero_high m.inertia is.1)
 mass_back (Kinematic course) m d is e f = mass_by (Kinematic course) m d e f (zero_low m.mass is.0) (zero_high m.mass is.0) (zero_low m.inertia is.1) (zero_high m.inertia is.1)
 mass_back Dynamic m d is e f = mass_by Dynamic m d e f is.positive (most_is (2 ^ 20) m.mass is.mass) is.nonnegative (most_is (2 ^ 60) m.inertia is.inertia)
 
-angular_by : (t : Bool) (inertia l : ℤ) → int_eq inertia (pos 0) ≡ t → (inertia ≡ pos 0 → l ≡ pos 0) → unsigned_abs l ≤ 2 ^ 90 → unsigned_abs l ≤ cond t 0 (2 ^ 90)
+pub angular_by : (t : Bool) (inertia l : ℤ) → int_eq inertia (pos 0) ≡ t → (inertia ≡ pos 0 → l ≡ pos 0) → unsigned_abs l ≤ 2 ^ 90 → unsigned_abs l ≤ cond t 0 (2 ^ 90)
 angular_by true inertia l e still h = let none : l ≡ pos 0 = still ((Decides-int_eq inertia (pos 0)).0 e) in omega (arith, ints, none)
 angular_by false inertia l e still h = h
 
-angular_most : (t : Bool) → cond t 0 (2 ^ 90) < 10 ^ 64
+pub angular_most : (t : Bool) → cond t 0 (2 ^ 90) < 10 ^ 64
 angular_most true = omega arith
 angular_most false = omega arith
 
@@ -282,13 +285,13 @@ says_some : (label : Option Label) → is_some (membership_of label).island ≡ 
 says_some None = refl
 says_some (Some l) = refl
 
-told_true : (label : Option Label) → island_told (membership_of label) ≡ true
+told_true : (label : Option Label) → is_island_or_nothing (membership_of label) ≡ true
 told_true None = refl
 told_true (Some l) = refl
 
-told_holds : (b : Body) (label : Option Label) (r : Reader) → is_some label ≡ is_mover b → told_asks b (membership_of label) r ≡ r
-unfolding told_asks
-told_holds b label r e = asked_true (island_told (membership_of label)) Memberships _ (told_true label) ∙ asked_true (island_fits b (membership_of label)) Memberships r (fits_true (is_mover b) (membership_of label).island (says_some label ∙ e))
+told_holds : (b : Body) (label : Option Label) (r : Reader) → is_some label ≡ is_mover b → fitting_membership_asks b (membership_of label) r ≡ r
+unfolding fitting_membership_asks
+told_holds b label r e = asked_true (is_island_or_nothing (membership_of label)) Memberships _ (told_true label) ∙ asked_true (island_fits b (membership_of label)) Memberships r (fits_true (is_mover b) (membership_of label).island (says_some label ∙ e))
 
 whole_holds : (b : Body) (label : Option Label) (r : Reader) → IsBody b → is_some label ≡ is_mover b → whole_body_asks b (membership_of label) r ≡ r
 unfolding whole_body_asks

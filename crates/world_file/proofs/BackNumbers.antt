@@ -19,9 +19,10 @@ use Rattle.fixed_geom.specs.declared.vectors.Vec2.{Vec2}
 use Rattle.fixed_geom.proofs.FacingLemmas.{is_facing-square}
 use Rattle.body_handles.specs.IdTexts.{id_text}
 use Rattle.world_file_base.specs.Asks.{Ask, asked}
-use Rattle.world_file_base.specs.Reading.{corners_in, ends_asks, greatest, island_asks, island_in, least, natural_of, number_asks, number_in, signed_asks, signed_in, unsigned_asks, unsigned_in, vector_asks, vector_in, vector_within, vector_within_asks, whole_asks, whole_in, whole_of}
+use Rattle.world_file_base.specs.Reading.{corners_in, greatest, island_in, least, natural_of, number_in, signed_in, unsigned_in, vector_in, vector_within, whole_in, whole_of}
+use Rattle.world_file_base.specs.AskedValues.{ends_asks, island_asks, number_asks, signed_asks, unsigned_asks, vector_asks, vector_within_asks, whole_asks, decimal_asks, handle_asks}
 use Rattle.shapes.specs.Shapes.{is_between}
-use Rattle.world_file_base.specs.Texts.{decimal_asks, decimal_in, handle_asks, handle_in, handle_of_text, is_decimal, is_digit, is_natural, number_of_text, sized}
+use Rattle.world_file_base.specs.Texts.{decimal_in, handle_in, handle_of_text, is_decimal, is_digit, is_natural, number_of_text, sized}
 use Rattle.world_file_base.specs.Written.{corners_of, decimal_of, id_of, integer, natural, vector_of}
 use Rattle.world_file_base.specs.declared.clause.Clause.{Clause}
 use Rattle.world_file_base.specs.declared.clause.Clause.TheVariants.{Form, Limits}

@@ -5,7 +5,7 @@ use Rattle.std.proofs.lemmas.Int.{ints}
 use Rattle.std.proofs.lemmas.Option.{none-some}
 use Rattle.serde_json.specs.Events.{items_len}
 use Rattle.serde_json.specs.View.{items_of}
-use Rattle.body_handles.specs.declared.places.Place.{Place}
+use Rattle.body_handles.specs.declared.slot_table.SlotEntry.{SlotEntry}
 use Rattle.contacts.proofs.Members.{Each}
 use Rattle.contacts.specs.declared.constraint.Constraint.{Constraint}
 use Rattle.contacts.specs.declared.constraint.Constraint.TheVariants.{Contact}
@@ -22,15 +22,18 @@ use Rattle.joint_rows.specs.Joints.{IsJoint}
 use Rattle.joint_rows.specs.declared.limits.TheConstants.{MAX_ANCHOR, MAX_JOINT_IMPULSE, MAX_JOINT_LENGTH}
 use Rattle.plain_world.specs.Plain.{colour_of}
 use Rattle.plain_world.specs.declared.joint.BodyJoint.{BodyJoint}
-use Rattle.world_file_base.specs.Reading.{number_asks, number_in, unsigned_asks, unsigned_in}
+use Rattle.world_file_base.specs.Reading.{number_in, unsigned_in}
+use Rattle.world_file_base.specs.AskedValues.{number_asks, unsigned_asks, colour_asks, total_asks, totals_asks}
 use Rattle.world_file_base.specs.Written.{integer, natural, natural_or_null}
 use Rattle.world_file_base.specs.declared.clause.Clause.TheVariants.{Colours, Limits}
 use Rattle.world_file_base.specs.declared.reader.Reader.{Reader}
-use Rattle.world_file_base.specs.SavedContacts.{contact_asks, contact_in, contact_data, contacts_asks, contacts_in, each_contact, last_candidate, no_points, point_asks, point_in, point_data, point_or_none, points_asks, push_asks, shape_id_asks, shape_id_in, shape_id_of, size_asks, size_in, with_points}
-use Rattle.world_file_base.specs.SavedJoints.{generation_there, joint_asks, joint_in, joint_data}
+use Rattle.world_file_base.specs.SavedContacts.{contact_in, contact_data, contacts_in, each_contact, last_candidate, no_points, point_in, point_data, point_or_none, shape_id_in, shape_id_of, size_in, with_points}
+use Rattle.world_file_base.specs.AskedContacts.{contact_asks, contacts_asks, point_asks, points_asks, push_asks, shape_id_asks, size_asks}
+use Rattle.world_file_base.specs.SavedJoints.{generation_there, joint_in, joint_data}
+use Rattle.world_file_base.specs.AskedSlots.{joint_asks}
 use Rattle.world_file_base.specs.SavedTotals as saved_totals
-use Rattle.world_file_base.specs.SavedTotals.{total_asks, total_data, totals_asks}
-use Rattle.world_file_base.specs.Versions.{colour_asks, colour_in, colour_of_number}
+use Rattle.world_file_base.specs.SavedTotals.{total_data}
+use Rattle.world_file_base.specs.Versions.{colour_in, colour_of_number}
 use Rattle.world_file_base.specs.declared.saved.SavedContact.{SavedContact}
 use Rattle.world_file_base.specs.declared.version.Version.TheVariants.{Second}
 use Rattle.world_file.specs.Files.{contact_colours}
@@ -64,12 +67,12 @@ colour_back (Some k) h =
 
 -- ---- points
 
-size_asked : (most : ℕ) (z : ℤ) → most ≤ 2 ^ 62 → unsigned_abs z ≤ most → (r : Reader) → size_asks most (Some (integer z)) r ≡ r
+pub size_asked : (most : ℕ) (z : ℤ) → most ≤ 2 ^ 62 → unsigned_abs z ≤ most → (r : Reader) → size_asks most (Some (integer z)) r ≡ r
 size_asked most z few h r =
     let o = number_back z (omega (arith, few, h)) in
     asked_true (nat_le (unsigned_abs (number_in (Some (integer z)))) most) Limits (number_asks (Some (integer z)) r) (ap (λ (v : ℤ). nat_le (unsigned_abs v) most) o.value ∙ le-leb (unsigned_abs z) most h) ∙ o.asks r
 
-size_back : (most : ℕ) (z : ℤ) → most ≤ 2 ^ 62 → unsigned_abs z ≤ most → size_in most (Some (integer z)) ≡ z
+pub size_back : (most : ℕ) (z : ℤ) → most ≤ 2 ^ 62 → unsigned_abs z ≤ most → size_in most (Some (integer z)) ≡ z
 size_back most z few h =
     let o = number_back z (omega (arith, few, h)) in
     ap (λ (v : ℤ). cond (nat_le (unsigned_abs v) most) v (pos 0)) o.value ∙ ap (λ (t : Bool). cond t z (pos 0)) (le-leb (unsigned_abs z) most h)
@@ -77,7 +80,7 @@ size_back most z few h =
 low_true : (z : ℤ) → pos 0 ≤ℤ z → int_le (pos 0) z ≡ true
 low_true z h = grind (arith, ints)
 
-push_asked : (z : ℤ) → pos 0 ≤ℤ z → unsigned_abs z ≤ MAX_NORMAL_IMPULSE → (r : Reader) → push_asks (Some (integer z)) r ≡ r
+pub push_asked : (z : ℤ) → pos 0 ≤ℤ z → unsigned_abs z ≤ MAX_NORMAL_IMPULSE → (r : Reader) → push_asks (Some (integer z)) r ≡ r
 push_asked z low high r =
     let o = number_back z (omega (arith, high)) in
     asked_true (int_le (pos 0) (number_in (Some (integer z)))) Limits (size_asks MAX_NORMAL_IMPULSE (Some (integer z)) r) (ap (λ (v : ℤ). int_le (pos 0) v) o.value ∙ low_true z low) ∙ size_asked MAX_NORMAL_IMPULSE z (omega arith) high r
@@ -128,7 +131,7 @@ count_back (Some p) (Some q) = refl
 
 -- ---- contacts
 
-shape_id_back : (s : ShapeId) → s.slot < 2 ^ 32 → s.index < 256 → IsBack shape_id_in shape_id_asks (shape_id_of s) s
+pub shape_id_back : (s : ShapeId) → s.slot < 2 ^ 32 → s.index < 256 → IsBack shape_id_in shape_id_asks (shape_id_of s) s
 shape_id_back s slot index =
     let a = unsigned_back (2 ^ 32 - 1) s.slot (omega (arith, slot)) in
     let b = unsigned_back 255 s.index (omega (arith, index)) in
@@ -179,17 +182,17 @@ contacts_back colours (e ∷ es) all =
 -- ---- joints
 
 -- what is known of a joint that is written
-pub record IsJointWritten (places : List Place) (own : Option ℕ) (j : BodyJoint) : Type 0 where
+pub record IsJointWritten (slot_entries : List SlotEntry) (own : Option ℕ) (j : BodyJoint) : Type 0 where
   pub a : j.a < 2 ^ 32
-  pub a_generation : generation_there (slice_get places j.a) < 2 ^ 32
+  pub a_generation : generation_there (slice_get slot_entries j.a) < 2 ^ 32
   pub b : j.b < 2 ^ 32
-  pub b_generation : generation_there (slice_get places j.b) < 2 ^ 32
+  pub b_generation : generation_there (slice_get slot_entries j.b) < 2 ^ 32
   pub joint : IsJoint j.joint
   pub colour : IsColour own
 
-pub record IsJointBack (places : List Place) (colour : Option ℕ) (j : BodyJoint) : Type 0 where
-  pub value : joint_in Second (joint_data places j colour) ≡ saved_joint places colour j
-  pub asks : (r : Reader) → joint_asks Second (joint_data places j colour) r ≡ r
+pub record IsJointBack (slot_entries : List SlotEntry) (colour : Option ℕ) (j : BodyJoint) : Type 0 where
+  pub value : joint_in Second (joint_data slot_entries j colour) ≡ saved_joint slot_entries colour j
+  pub asks : (r : Reader) → joint_asks Second (joint_data slot_entries j colour) r ≡ r
 
 impulse_between : (z : ℤ) → unsigned_abs z ≤ 2 ^ 42 → (neg_ℤ (pos (2 ^ 42)) ≤ℤ z) × (z ≤ℤ pos (2 ^ 42))
 impulse_between z h = (omega (arith, ints, h), omega (arith, ints, h))
@@ -197,11 +200,11 @@ impulse_between z h = (omega (arith, ints, h), omega (arith, ints, h))
 length_most : (z : ℤ) → unsigned_abs z ≤ 2 ^ 25 → z ≤ℤ pos (2 ^ 25)
 length_most z h = omega (arith, ints, h)
 
-pub joint_back : (places : List Place) (colour : Option ℕ) (j : BodyJoint) → IsJointWritten places colour j → IsJointBack places colour j
+pub joint_back : (slot_entries : List SlotEntry) (colour : Option ℕ) (j : BodyJoint) → IsJointWritten slot_entries colour j → IsJointBack slot_entries colour j
 unfolding joint_in joint_data joint_asks
-joint_back places colour j h =
-    let first = handle_back (id_in places j.a) h.a h.a_generation in
-    let second = handle_back (id_in places j.b) h.b h.b_generation in
+joint_back slot_entries colour j h =
+    let first = handle_back (id_in slot_entries j.a) h.a h.a_generation in
+    let second = handle_back (id_in slot_entries j.b) h.b h.b_generation in
     let c = colour_back colour h.colour in
     let from = within_back (unsigned_abs MAX_ANCHOR) j.joint.from (omega arith) h.joint.from in
     let to = within_back (unsigned_abs MAX_ANCHOR) j.joint.to (omega arith) h.joint.to in

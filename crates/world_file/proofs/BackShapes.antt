@@ -15,7 +15,8 @@ use Rattle.shapes.specs.declared.shape.Shape.TheVariants.{Circle, Capsule, Segme
 use Rattle.shapes.specs.declared.shape.ShapeDef.{ShapeDef}
 use Rattle.world_file_base.specs.Reading.{greatest_group, least_group}
 use Rattle.world_file_base.specs.declared.reader.Reader.{Reader}
-use Rattle.world_file_base.specs.SavedShapes.{defs_in, fats_in, form_asks, form_in, most_bits, most_corner, shape_asks, shape_in, shape_of, shapes_asks, shapes_of}
+use Rattle.world_file_base.specs.SavedShapes.{defs_in, fats_in, form_in, most_bits, most_corner, shape_in, shape_of, shapes_of}
+use Rattle.world_file_base.specs.AskedShapes.{form_asks, shape_asks, shapes_asks}
 use Rattle.world_file_base.specs.declared.saved_shapes.SavedShape.{SavedShape}
 use Rattle.world_file.proofs.BackNumbers.{between_true, corners_back, number_back, signed_back, unsigned_back, vector_back}
 

@@ -24,10 +24,11 @@ use Rattle.plain_world.specs.declared.kind.Kind.TheVariants.{Static, Kinematic, 
 use Rattle.shapes.specs.declared.shape.ShapeDef.{ShapeDef}
 use Rattle.world_file_base.specs.Reading.{has_keys, items_in, signed_in, text_in}
 use Rattle.world_file_base.specs.declared.clause.Clause.TheVariants.{Form, Islands, Limits, Memberships}
-use Rattle.world_file_base.specs.SavedBodies.{bare_kind, body_asks, body_in, course_asks, facing_in, island_fits, island_told, is_at_rest, keys_asks, kind_asks, kind_in, least_mass, mass_asks, mass_in, membership_asks, membership_in, momenta_asks, momenta_in, most_angular, most_inertia, most_mass, motion_asks, motion_in, named_kind, numbers_asks, pose_asks, pose_in, rest_asks, sleeping_under, told_asks, whole_body_asks, with_course}
+use Rattle.world_file_base.specs.SavedBodies.{bare_kind, body_in, facing_in, island_fits, is_island_or_nothing, is_at_rest, kind_in, least_mass, mass_in, membership_in, momenta_in, most_angular, most_inertia, most_mass, motion_in, named_kind, pose_in, sleeping_under, with_course}
+use Rattle.world_file_base.specs.AskedBodies.{body_asks, course_asks, keys_asks, kind_asks, mass_asks, membership_asks, momenta_asks, motion_asks, numbers_asks, pose_asks, rest_asks, fitting_membership_asks, whole_body_asks}
 use Rattle.world_file_base.specs.declared.saved.Membership.{Membership}
-use Rattle.world_file.proofs.AskLaws.{Passes, Tells, passes, passes_decimal, passes_island, passes_list, passes_signed, passes_text, passes_truth, passes_unsigned, passes_vector, passes_within, tells}
-use Rattle.world_file.proofs.ShapeAsks.{IsFit, as_many, boxes_small, fat_boxes_are, filters_small, forms_of, passes_shapes, tells_fit}
+use Rattle.world_file.proofs.AskLaws.{Passes, Establishes, passes, passes_decimal, passes_island, passes_list, passes_signed, passes_text, passes_truth, passes_unsigned, passes_vector, passes_within, establishes}
+use Rattle.world_file.proofs.ShapeAsks.{IsFit, as_many, boxes_small, fat_boxes_are, filters_small, forms_of, passes_shapes, establishes_fit}
 use Rattle.world_file.proofs.Tests.{IsFrom, both_true, decimal_small, either_true, equal_z, facing, not_true, signed_from, size_from, unsigned_small, vector_small}
 
 -- ---- its kind
@@ -93,16 +94,16 @@ passes_momenta most d r h =
     let l = passes_decimal most (get (codes "l") d) _ h in
     passes_within (unsigned_abs MAX_MOMENTUM) (get (codes "p") d) r l
 
-tells_pose : (d : Data) → Tells (is_facing (pose_in d).rot ≡ true) (pose_asks d)
+establishes_pose : (d : Data) → Establishes (is_facing (pose_in d).rot ≡ true) (pose_asks d)
 unfolding pose_asks pose_in
-tells_pose d r h =
-    let o = tells (is_facing (facing_in (get (codes "facing") d))) Limits _ h in
+establishes_pose d r h =
+    let o = establishes (is_facing (facing_in (get (codes "facing") d))) Limits _ h in
     (o.0, passes_within (unsigned_abs MAX_POSITION) (get (codes "at") d) r (passes_vector (get (codes "facing") d) _ o.1))
 
-tells_motion : (inertia : ℤ) (d : Data) → Tells (is_facing (pose_in d).rot ≡ true) (motion_asks inertia d)
+establishes_motion : (inertia : ℤ) (d : Data) → Establishes (is_facing (pose_in d).rot ≡ true) (motion_asks inertia d)
 unfolding motion_asks
-tells_motion inertia d r h =
-    let pose = tells_pose d _ h in
+establishes_motion inertia d r h =
+    let pose = establishes_pose d _ h in
     (pose.0, passes_momenta (most_angular inertia) d r pose.1)
 
 angular_small : (inertia : ℤ) (t : Bool) → int_eq inertia (pos 0) ≡ t → cond t 0 (unsigned_abs MAX_ANGULAR_MOMENTUM) ≤ unsigned_abs MAX_ANGULAR_MOMENTUM
@@ -133,37 +134,37 @@ passes_membership d r h =
     let loose = passes_truth (get (codes "loose") d) _ asleep in
     passes_island (get (codes "island") d) r loose
 
-tells_numbers : (t : ℕ) (d : Data) → Tells (is_facing (pose_in d).rot ≡ true) (numbers_asks t d)
+establishes_numbers : (t : ℕ) (d : Data) → Establishes (is_facing (pose_in d).rot ≡ true) (numbers_asks t d)
 unfolding numbers_asks
-tells_numbers t d r h =
+establishes_numbers t d r h =
     let timer = passes_unsigned t (get (codes "timer") d) _ h in
     let enabled = passes_truth (get (codes "enabled") d) _ timer in
     let membership = passes_membership d _ enabled in
-    let motion = tells_motion (mass_in (kind_in d) d).inertia d _ membership in
+    let motion = establishes_motion (mass_in (kind_in d) d).inertia d _ membership in
     let mass = passes_mass (kind_in d) d _ motion.1 in
     (motion.0, passes_kind d r mass)
 
-tells_keys : (t : ℕ) (d : Data) → Tells (is_facing (pose_in d).rot ≡ true) (keys_asks t d)
+establishes_keys : (t : ℕ) (d : Data) → Establishes (is_facing (pose_in d).rot ≡ true) (keys_asks t d)
 unfolding keys_asks
-tells_keys t d r h =
+establishes_keys t d r h =
     let shapes = passes_shapes (items_in (get (codes "shapes") d)) _ h in
     let list = passes_list (get (codes "shapes") d) _ shapes in
-    tells_numbers t d r list
+    establishes_numbers t d r list
 
 -- ---- the whole body
 
-tells_rest : (b : Body) → Tells (((is_awake b || is_at_rest b.motion) ≡ true) × ((b.enabled || not (is_moving (carried_by b.kind))) ≡ true)) (rest_asks b)
+establishes_rest : (b : Body) → Establishes (((is_awake b || is_at_rest b.motion) ≡ true) × ((b.enabled || not (is_moving (carried_by b.kind))) ≡ true)) (rest_asks b)
 unfolding rest_asks
-tells_rest b r h =
-    let halted = tells (b.enabled || not (is_moving (carried_by b.kind))) Islands _ h in
-    let still = tells (is_awake b || is_at_rest b.motion) Islands r halted.1 in
+establishes_rest b r h =
+    let halted = establishes (b.enabled || not (is_moving (carried_by b.kind))) Islands _ h in
+    let still = establishes (is_awake b || is_at_rest b.motion) Islands r halted.1 in
     ((still.0, halted.0), still.1)
 
-tells_told : (b : Body) (m : Membership) → Tells ((island_fits b m ≡ true) × (island_told m ≡ true)) (told_asks b m)
-unfolding told_asks
-tells_told b m r h =
-    let told = tells (island_told m) Memberships _ h in
-    let fits = tells (island_fits b m) Memberships r told.1 in
+establishes_told : (b : Body) (m : Membership) → Establishes ((island_fits b m ≡ true) × (is_island_or_nothing m ≡ true)) (fitting_membership_asks b m)
+unfolding fitting_membership_asks
+establishes_told b m r h =
+    let told = establishes (is_island_or_nothing m) Memberships _ h in
+    let fits = establishes (island_fits b m) Memberships r told.1 in
     ((fits.0, told.0), fits.1)
 
 at_rest_is : (m : Motion) → is_at_rest m ≡ true → IsAtRest m
@@ -206,7 +207,7 @@ pub record IsSavedBody (most : ℕ) (b : Body) (m : Membership) : Type 0 where
   pub timer : b.timer ≤ most
   pub island : is_some m.island ≡ is_mover b
   pub asleep : b.asleep ≡ sleeping_under m
-  pub told : island_told m ≡ true
+  pub told : is_island_or_nothing m ≡ true
   pub filters : Each (λ (d : ShapeDef). HasFilter d.filter) b.shapes
 
 -- what is known of its numbers
@@ -259,13 +260,13 @@ filtered : (t : ℕ) (d : Data) → Each (λ (s : ShapeDef). HasFilter s.filter)
 unfolding body_in
 filtered t d = filters_small (items_in (get (codes "shapes") d))
 
-pub tells_body : (t : ℕ) (d : Data) → Tells (IsSavedBody t (body_in t d) (membership_in d)) (body_asks t d)
+pub establishes_body : (t : ℕ) (d : Data) → Establishes (IsSavedBody t (body_in t d) (membership_in d)) (body_asks t d)
 unfolding body_asks whole_body_asks
-tells_body t d r h =
-    let told = tells_told (body_in t d) (membership_in d) _ h in
-    let rest = tells_rest (body_in t d) _ told.1 in
-    let fit = tells_fit (body_in t d).kind (pose_of (body_in t d)) (body_in t d).shapes (body_in t d).fats _ rest.1 in
-    let keys = tells_keys t d r fit.1 in (
+establishes_body t d r h =
+    let told = establishes_told (body_in t d) (membership_in d) _ h in
+    let rest = establishes_rest (body_in t d) _ told.1 in
+    let fit = establishes_fit (body_in t d).kind (pose_of (body_in t d)) (body_in t d).shapes (body_in t d).fats _ rest.1 in
+    let keys = establishes_keys t d r fit.1 in (
       record {
         body = body_is (body_in t d) (membership_in d) (has_numbers t d keys.0) (asleep_as t d) fit.0 rest.0.0 rest.0.1 told.0.0;
         timer = timer_small t d;

@@ -19,21 +19,25 @@ use Rattle.plain_world.specs.declared.body.Body.{Body}
 use Rattle.plain_world.specs.declared.kind.Kind.{Kind}
 use Rattle.plain_world.specs.declared.kind.Kind.TheVariants.{Static, Kinematic, Dynamic}
 use Rattle.world_file_base.specs.Asks.{asked, noted}
-use Rattle.world_file_base.specs.Reading.{ends_asks, first_in, greatest, greatest_group, has_keys, has_keys_in, island_asks, is_null, items_in, least, least_group, list_asks, number_asks, number_in, pair_asks, second_item, signed_asks, text_asks, text_in, truth_asks, unsigned_asks, unsigned_in, vector_asks, vector_in, vector_within, vector_within_asks, whole_asks, whole_in}
-use Rattle.world_file_base.specs.SavedBodies.{are_in_boxes, bare_kind, body_asks, body_in, course_asks, facing_asks, facing_in, fit_asks, is_at_rest, is_pose, island_fits, island_told, keys_asks, kind_asks, kind_in, least_mass, mass_asks, mass_in, membership_asks, membership_in, momenta_asks, most_angular, most_inertia, most_mass, motion_asks, motion_in, named_kind, numbers_asks, pose_asks, pose_in, rest_asks, told_asks, whole_body_asks}
-use Rattle.world_file_base.specs.SavedContacts.{contact_asks, contacts_asks, last_candidate, point_asks, points_asks, push_asks, shape_id_asks, size_asks}
-use Rattle.world_file_base.specs.SavedJoints.{joint_asks}
-use Rattle.world_file_base.specs.SavedShapes.{core_asks, form_asks, long_asks, most_bits, most_corner, round_asks, shape_asks, shapes_asks}
-use Rattle.world_file_base.specs.SavedSlots.{bodies_asks, bodies_in, body_key, body_slot_asks, generation_asks, generation_of_value, is_in_time, item_asks, joint_key, joint_slot_asks, joints_asks, membership_or_none, memberships_in, place_asks, place_in, slot_body, slot_keys, slot_membership, slots_asks}
-use Rattle.world_file_base.specs.SavedTotals.{cause_in, total_asks, totals_asks}
-use Rattle.world_file_base.specs.Texts.{decimal_asks, handle_asks, handle_of_text, number_of_text}
-use Rattle.world_file_base.specs.Versions.{colour_asks, colour_of_number}
+use Rattle.world_file_base.specs.Reading.{first_in, greatest, greatest_group, has_keys, has_keys_in, is_null, items_in, least, least_group, number_in, second_item, text_in, unsigned_in, vector_in, vector_within, whole_in}
+use Rattle.world_file_base.specs.AskedValues.{ends_asks, island_asks, list_asks, number_asks, pair_asks, signed_asks, text_asks, truth_asks, unsigned_asks, vector_asks, vector_within_asks, whole_asks, decimal_asks, handle_asks, colour_asks, total_asks, totals_asks}
+use Rattle.world_file_base.specs.SavedBodies.{are_in_boxes, bare_kind, body_in, facing_in, is_at_rest, island_fits, is_island_or_nothing, kind_in, least_mass, mass_in, membership_in, most_angular, most_inertia, most_mass, motion_in, named_kind, pose_in}
+use Rattle.world_file_base.specs.AskedBodies.{body_asks, course_asks, facing_asks, fit_asks, is_pose, keys_asks, kind_asks, mass_asks, membership_asks, momenta_asks, motion_asks, numbers_asks, pose_asks, rest_asks, fitting_membership_asks, whole_body_asks}
+use Rattle.world_file_base.specs.SavedContacts.{last_candidate}
+use Rattle.world_file_base.specs.AskedContacts.{contact_asks, contacts_asks, point_asks, points_asks, push_asks, shape_id_asks, size_asks}
+use Rattle.world_file_base.specs.SavedShapes.{most_bits, most_corner}
+use Rattle.world_file_base.specs.AskedShapes.{core_asks, form_asks, long_asks, round_asks, shape_asks, shapes_asks}
+use Rattle.world_file_base.specs.SavedSlots.{bodies_in, body_key, generation_of_value, is_in_time, joint_key, membership_or_none, memberships_in, slot_entry_in, slot_body, slot_keys, slot_membership}
+use Rattle.world_file_base.specs.AskedSlots.{bodies_asks, body_slot_asks, generation_asks, item_asks, joint_slot_asks, joints_asks, slot_entry_asks, slots_asks, joint_asks}
+use Rattle.world_file_base.specs.SavedTotals.{cause_in}
+use Rattle.world_file_base.specs.Texts.{handle_of_text, number_of_text}
+use Rattle.world_file_base.specs.Versions.{colour_of_number}
 use Rattle.world_file_base.specs.declared.clause.Clause.TheVariants.{Colours, FatBoxes, Form, Generations, Islands, Limits, Links, Memberships, Momentum, References}
 use Rattle.world_file_base.specs.declared.saved.Membership.{Membership}
 use Rattle.world_file_base.specs.declared.version.Version.{Version}
-use Rattle.world_file.specs.Clauses.{are_told, fits, has_colour_of, has_generation, have_colours, have_generations, is_boxed, is_colour, is_rested, is_told, joint_has_colour}
-use Rattle.world_file.specs.Fitting.{fitting_asks}
-use Rattle.world_file.specs.Saved.{Saved, calls_in, heads_asks, most_calls, parts_asks, saved_in, slow_ticks, version_in, version_of}
+use Rattle.world_file.specs.Clauses.{are_memberships_right, fits, has_colour_of, has_generation, have_colours, have_generations, is_boxed, is_colour, is_rested, is_membership_right, joint_has_colour}
+use Rattle.world_file.specs.Saved.{Saved, calls_in, most_calls, saved_in, slow_ticks, version_in, version_of}
+use Rattle.world_file.specs.AskedParts.{heads_asks, parts_asks, fitting_asks}
 use Rattle.world_file.specs.SavedForms.{all_items, are_totals, are_two_vectors, are_two_wholes, has_course, has_form, if_there, is_body, is_contact, is_id, is_joint, is_kind, is_list, is_long, is_motion, is_number_text, is_pair, is_point, is_round, is_shape, is_slot, is_text, is_total, is_truth, is_whole, is_whole_or_null}
 use Rattle.world_file.specs.SavedLimits.{are_ends_numbers, are_few_slots, are_totals_within, are_two_numbers, is_body_within, is_box_within, is_contact_within, is_course_within, is_facing_within, is_from, is_in_limits, is_joint_within, is_long_within, is_motion_within, is_null_or_up_to, is_number, is_point_within, is_round_within, is_shape_id_within, is_shape_within, is_sized, is_slot_within, is_text_within, is_total_within, is_up_to, is_vector_within, may_have_shapes}
 use Rattle.world_file.proofs.TestLaws.{Hold, Says, Tests, after, asks, asks_unless, both_hold, idle, says_too}
@@ -192,18 +196,18 @@ says_rest : (b : Body) → Says (None ∷ None ∷ None ∷ None ∷ None ∷ No
 unfolding rest_asks
 says_rest b = after (asks (is_awake b || is_at_rest b.motion) Islands) (asks (b.enabled || not (is_moving (carried_by b.kind))) Islands)
 
-says_told : (b : Body) (m : Membership) → Says (None ∷ None ∷ None ∷ None ∷ None ∷ Some (is_told (Some b) m) ∷ []) (told_asks b m)
-unfolding told_asks
-says_told b m = after (asks (island_fits b m) Memberships) (asks (island_told m) Memberships)
+says_told : (b : Body) (m : Membership) → Says (None ∷ None ∷ None ∷ None ∷ None ∷ Some (is_membership_right (Some b) m) ∷ []) (fitting_membership_asks b m)
+unfolding fitting_membership_asks
+says_told b m = after (asks (island_fits b m) Memberships) (asks (is_island_or_nothing m) Memberships)
 
 abbrev is_boxed_there : Body → Bool
 is_boxed_there b = guarded (may_have_shapes b) (is_pose (pose_of b)) (are_in_boxes (pose_of b) b.shapes b.fats)
 
-says_whole_body : (b : Body) (m : Membership) → Says (None ∷ Some (may_have_shapes b) ∷ None ∷ None ∷ Some (is_boxed_there b) ∷ Some (is_told (Some b) m) ∷ None ∷ Some (is_rested (Some b)) ∷ []) (whole_body_asks b m)
+says_whole_body : (b : Body) (m : Membership) → Says (None ∷ Some (may_have_shapes b) ∷ None ∷ None ∷ Some (is_boxed_there b) ∷ Some (is_membership_right (Some b) m) ∷ None ∷ Some (is_rested (Some b)) ∷ []) (whole_body_asks b m)
 unfolding whole_body_asks fit_asks
 says_whole_body b m = after (after (says_fit (may_have_shapes b) (is_pose (pose_of b)) (are_in_boxes (pose_of b) b.shapes b.fats)) (says_rest b)) (says_told b m)
 
-says_guarded : (most_ticks : ℕ) (d : Data) → Says (bodily (is_body d) (is_body_within most_ticks d) (is_boxed_there (body_in most_ticks d)) (is_told (Some (body_in most_ticks d)) (membership_in d)) (is_rested (Some (body_in most_ticks d)))) (body_asks most_ticks d)
+says_guarded : (most_ticks : ℕ) (d : Data) → Says (bodily (is_body d) (is_body_within most_ticks d) (is_boxed_there (body_in most_ticks d)) (is_membership_right (Some (body_in most_ticks d)) (membership_in d)) (is_rested (Some (body_in most_ticks d)))) (body_asks most_ticks d)
 unfolding body_asks is_body_within
 says_guarded most_ticks d = after (says_keys most_ticks d) (says_whole_body (body_in most_ticks d) (membership_in d))
 
@@ -251,7 +255,7 @@ boxed_to f l b c m i e (suc (suc (suc (suc (suc n))))) h =
     let late = h.1.1.1.1 in
     (h.0, (h.1.0, (tt, (tt, (sym (e h.1.0) ∙ late.0, late.1)))))
 
-says_body : (most_ticks : ℕ) (d : Data) → Says (bodily (is_body d) (is_body_within most_ticks d) (is_boxed (Some (body_in most_ticks d))) (is_told (Some (body_in most_ticks d)) (membership_in d)) (is_rested (Some (body_in most_ticks d)))) (body_asks most_ticks d)
+says_body : (most_ticks : ℕ) (d : Data) → Says (bodily (is_body d) (is_body_within most_ticks d) (is_boxed (Some (body_in most_ticks d))) (is_membership_right (Some (body_in most_ticks d)) (membership_in d)) (is_rested (Some (body_in most_ticks d)))) (body_asks most_ticks d)
 says_body most_ticks d =
     let same = boxed_there most_ticks d in
     says_too (boxed_to _ _ _ _ _ _ same) (boxed_to _ _ _ _ _ _ (λ h. sym (same h))) (says_guarded most_ticks d)
@@ -261,21 +265,21 @@ says_body most_ticks d =
 says_generation : (v : Option Data) → Says (Some (is_whole v) ∷ None ∷ Some (is_some (generation_of_value v)) ∷ []) (generation_asks v)
 says_generation v = after (says_whole v) (asks (is_some (generation_of_value v)) Generations)
 
-says_place : (key : List ℕ) (d : Data) → Says (Some (is_whole (get (codes "generation") d) && has_keys (slot_keys (is_some (get key d))) d) ∷ None ∷ Some (has_generation key d) ∷ []) (place_asks key d)
-unfolding place_asks
-says_place key d = after (after (says_generation (get (codes "generation") d)) (asks (has_keys (slot_keys (is_some (get key d))) d) Form)) (asks (is_in_time (place_in key d)) Generations)
+says_place : (key : List ℕ) (d : Data) → Says (Some (is_whole (get (codes "generation") d) && has_keys (slot_keys (is_some (get key d))) d) ∷ None ∷ Some (has_generation key d) ∷ []) (slot_entry_asks key d)
+unfolding slot_entry_asks
+says_place key d = after (after (says_generation (get (codes "generation") d)) (asks (has_keys (slot_keys (is_some (get key d))) d) Form)) (asks (is_in_time (slot_entry_in key d)) Generations)
 
 says_slots : (version : Version) (v : Option Data) → Says (plain (is_list v) (are_few_slots version v)) (slots_asks version v)
 says_slots version v = after (says_list v) (asks (are_few_slots version v) Limits)
 
-says_body_item : (most_ticks : ℕ) (o : Option Data) → Says (bodily (if_there is_body o) (if_there (is_body_within most_ticks) o) (is_boxed (option_map (body_in most_ticks) o)) (is_told (option_map (body_in most_ticks) o) (membership_or_none o)) (is_rested (option_map (body_in most_ticks) o))) (item_asks (body_asks most_ticks) o)
+says_body_item : (most_ticks : ℕ) (o : Option Data) → Says (bodily (if_there is_body o) (if_there (is_body_within most_ticks) o) (is_boxed (option_map (body_in most_ticks) o)) (is_membership_right (option_map (body_in most_ticks) o) (membership_or_none o)) (is_rested (option_map (body_in most_ticks) o))) (item_asks (body_asks most_ticks) o)
 says_body_item most_ticks None = idle (bodily true true true true true) (refl, (refl, (tt, (tt, (refl, (refl, (tt, (refl, tt))))))))
 says_body_item most_ticks (Some d) = says_body most_ticks d
 
-says_body_slot : (most_ticks : ℕ) (d : Data) → Says (slotted (is_slot body_key is_body d) (is_slot_within body_key (is_body_within most_ticks) d) (has_generation body_key d) (is_boxed (slot_body most_ticks d)) (is_told (slot_body most_ticks d) (slot_membership d)) (is_rested (slot_body most_ticks d))) (body_slot_asks most_ticks d)
+says_body_slot : (most_ticks : ℕ) (d : Data) → Says (slotted (is_slot body_key is_body d) (is_slot_within body_key (is_body_within most_ticks) d) (has_generation body_key d) (is_boxed (slot_body most_ticks d)) (is_membership_right (slot_body most_ticks d) (slot_membership d)) (is_rested (slot_body most_ticks d))) (body_slot_asks most_ticks d)
 says_body_slot most_ticks d = after (says_place body_key d) (says_body_item most_ticks (get body_key d))
 
-says_bodies : (most_ticks : ℕ) (ds : Items) → Says (slotted (all_items (is_slot body_key is_body) ds) (all_items (is_slot_within body_key (is_body_within most_ticks)) ds) (all_items (has_generation body_key) ds) (list_all is_boxed (bodies_in most_ticks ds)) (are_told (bodies_in most_ticks ds) (memberships_in ds)) (list_all is_rested (bodies_in most_ticks ds))) (bodies_asks most_ticks ds)
+says_bodies : (most_ticks : ℕ) (ds : Items) → Says (slotted (all_items (is_slot body_key is_body) ds) (all_items (is_slot_within body_key (is_body_within most_ticks)) ds) (all_items (has_generation body_key) ds) (list_all is_boxed (bodies_in most_ticks ds)) (are_memberships_right (bodies_in most_ticks ds) (memberships_in ds)) (list_all is_rested (bodies_in most_ticks ds))) (bodies_asks most_ticks ds)
 says_bodies most_ticks no_items = idle (slotted true true true true true true) (refl, (refl, (refl, (tt, (refl, (refl, (tt, (refl, tt))))))))
 says_bodies most_ticks (item d ds) = after (says_body_slot most_ticks d) (says_bodies most_ticks ds)
 
@@ -361,7 +365,7 @@ tests_of_parts d =
     ∷ Some (have_generations d)
     ∷ None
     ∷ Some (list_all is_boxed (saved_in d).bodies)
-    ∷ Some (are_told (saved_in d).bodies (saved_in d).memberships)
+    ∷ Some (are_memberships_right (saved_in d).bodies (saved_in d).memberships)
     ∷ None
     ∷ Some (list_all is_rested (saved_in d).bodies)
     ∷ Some (have_colours d)

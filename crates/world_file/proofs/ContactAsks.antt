@@ -9,19 +9,22 @@ use Rattle.graph_colours.specs.declared.limits.TheConstants.{COLOURS, OVERFLOW}
 use Rattle.joint_rows.specs.Joints.{IsJoint}
 use Rattle.joint_rows.specs.declared.limits.TheConstants.{MAX_ANCHOR, MAX_JOINT_IMPULSE, MAX_JOINT_LENGTH}
 use Rattle.world_file_base.specs.Asks.{asked}
-use Rattle.world_file_base.specs.Reading.{first_in, has_keys, is_null, items_in, pair_asks, second_item, unsigned_asks, unsigned_in}
+use Rattle.world_file_base.specs.Reading.{first_in, has_keys, is_null, items_in, second_item, unsigned_in}
+use Rattle.world_file_base.specs.AskedValues.{pair_asks, unsigned_asks, colour_asks}
 use Rattle.world_file_base.specs.declared.clause.Clause.TheVariants.{Colours, Form}
 use Rattle.world_file_base.specs.declared.reader.Reader.{Reader}
-use Rattle.world_file_base.specs.SavedContacts.{contact_asks, contact_in, contacts_asks, contacts_in, no_points, shape_id_asks}
-use Rattle.world_file_base.specs.SavedJoints.{joint_asks, joint_in}
-use Rattle.world_file_base.specs.Versions.{colour_asks, colour_in, colour_of_number, overflow_of}
+use Rattle.world_file_base.specs.SavedContacts.{contact_in, contacts_in, no_points}
+use Rattle.world_file_base.specs.AskedContacts.{contact_asks, contacts_asks, shape_id_asks}
+use Rattle.world_file_base.specs.SavedJoints.{joint_in}
+use Rattle.world_file_base.specs.AskedSlots.{joint_asks}
+use Rattle.world_file_base.specs.Versions.{colour_in, colour_of_number, overflow_of}
 use Rattle.world_file_base.specs.declared.saved.SavedContact.{SavedContact}
 use Rattle.world_file_base.specs.declared.saved.SavedJoint.{SavedJoint}
 use Rattle.world_file_base.specs.declared.version.Version.{Version}
 use Rattle.world_file_base.specs.declared.version.Version.TheVariants.{First, Second}
-use Rattle.solver_sets.specs.Ties.{IsNamed}
-use Rattle.world_file.proofs.AskLaws.{IsUnbroken, Passes, Tells, passes, passes_handle, passes_if, passes_list, passes_pair, passes_signed, passes_truth, passes_unsigned, passes_within}
-use Rattle.world_file.proofs.PointAsks.{ArePoints, none_put, tells_points}
+use Rattle.solver_sets.specs.Ties.{IsKeyWithin}
+use Rattle.world_file.proofs.AskLaws.{IsUnbroken, Passes, Establishes, passes, passes_handle, passes_if, passes_list, passes_pair, passes_signed, passes_truth, passes_unsigned, passes_within}
+use Rattle.world_file.proofs.PointAsks.{ArePoints, none_put, establishes_points}
 use Rattle.world_file.proofs.Tests.{below, signed_from, size_from, unsigned_small, vector_small}
 
 -- ---- colours
@@ -61,7 +64,7 @@ passes_colour v value r h = passes_if (is_null value) (λ r. asked (is_some (col
 -- ---- a contact
 
 pub record IsSavedContact (c : SavedContact) : Type 0 where
-  pub named : IsNamed c.key
+  pub named : IsKeyWithin c.key
   pub points : ArePoints c.contact
   pub none : (c.points == 0) ≡ true → c.contact ≡ no_points
   pub colour : IsColour c.colour
@@ -69,17 +72,17 @@ pub record IsSavedContact (c : SavedContact) : Type 0 where
 passes_shape : (v : Option Data) → Passes (shape_id_asks v)
 passes_shape v r h = passes_pair v r (passes_unsigned (2 ^ 32 - 1) (first_in v) (pair_asks v r) (passes_unsigned 255 (second_item v) (unsigned_asks (2 ^ 32 - 1) (first_in v) (pair_asks v r)) h))
 
-named_in : (a b : Option Data) → IsNamed (record { first = record { slot = unsigned_in (2 ^ 32 - 1) (first_in a); index = unsigned_in 255 (second_item a) }; second = record { slot = unsigned_in (2 ^ 32 - 1) (first_in b); index = unsigned_in 255 (second_item b) } })
+named_in : (a b : Option Data) → IsKeyWithin (record { first = record { slot = unsigned_in (2 ^ 32 - 1) (first_in a); index = unsigned_in 255 (second_item a) }; second = record { slot = unsigned_in (2 ^ 32 - 1) (first_in b); index = unsigned_in 255 (second_item b) } })
 named_in a b = record {
   first = let k = unsigned_small 255 (second_item a) in omega (arith, k);
   second = let k = unsigned_small 255 (second_item b) in omega (arith, k);
   slot = let k = unsigned_small (2 ^ 32 - 1) (first_in b) in omega (arith, k);
 }
 
-tells_contact : (v : Version) (d : Data) → Tells (IsSavedContact (contact_in v d)) (contact_asks v d)
+establishes_contact : (v : Version) (d : Data) → Establishes (IsSavedContact (contact_in v d)) (contact_asks v d)
 unfolding contact_asks contact_in
-tells_contact v d r h =
-    let points = tells_points (items_in (get (codes "points") d)) _ h in
+establishes_contact v d r h =
+    let points = establishes_points (items_in (get (codes "points") d)) _ h in
     let list = passes_list (get (codes "points") d) _ points.1 in
     let colour = passes_colour v (get (codes "colour") d) _ list in
     let touching = passes_truth (get (codes "touching") d) _ colour in
@@ -96,14 +99,14 @@ tells_contact v d r h =
 
 passes_contacts : (v : Version) (ds : Items) (r : Reader) → IsUnbroken (contacts_asks v ds r) → IsUnbroken r
 passes_contacts v no_items r h = h
-passes_contacts v (item d ds) r h = (tells_contact v d r (passes_contacts v ds (contact_asks v d r) h)).1
+passes_contacts v (item d ds) r h = (establishes_contact v d r (passes_contacts v ds (contact_asks v d r) h)).1
 
 each_contact : (v : Version) (ds : Items) (r : Reader) → IsUnbroken (contacts_asks v ds r) → Each IsSavedContact (contacts_in v ds)
 each_contact v no_items r h = tt
-each_contact v (item d ds) r h = ((tells_contact v d r (passes_contacts v ds (contact_asks v d r) h)).0, each_contact v ds (contact_asks v d r) h)
+each_contact v (item d ds) r h = ((establishes_contact v d r (passes_contacts v ds (contact_asks v d r) h)).0, each_contact v ds (contact_asks v d r) h)
 
-pub tells_contacts : (v : Version) (ds : Items) → Tells (Each IsSavedContact (contacts_in v ds)) (contacts_asks v ds)
-tells_contacts v ds r h = (each_contact v ds r h, passes_contacts v ds r h)
+pub establishes_contacts : (v : Version) (ds : Items) → Establishes (Each IsSavedContact (contacts_in v ds)) (contacts_asks v ds)
+establishes_contacts v ds r h = (each_contact v ds r h, passes_contacts v ds r h)
 
 -- ---- a joint
 

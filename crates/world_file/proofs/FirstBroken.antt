@@ -5,9 +5,8 @@ use Rattle.world_file_base.specs.Asks.{Ask, clause_number, no_asks}
 use Rattle.world_file_base.specs.declared.clause.Clause.{Clause}
 use Rattle.world_file_base.specs.declared.clause.Clause.TheVariants.{Form, Limits, Generations, References, FatBoxes, Memberships, Links, Islands, Colours, Momentum}
 use Rattle.world_file.specs.Clauses.{clauses, first_broken, first_unfit, fits, keeps}
-use Rattle.world_file.specs.Fitting.{fitting_asks}
-use Rattle.world_file.specs.Laws.{AskingFindsTheFirst}
-use Rattle.world_file.specs.Saved.{Saved, parts_asks, saved_in}
+use Rattle.world_file.specs.AskedParts.{fitting_asks, parts_asks, AskingFindsTheFirst}
+use Rattle.world_file.specs.Saved.{Saved, saved_in}
 use Rattle.world_file.proofs.ClauseTests.{says_fitting, says_parts}
 use Rattle.world_file.proofs.TestLaws.{Hold, IsClear, Says, Tests, after, before, idle, number_is}
 
@@ -106,7 +105,7 @@ table_stays test (suc k) n m (c ∷ cs) e are hold = first_stays m c (test c) (f
 table_found : (test : Clause → Bool) (ask : Ask) → Says (rows test clauses) ask → (ask no_asks).broken ≡ first_in test clauses
 table_found test ask says =
     same_clear (ask no_asks).broken (first_in test clauses)
-    (λ n clear. table_stays test n 0 n clauses (omega arith) clauses_are (says.tells n no_asks clear).0)
+    (λ n clear. table_stays test n 0 n clauses (omega arith) clauses_are (says.establishes n no_asks clear).0)
     (λ n clear. says.stays n no_asks (table_tells test n 0 n clauses (omega arith) clauses_are clear) tt)
 
 -- ---- of what was read, and of a value

@@ -3,6 +3,7 @@ pub mod FewLemmas
 pub mod Apart
 pub mod Numbered
 pub mod Alone
+pub mod ComponentLaws
 pub mod ReadingLaws
 pub mod SumLaws
 pub mod CountLaws

@@ -2,7 +2,7 @@
 use Rattle.std.proofs.Common.{◌≡◌, ℕ, zero, suc, ◌+◌, ◌<◌, ◌≤◌, Bool, true, false, not, cond, List, [], ◌∷◌, length, drop, Option, Some, None, refl, ap, ◌∙◌, arith, nat_lt, inl, inr}
 use Rattle.std.specs.List.{position_or_len}
 use Rattle.std.proofs.lemmas.Bool.{cases_lt}
-use Rattle.body_handles.specs.declared.places.Place.{Place}
+use Rattle.body_handles.specs.declared.slot_table.SlotEntry.{SlotEntry}
 use Rattle.contacts.specs.Constraints.{constraint_number}
 use Rattle.contacts.specs.declared.constraint.Constraint.{Constraint}
 use Rattle.contacts.specs.declared.constraint.Constraint.TheVariants.{Joint, Contact}
@@ -10,7 +10,7 @@ use Rattle.contacts_base.specs.declared.contact.ContactEntry.{ContactEntry}
 use Rattle.graph_colours.proofs.PlaceLemmas.{is_lower, not_lower}
 use Rattle.plain_world.specs.Plain.{colour_of}
 use Rattle.world_file.specs.Files.{contact_colours, joint_colours}
-use Rattle.world_file.specs.Marked.{colour_numbered, contact_colours_by, has_number, joint_colours_by}
+use Rattle.world_file.specs.Taken.{colour_numbered, contact_colours_by, has_number, joint_colours_by}
 
 -- the first colour that has a constraint of the number, where the list begins with this colour
 abbrev pub colour_from : ℕ → ℕ → List (List Constraint) → Option ℕ
@@ -58,9 +58,9 @@ contacts_numbered of colours (e ∷ contacts) each =
     let here : of (constraint_number (Contact e.key)) ≡ colour_of (Contact e.key) colours = each (constraint_number (Contact e.key)) ∙ numbered (Contact e.key) colours in
     ap (λ x. x ∷ contact_colours_by of contacts) here ∙ ap (λ xs. colour_of (Contact e.key) colours ∷ xs) (contacts_numbered of colours contacts each)
 
-pub joints_numbered : (of : ℕ → Option ℕ) (colours : List (List Constraint)) (slot : ℕ) (places : List Place) → ((number : ℕ) → of number ≡ colour_numbered number colours) → joint_colours_by of slot places ≡ joint_colours colours slot places
+pub joints_numbered : (of : ℕ → Option ℕ) (colours : List (List Constraint)) (slot : ℕ) (slot_entries : List SlotEntry) → ((number : ℕ) → of number ≡ colour_numbered number colours) → joint_colours_by of slot slot_entries ≡ joint_colours colours slot slot_entries
 joints_numbered of colours slot [] each = refl
-joints_numbered of colours slot (place ∷ places) each =
+joints_numbered of colours slot (place ∷ slot_entries) each =
     let id : Constraint = Joint (record { slot = slot; generation = place.generation }) in
     let here : of (constraint_number id) ≡ colour_of id colours = each (constraint_number id) ∙ numbered id colours in
-    ap (λ x. x ∷ joint_colours_by of (suc slot) places) here ∙ ap (λ xs. colour_of id colours ∷ xs) (joints_numbered of colours (suc slot) places each)
+    ap (λ x. x ∷ joint_colours_by of (suc slot) slot_entries) here ∙ ap (λ xs. colour_of id colours ∷ xs) (joints_numbered of colours (suc slot) slot_entries each)

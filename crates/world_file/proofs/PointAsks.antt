@@ -8,21 +8,23 @@ use Rattle.contacts_base.specs.Limits.{IsContactPoint}
 use Rattle.contacts_base.specs.declared.contact.Contact.{Contact}
 use Rattle.contacts_base.specs.declared.contact.ContactPoint.{ContactPoint}
 use Rattle.contacts_base.specs.declared.limits.TheConstants.{MAX_NORMAL, MAX_NORMAL_IMPULSE, MAX_OFFSET, MAX_SEPARATION, MAX_TANGENT_IMPULSE}
-use Rattle.world_file_base.specs.Reading.{has_keys, number_asks, number_in}
+use Rattle.world_file_base.specs.Reading.{has_keys, number_in}
+use Rattle.world_file_base.specs.AskedValues.{number_asks}
 use Rattle.world_file_base.specs.declared.clause.Clause.TheVariants.{Form, Limits}
 use Rattle.world_file_base.specs.declared.reader.Reader.{Reader}
-use Rattle.world_file_base.specs.SavedContacts.{last_candidate, no_points, point_asks, point_in, points_asks, push_asks, size_asks, with_point, with_points}
+use Rattle.world_file_base.specs.SavedContacts.{last_candidate, no_points, point_in, with_point, with_points}
+use Rattle.world_file_base.specs.AskedContacts.{point_asks, points_asks, push_asks, size_asks}
 use Rattle.world_file_base.proofs.PointLaws.{size_small}
-use Rattle.world_file.proofs.AskLaws.{IsUnbroken, Tells, passes, passes_number, passes_unsigned, passes_within, tells}
+use Rattle.world_file.proofs.AskLaws.{IsUnbroken, Establishes, passes, passes_number, passes_unsigned, passes_within, establishes}
 use Rattle.world_file.proofs.Tests.{at_most, at_most_z, equal_n, unsigned_small, vector_small}
 
-pub tells_size : (most : ℕ) (v : Option Data) → Tells (unsigned_abs (number_in v) ≤ most) (size_asks most v)
-tells_size most v r h = let o = tells (nat_le (unsigned_abs (number_in v)) most) Limits (number_asks v r) h in (at_most (unsigned_abs (number_in v)) most o.0, passes_number v r o.1)
+pub establishes_size : (most : ℕ) (v : Option Data) → Establishes (unsigned_abs (number_in v) ≤ most) (size_asks most v)
+establishes_size most v r h = let o = establishes (nat_le (unsigned_abs (number_in v)) most) Limits (number_asks v r) h in (at_most (unsigned_abs (number_in v)) most o.0, passes_number v r o.1)
 
-tells_push : (v : Option Data) → Tells ((pos 0 ≤ℤ number_in v) × (unsigned_abs (number_in v) ≤ MAX_NORMAL_IMPULSE)) (push_asks v)
-tells_push v r h =
-    let o = tells (int_le (pos 0) (number_in v)) Limits (size_asks MAX_NORMAL_IMPULSE v r) h in
-    let p = tells_size MAX_NORMAL_IMPULSE v r o.1 in
+establishes_push : (v : Option Data) → Establishes ((pos 0 ≤ℤ number_in v) × (unsigned_abs (number_in v) ≤ MAX_NORMAL_IMPULSE)) (push_asks v)
+establishes_push v r h =
+    let o = establishes (int_le (pos 0) (number_in v)) Limits (size_asks MAX_NORMAL_IMPULSE v r) h in
+    let p = establishes_size MAX_NORMAL_IMPULSE v r o.1 in
     ((at_most_z (pos 0) (number_in v) o.0, p.0), p.1)
 
 -- ---- a point
@@ -31,15 +33,15 @@ pub record IsPoint (p : ContactPoint) : Type 0 where
   pub point : IsContactPoint p
   pub candidate : p.candidate ≤ 3
 
-tells_point : (d : Data) → Tells (IsPoint (point_in d)) (point_asks d)
+establishes_point : (d : Data) → Establishes (IsPoint (point_in d)) (point_asks d)
 unfolding point_asks point_in
-tells_point d r h =
+establishes_point d r h =
     let after = passes_unsigned last_candidate (get (codes "candidate") d) _ h in
-    let slip = tells_size MAX_TANGENT_IMPULSE (get (codes "slip") d) _ after in
-    let push = tells_push (get (codes "push") d) _ slip.1 in
+    let slip = establishes_size MAX_TANGENT_IMPULSE (get (codes "slip") d) _ after in
+    let push = establishes_push (get (codes "push") d) _ slip.1 in
     let second = passes_within MAX_OFFSET (get (codes "rb") d) _ push.1 in
     let first = passes_within MAX_OFFSET (get (codes "ra") d) _ second in
-    let separation = tells_size MAX_SEPARATION (get (codes "sep") d) _ first in
+    let separation = establishes_size MAX_SEPARATION (get (codes "sep") d) _ first in
     let normal = passes_within MAX_NORMAL (get (codes "normal") d) _ separation.1 in (
       record {
         point = record {
@@ -78,14 +80,14 @@ point_put (Some q) (Some s) p h is = h
 
 pub passes_points : (ds : Items) (r : Reader) → IsUnbroken (points_asks ds r) → IsUnbroken r
 passes_points no_items r h = h
-passes_points (item d ds) r h = (tells_point d r (passes_points ds (point_asks d r) h)).1
+passes_points (item d ds) r h = (establishes_point d r (passes_points ds (point_asks d r) h)).1
 
 points_put : (ds : Items) (c : Contact) (r : Reader) → IsUnbroken (points_asks ds r) → ArePoints c → ArePoints (with_points ds c)
 points_put no_items c r h are = are
-points_put (item d ds) c r h are = points_put ds (with_point c (point_in d)) (point_asks d r) h (point_put c.first c.second (point_in d) are (tells_point d r (passes_points ds (point_asks d r) h)).0)
+points_put (item d ds) c r h are = points_put ds (with_point c (point_in d)) (point_asks d r) h (point_put c.first c.second (point_in d) are (establishes_point d r (passes_points ds (point_asks d r) h)).0)
 
-pub tells_points : (ds : Items) → Tells (ArePoints (with_points ds no_points)) (points_asks ds)
-tells_points ds r h = (points_put ds no_points r h (record { first = tt; second = tt; beside = λ no. refl }), passes_points ds r h)
+pub establishes_points : (ds : Items) → Establishes (ArePoints (with_points ds no_points)) (points_asks ds)
+establishes_points ds r h = (points_put ds no_points r h (record { first = tt; second = tt; beside = λ no. refl }), passes_points ds r h)
 
 -- where there are none, the contact has none
 pub none_put : (ds : Items) → (items_len ds == 0) ≡ true → with_points ds no_points ≡ no_points

@@ -3,7 +3,7 @@ use Rattle.std.proofs.Common.{◌≡◌, ℕ, ◌*◌, ◌^◌, ◌≤◌, true,
 use Rattle.std.specs.List.{list_all}
 use Rattle.serde_json.specs.Data.{Data}
 use Rattle.serde_json.specs.Find.{get}
-use Rattle.body_handles.specs.declared.places.TheConstants.{MAX_SLOTS}
+use Rattle.body_handles.specs.declared.slot_table.TheConstants.{MAX_SLOTS}
 use Rattle.contacts.proofs.Members.{Each}
 use Rattle.fixed_geom.specs.Vectors.{IsWithin}
 use Rattle.impulse_ledger.specs.Totals.{total_in}
@@ -12,17 +12,18 @@ use Rattle.impulse_ledger.specs.declared.entry.Cause.TheVariants as causes
 use Rattle.impulse_ledger.specs.declared.limits.TheConstants.{MAX_TOTAL}
 use Rattle.impulse_ledger.specs.declared.totals.Total.{Total}
 use Rattle.momenta.specs.declared.limits.TheConstants.{MAX_GRAVITY}
-use Rattle.world_file_base.specs.Reading.{first_in, has_keys, has_keys_in, items_in, pair_asks, second_item, whole_in}
-use Rattle.world_file_base.specs.Texts.{decimal_asks}
+use Rattle.world_file_base.specs.Reading.{first_in, has_keys, has_keys_in, items_in, second_item, whole_in}
+use Rattle.world_file_base.specs.AskedValues.{pair_asks, decimal_asks, total_asks, totals_asks}
 use Rattle.world_file_base.specs.declared.clause.Clause.TheVariants.{Colours, Form, Islands, Links, Memberships, Momentum, References}
 use Rattle.world_file_base.specs.SavedTotals as saved_totals
-use Rattle.world_file_base.specs.SavedTotals.{cause_in, total_asks, totals_asks, totals_read}
+use Rattle.world_file_base.specs.SavedTotals.{cause_in, totals_read}
 use Rattle.sleep_wake.specs.Acting.{links_of}
-use Rattle.world_file.specs.Fitting.{are_named_well, are_whole, colours_keep, components_of, fitting_asks, is_tie_kept, members_among, momentum_keeps, references_keep, ties_read}
-use Rattle.world_file.specs.Saved.{Saved, calls_in, heads_asks, most_calls, parts_asks, saved_in, slow_ticks, steps_in, version_in, version_of}
-use Rattle.world_file.proofs.AskLaws.{Passes, Tells, passes, passes_decimal, passes_list, passes_pair, passes_unsigned, passes_whole, passes_within, tells}
-use Rattle.world_file.proofs.ContactAsks.{IsSavedContact, tells_contacts}
-use Rattle.world_file.proofs.SlotAsks.{AreBodySlots, AreSavedSlots, bodies_long, joints_long, tells_bodies, tells_joints, tells_slots}
+use Rattle.world_file.specs.Fitting.{are_named_well, are_whole, colours_keep, components_of, is_tie_kept, members_among, momentum_keeps, references_keep, ties_read}
+use Rattle.world_file.specs.Saved.{Saved, calls_in, most_calls, saved_in, slow_ticks, steps_in, version_in, version_of}
+use Rattle.world_file.specs.AskedParts.{heads_asks, parts_asks, fitting_asks}
+use Rattle.world_file.proofs.AskLaws.{Passes, Establishes, passes, passes_decimal, passes_list, passes_pair, passes_unsigned, passes_whole, passes_within, establishes}
+use Rattle.world_file.proofs.ContactAsks.{IsSavedContact, establishes_contacts}
+use Rattle.world_file.proofs.SlotAsks.{AreBodySlots, AreSavedSlots, bodies_long, joints_long, establishes_bodies, establishes_joints, establishes_slots}
 use Rattle.world_file.proofs.Tests.{decimal_small, unsigned_small, vector_small}
 
 -- ---- the totals
@@ -59,9 +60,9 @@ passes_totals v r h =
 
 -- each part is within its limits
 pub record HasParts (s : Saved) : Type 0 where
-  pub bodies : AreBodySlots (8 * s.steps) s.places s.bodies s.memberships
+  pub bodies : AreBodySlots (8 * s.steps) s.slot_entries s.bodies s.memberships
   pub few_bodies : length s.bodies ≤ MAX_SLOTS
-  pub joints : AreSavedSlots s.joint_places s.joints
+  pub joints : AreSavedSlots s.joint_entries s.joints
   pub few_joints : length s.joints ≤ MAX_SLOTS
   pub contacts : Each IsSavedContact s.contacts
   pub totals : (cause : Cause) → IsSmallTotal (total_in cause s.totals)
@@ -82,20 +83,20 @@ passes_heads d r h =
 slow_is : (d : Data) → slow_ticks d ≡ 8 * steps_in d
 slow_is d = omega arith
 
-pub tells_parts : (d : Data) → Tells (HasParts (saved_in d)) (parts_asks d)
-tells_parts d r h =
-    let contacts = tells_contacts (version_in d) (items_in (get (codes "contacts") d)) _ h in
+pub establishes_parts : (d : Data) → Establishes (HasParts (saved_in d)) (parts_asks d)
+establishes_parts d r h =
+    let contacts = establishes_contacts (version_in d) (items_in (get (codes "contacts") d)) _ h in
     let list = passes_list (get (codes "contacts") d) _ contacts.1 in
-    let joints = tells_joints (version_in d) (items_in (get (codes "joints") d)) _ list in
-    let joint_slots = tells_slots (version_in d) (get (codes "joints") d) _ joints.1 in
-    let bodies = tells_bodies (slow_ticks d) (items_in (get (codes "bodies") d)) _ joint_slots.1 in
-    let body_slots = tells_slots (version_in d) (get (codes "bodies") d) _ bodies.1 in
+    let joints = establishes_joints (version_in d) (items_in (get (codes "joints") d)) _ list in
+    let joint_slots = establishes_slots (version_in d) (get (codes "joints") d) _ joints.1 in
+    let bodies = establishes_bodies (slow_ticks d) (items_in (get (codes "bodies") d)) _ joint_slots.1 in
+    let body_slots = establishes_slots (version_in d) (get (codes "bodies") d) _ bodies.1 in
     let some = bodies_long (slow_ticks d) (items_in (get (codes "bodies") d)) in
     let ties = joints_long (version_in d) (items_in (get (codes "joints") d)) in
     let few = body_slots.0 in
     let fewer = joint_slots.0 in (
       record {
-        bodies = subst (λ (n : ℕ). AreBodySlots n (saved_in d).places (saved_in d).bodies (saved_in d).memberships) (slow_is d) bodies.0;
+        bodies = subst (λ (n : ℕ). AreBodySlots n (saved_in d).slot_entries (saved_in d).bodies (saved_in d).memberships) (slow_is d) bodies.0;
         few_bodies = omega (arith, few, some);
         joints = joints.0;
         few_joints = omega (arith, fewer, ties);
@@ -119,12 +120,12 @@ pub record AreFitting (s : Saved) : Type 0 where
   pub colours : colours_keep s ≡ true
   pub momentum : momentum_keeps s ≡ true
 
-pub tells_fitting : (s : Saved) → Tells (AreFitting s) (fitting_asks s)
-tells_fitting s r h =
-    let momentum = tells (momentum_keeps s) Momentum _ h in
-    let colours = tells (colours_keep s) Colours _ momentum.1 in
-    let whole = tells (are_whole (components_of s.memberships (links_of (members_among (ties_read s)))) 0 s.memberships) Islands _ colours.1 in
-    let links = tells (list_all (is_tie_kept s.memberships) (ties_read s)) Links _ whole.1 in
-    let named = tells (are_named_well s.memberships 0 s.memberships) Memberships _ links.1 in
-    let references = tells (references_keep s) References r named.1 in
+pub establishes_fitting : (s : Saved) → Establishes (AreFitting s) (fitting_asks s)
+establishes_fitting s r h =
+    let momentum = establishes (momentum_keeps s) Momentum _ h in
+    let colours = establishes (colours_keep s) Colours _ momentum.1 in
+    let whole = establishes (are_whole (components_of s.memberships (links_of (members_among (ties_read s)))) 0 s.memberships) Islands _ colours.1 in
+    let links = establishes (list_all (is_tie_kept s.memberships) (ties_read s)) Links _ whole.1 in
+    let named = establishes (are_named_well s.memberships 0 s.memberships) Memberships _ links.1 in
+    let references = establishes (references_keep s) References r named.1 in
     (record { references = references.0; named = named.0; links = links.0; whole = whole.0; colours = colours.0; momentum = momentum.0 }, references.1)

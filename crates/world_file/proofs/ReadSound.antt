@@ -5,8 +5,8 @@ use Rattle.std.proofs.lemmas.Int.{ints}
 use Rattle.std.proofs.lemmas.List.{length-map}
 use Rattle.std.proofs.lemmas.Option.{none-some, same_Some}
 use Rattle.serde_json.specs.Data.{Data}
-use Rattle.body_handles.specs.Places.{IsPlace}
-use Rattle.body_handles.specs.declared.places.Place.{Place}
+use Rattle.body_handles.specs.SlotEntries.{IsSlotEntry}
+use Rattle.body_handles.specs.declared.slot_table.SlotEntry.{SlotEntry}
 use Rattle.contacts.proofs.Members.{Each, IsIn, all_from_each, contains_from_in, in_from_contains}
 use Rattle.contacts_base.specs.Contacts.{AreKeysRising}
 use Rattle.contacts_base.specs.declared.contact.ContactEntry.{ContactEntry}
@@ -41,7 +41,8 @@ use Rattle.solver_sets.proofs.TieLaws.{tie_number}
 use Rattle.world_file.specs.Clauses.{first_broken}
 use Rattle.world_file.specs.Files.{plain_of, read_of, read_unless}
 use Rattle.world_file.specs.Fitting.{share_no_mover, are_joints_colourless, are_rising_after, colours_below, entry_read, ids_below, is_coloured_well, is_contact_colourless, is_contact_fitting, is_joint_fitting, is_tie_kept, joint_kept, label_of, members_among, membership_at, ties_read}
-use Rattle.world_file.specs.Saved.{Saved, parts_asks, saved_in}
+use Rattle.world_file.specs.Saved.{Saved, saved_in}
+use Rattle.world_file.specs.AskedParts.{parts_asks}
 use Rattle.world_file.specs.declared.ties.Tie.{Tie}
 use Rattle.world_rules.specs.Sets.{acting_of}
 use Rattle.world_rules.specs.Sound.{AreSmall, AreTimers, IsSound}
@@ -52,7 +53,7 @@ use Rattle.world_rules.proofs.SoundLaws.{IsKept, sound_kept}
 use Rattle.world_file.specs.Laws.{WhatIsReadIsSound}
 use Rattle.world_file.proofs.BodyAsks.{IsSavedBody}
 use Rattle.world_file.proofs.FirstBroken.{asking_finds_the_first}
-use Rattle.world_file.proofs.ReadParts.{AreFitting, HasParts, tells_fitting, tells_parts}
+use Rattle.world_file.proofs.ReadParts.{AreFitting, HasParts, establishes_fitting, establishes_parts}
 use Rattle.world_file.proofs.SavedColours.{IsTie, acting_is, colouring_is, ids_are, lists_are_ties, saved_lists}
 use Rattle.world_file.proofs.SavedContacts.{IsFittingContact, contacts_of, contacts_rise, contacts_there, fitting_each, touching_each}
 use Rattle.world_file.proofs.SavedIslands.{islands_are, tie_together, tied_is, told_is}
@@ -65,13 +66,13 @@ use Rattle.world_file.proofs.Tests.{all_pass, both_true, equal_z}
 -- ---- what the tests of the whole tell, each for itself
 
 record IsReferred (s : Saved) : Type 0 where
-  joints : list_all (is_joint_fitting s.places) s.joints ≡ true
+  joints : list_all (is_joint_fitting s.slot_entries) s.joints ≡ true
   contacts : list_all (is_contact_fitting s.bodies) s.contacts ≡ true
   rising : are_rising_after None s.contacts ≡ true
 
 referred : (s : Saved) → AreFitting s → IsReferred s
 referred s f =
-    let a = both_true (list_all (is_joint_fitting s.places) s.joints) _ f.references in
+    let a = both_true (list_all (is_joint_fitting s.slot_entries) s.joints) _ f.references in
     let b = both_true (list_all (is_contact_fitting s.bodies) s.contacts) (are_rising_after None s.contacts) a.1 in
     record { joints = a.0; contacts = b.0; rising = b.1 }
 
@@ -81,7 +82,7 @@ record IsColoured (s : Saved) : Type 0 where
 
 coloured_is : (s : Saved) → AreFitting s → IsColoured s
 coloured_is s f =
-    let a = both_true (are_joints_colourless s.bodies 0 s.joint_places s.joints) _ f.colours in
+    let a = both_true (are_joints_colourless s.bodies 0 s.joint_entries s.joints) _ f.colours in
     let b = both_true (list_all (is_contact_colourless s.bodies) s.contacts) _ a.1 in
     let c = both_true (list_all (is_coloured_well s.memberships) (ties_read s)) (list_all share_no_mover (colours_below (ties_read s) COLOURS)) b.1 in
     record { well = c.0; apart = c.1 }
@@ -89,7 +90,7 @@ coloured_is s f =
 -- ---- the bodies
 
 each_slot : (s : Saved) → HasParts s → (slot : ℕ) → OnBody (8 * s.steps) (body_at s.bodies slot) (membership_at s.memberships slot)
-each_slot s h = slot_is (8 * s.steps) s.places s.bodies s.memberships h.bodies
+each_slot s h = slot_is (8 * s.steps) s.slot_entries s.bodies s.memberships h.bodies
 
 body_by : (most : ℕ) (o : Option Body) (m : Membership) (b : Body) → OnBody most o m → o ≡ Some b → IsSavedBody most b m
 body_by most None m b h e = absurd (none-some b e)
@@ -104,13 +105,13 @@ bodies_are s h slot b e = (body_in_slot s h slot b (ap (λ (o : Option (Option B
 filters_are : (s : Saved) → HasParts s → AreFiltered s.bodies
 filters_are s h slot b e = all_from_each (λ (d : ShapeDef). HasFilter d.filter) b.shapes (body_in_slot s h slot b e).filters
 
-each_place : (most : ℕ) (ps : List Place) (os : List (Option Body)) (ms : List Membership) → AreBodySlots most ps os ms → Each IsPlace ps
+each_place : (most : ℕ) (ps : List SlotEntry) (os : List (Option Body)) (ms : List Membership) → AreBodySlots most ps os ms → Each IsSlotEntry ps
 each_place most [] os ms are = tt
 each_place most (p ∷ ps) [] ms are = absurd are
 each_place most (p ∷ ps) (o ∷ os) [] are = absurd are
 each_place most (p ∷ ps) (o ∷ os) (m ∷ ms) are = (are.0.place, each_place most ps os ms are.1)
 
-as_long : (most : ℕ) (ps : List Place) (os : List (Option Body)) (ms : List Membership) → AreBodySlots most ps os ms → length ms ≡ length os
+as_long : (most : ℕ) (ps : List SlotEntry) (os : List (Option Body)) (ms : List Membership) → AreBodySlots most ps os ms → length ms ≡ length os
 as_long most [] [] [] are = refl
 as_long most [] [] (m ∷ ms) are = absurd are
 as_long most [] (o ∷ os) ms are = absurd are
@@ -118,8 +119,8 @@ as_long most (p ∷ ps) [] ms are = absurd are
 as_long most (p ∷ ps) (o ∷ os) [] are = absurd are
 as_long most (p ∷ ps) (o ∷ os) (m ∷ ms) are = ap (λ (n : ℕ). suc n) (as_long most ps os ms are.1)
 
-places_are : (s : Saved) → HasParts s → All IsPlace s.places
-places_are s h = all_from_each IsPlace s.places (each_place (8 * s.steps) s.places s.bodies s.memberships h.bodies)
+places_are : (s : Saved) → HasParts s → All IsSlotEntry s.slot_entries
+places_are s h = all_from_each IsSlotEntry s.slot_entries (each_place (8 * s.steps) s.slot_entries s.bodies s.memberships h.bodies)
 
 timers_are : (s : Saved) → HasParts s → AreTimers s.steps s.bodies
 timers_are s h slot b e = (body_in_slot s h slot b e).timer
@@ -146,7 +147,7 @@ momentum_is s f =
 -- ---- joints and contacts
 
 abbrev slots : Saved → sets.JointSlots
-slots s = slots_of s.joint_places (map joint_kept s.joints)
+slots s = slots_of s.joint_entries (map joint_kept s.joints)
 
 abbrev entries : Saved → List ContactEntry
 entries s = map (entry_read s.bodies) s.contacts
@@ -155,7 +156,7 @@ abbrev labels : Saved → Labels
 labels s = map label_of s.memberships
 
 joint_slots_are : (s : Saved) → HasParts s → AreJointSlots (slots s)
-joint_slots_are s h = record { matched = kept_matched s.joint_places s.joints (joints_matched s.joint_places s.joints h.joints h.few_joints); places = joint_places_are s.joint_places s.joints h.joints }
+joint_slots_are s h = record { matched = kept_matched s.joint_entries s.joints (joints_matched s.joint_entries s.joints h.joints h.few_joints); slot_entries = joint_places_are s.joint_entries s.joints h.joints }
 
 pub each_contact : (s : Saved) → HasParts s → AreFitting s → Each (IsFittingContact s.bodies) s.contacts
 each_contact s h f = fitting_each s.bodies s.contacts h.contacts (referred s f).contacts
@@ -212,9 +213,9 @@ lists_same s h f =
 moved_is : (s : Saved) → HasParts s → AreFitting s → ids_of (sets.members_of s.bodies (slots s) (ids_below (ties_read s) (COLOURS + 1))) ≡ ids_below (ties_read s) (COLOURS + 1)
 moved_is s h f = ap (λ (lists : List (List (Member Constraint))). ids_of lists) (lists_same s h f) ∙ ids_are (ties_read s) (COLOURS + 1)
 
-settled_is : (s : Saved) → HasParts s → AreFitting s → IsConsistent constraint_number (acting_of (plain_of s))
+consistent_is : (s : Saved) → HasParts s → AreFitting s → IsConsistent constraint_number (acting_of (plain_of s))
 unfolding acting_of
-settled_is s h f =
+consistent_is s h f =
     subst (λ (lists : List (List (Member Constraint))). IsConsistent constraint_number (acting (sets.ties_of s.bodies (slots s) (entries s)) (labels s) lists)) (sym (lists_same s h f))
     (subst (λ (ms : List (Member Constraint)). IsConsistent constraint_number (acting ms (labels s) (saved_lists (ties_read s)))) (ties_same s h f) (settled_ties s h f))
 
@@ -223,7 +224,7 @@ settled_is s h f =
 kept_is : (s : Saved) → HasParts s → AreFitting s → IsKept (settled_world (plain_of s) s.totals)
 kept_is s h f =
     let momentum = momentum_is s f in
-    let matched = bodies_matched (8 * s.steps) s.places s.bodies s.memberships h.bodies h.few_bodies in
+    let matched = bodies_matched (8 * s.steps) s.slot_entries s.bodies s.memberships h.bodies h.few_bodies in
     let slots = joint_slots_are s h in
     record {
       total_x = momentum.0 ∙ plus_none (total_over s.totals).x;
@@ -233,17 +234,17 @@ kept_is s h f =
       filters = filters_are s h;
       timers = timers_are s h;
       matched = matched;
-      places = places_are s h;
+      slot_entries = places_are s h;
       joint_slots = slots.matched;
-      joint_places = slots.places;
-      joints = joints_are s.places s.bodies s.joint_places s.joints matched h.joints (referred s f).joints;
+      joint_entries = slots.slot_entries;
+      joints = joints_are s.slot_entries s.bodies s.joint_entries s.joints matched h.joints (referred s f).joints;
       contacts = rising_is s f;
       pairs = contacts_of s.bodies s.contacts (each_contact s h f);
       there = contacts_there s.bodies s.contacts (each_contact s h f);
-      settled = settled_is s h f;
+      consistent = consistent_is s h f;
       tied = tied s h;
       told = told_is (8 * s.steps) s.bodies s.memberships (each_slot s h);
-      labels = length-map s.memberships label_of ∙ as_long (8 * s.steps) s.places s.bodies s.memberships h.bodies;
+      labels = length-map s.memberships label_of ∙ as_long (8 * s.steps) s.slot_entries s.bodies s.memberships h.bodies;
       moved = moved_is s h f;
       gravity = h.gravity;
       steps = h.steps;
@@ -287,8 +288,8 @@ pub has_read : (d : Data) (p : Plain) (t : Totals) → read_of d ≡ Ok (p, t) �
 unfolding read_of
 has_read d p t e =
     let o = read_by (first_broken d) (saved_in d) p t e in
-    let whole = tells_fitting (saved_in d) (parts_asks d no_asks) (asking_finds_the_first d ∙ o.unbroken) in
-    let parts = tells_parts d no_asks whole.1 in
+    let whole = establishes_fitting (saved_in d) (parts_asks d no_asks) (asking_finds_the_first d ∙ o.unbroken) in
+    let parts = establishes_parts d no_asks whole.1 in
     record { parts = parts.0; fitting = whole.0; plain = o.plain; totals = o.totals }
 
 pub what_is_read_is_sound : WhatIsReadIsSound

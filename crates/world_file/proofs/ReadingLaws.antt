@@ -5,32 +5,33 @@ use Rattle.std.specs.Result.{IfErr, IsErr, IsErrAnd}
 use Rattle.std.proofs.lemmas.Bool.{cases_lt}
 use Rattle.serde_json.specs.Data.{Data}
 use Rattle.graph_colours.proofs.PlaceLemmas.{is_lower, not_lower}
-use Rattle.world_file_base.specs.Asks.{all_asked, asked, clause_number, due_of, lesser_clause, no_asks}
+use Rattle.world_file_base.specs.Asks.{all_asked, asked, clause_number, broken_up_to, lesser_clause, no_asks}
 use Rattle.world_file_base.specs.declared.clause.Broken.{Broken}
 use Rattle.world_file_base.specs.declared.clause.Broken.TheVariants as broken
 use Rattle.world_file_base.specs.declared.clause.Clause.{Clause}
 use Rattle.world_file_base.specs.declared.clause.Clause.TheVariants.{Generations, References, Memberships, Links, Islands, Colours, Momentum}
 use Rattle.world_file_base.specs.declared.reader.Reader.{Reader}
-use Rattle.world_file.specs.Answers.{IsBrokenBy, IsRefusedBy, found_broken, others_asks}
+use Rattle.world_file.specs.Answers.{IsRefusedBy}
+use Rattle.world_file.specs.AskedParts.{IsBrokenBy, found_broken, others_asks, fitting_asks, parts_asks}
 use Rattle.world_file.specs.Clauses.{first_unfit}
 use Rattle.world_file.specs.Files.{plain_of, read_of, read_unless}
-use Rattle.world_file.specs.Fitting.{fitting_asks, references_keep}
-use Rattle.world_file.specs.Saved.{Saved, parts_asks, saved_in}
+use Rattle.world_file.specs.Fitting.{references_keep}
+use Rattle.world_file.specs.Saved.{Saved, saved_in}
 use Rattle.world_file.proofs.FirstBroken.{asking_finds_the_first, found_unfit}
 
--- a clause that is due was found broken, and is none behind the last
-due_by : (last clause other : Clause) → due_of last (Some other) ≡ Some clause → (Some other ≡ Some clause) × (clause_number clause ≤ clause_number last)
-due_by last clause other due = elim (cases_lt (clause_number last) (clause_number other)) [
-  | inl behind ↦ absurd (let wrong : None ≡ Some clause = sym (rw (is_lower (clause_number last) (clause_number other) behind) refl) ∙ due in cc)
+-- what is broken up to the last clause was found broken, and is none behind it
+found_by : (last clause other : Clause) → broken_up_to last (Some other) ≡ Some clause → (Some other ≡ Some clause) × (clause_number clause ≤ clause_number last)
+found_by last clause other early = elim (cases_lt (clause_number last) (clause_number other)) [
+  | inl behind ↦ absurd (let wrong : None ≡ Some clause = sym (rw (is_lower (clause_number last) (clause_number other) behind) refl) ∙ early in cc)
   | inr here ↦
-      let same : Some other ≡ Some clause = sym (rw (not_lower (clause_number last) (clause_number other) here) refl) ∙ due in
+      let same : Some other ≡ Some clause = sym (rw (not_lower (clause_number last) (clause_number other) here) refl) ∙ early in
       let one : other ≡ clause = cc in
       (same, rw (sym one) here)
 ]
 
-pub due_is : (last clause : Clause) (o : Option Clause) → due_of last o ≡ Some clause → (o ≡ Some clause) × (clause_number clause ≤ clause_number last)
-due_is last clause None due = absurd (let wrong : None ≡ Some clause = due in cc)
-due_is last clause (Some other) due = due_by last clause other due
+pub found_is : (last clause : Clause) (o : Option Clause) → broken_up_to last o ≡ Some clause → (o ≡ Some clause) × (clause_number clause ≤ clause_number last)
+found_is last clause None early = absurd (let wrong : None ≡ Some clause = early in cc)
+found_is last clause (Some other) early = found_by last clause other early
 
 first_is : (clause next : Clause) (o : Option Clause) → o ≡ Some clause → clause_number clause ≤ clause_number next → lesser_clause next o ≡ Some clause
 first_is clause next o is le = rw is (rw (not_lower (clause_number next) (clause_number clause) le) refl)
@@ -57,18 +58,18 @@ pub fitting_stays : (s : Saved) (clause : Clause) (r : Reader) → r.broken ≡ 
 fitting_stays s clause r is le = others_stay s clause (asked (references_keep s) References r) (later_asked clause References (references_keep s) r is (omega arith)) (omega arith)
 
 -- a reading that ends since joints or contacts aren't of what is there
-pub refused_first : (s : Saved) (r then : Reader) (e : Broken) → then ≡ asked (references_keep s) References r → (clause : Clause) × (e ≡ broken.Clause clause) × (due_of References then.broken ≡ Some clause) → IsBrokenBy (fitting_asks s r).broken e
+pub refused_first : (s : Saved) (r then : Reader) (e : Broken) → then ≡ asked (references_keep s) References r → (clause : Clause) × (e ≡ broken.Clause clause) × (broken_up_to References then.broken ≡ Some clause) → IsBrokenBy (fitting_asks s r).broken e
 refused_first s r then e is w =
-    let due : (then.broken ≡ Some w.0) × (clause_number w.0 ≤ 4) = due_is References w.0 then.broken w.2 in
-    let stays : (others_asks s then).broken ≡ Some w.0 = others_stay s w.0 then due.0 due.1 in
+    let early : (then.broken ≡ Some w.0) × (clause_number w.0 ≤ 4) = found_is References w.0 then.broken w.2 in
+    let stays : (others_asks s then).broken ≡ Some w.0 = others_stay s w.0 then early.0 early.1 in
     let here : (fitting_asks s r).broken ≡ Some w.0 = ap (λ (q : Reader). (others_asks s q).broken) (sym is) ∙ stays in
     rw w.1 here
 
 -- a reading that ends before the parts are held against one another
-pub refused_early : (d : Data) (then : Reader) (e : Broken) → then ≡ parts_asks d no_asks → (clause : Clause) × (e ≡ broken.Clause clause) × (due_of Generations then.broken ≡ Some clause) → IsBrokenBy (found_broken d) e
+pub refused_early : (d : Data) (then : Reader) (e : Broken) → then ≡ parts_asks d no_asks → (clause : Clause) × (e ≡ broken.Clause clause) × (broken_up_to Generations then.broken ≡ Some clause) → IsBrokenBy (found_broken d) e
 refused_early d then e is w =
-    let due : (then.broken ≡ Some w.0) × (clause_number w.0 ≤ 3) = due_is Generations w.0 then.broken w.2 in
-    let stays : (fitting_asks (saved_in d) then).broken ≡ Some w.0 = fitting_stays (saved_in d) w.0 then due.0 due.1 in
+    let early : (then.broken ≡ Some w.0) × (clause_number w.0 ≤ 3) = found_is Generations w.0 then.broken w.2 in
+    let stays : (fitting_asks (saved_in d) then).broken ≡ Some w.0 = fitting_stays (saved_in d) w.0 then early.0 early.1 in
     let here : found_broken d ≡ Some w.0 = ap (λ (q : Reader). (fitting_asks (saved_in d) q).broken) (sym is) ∙ stays in
     rw w.1 here
 
@@ -109,7 +110,7 @@ read_is d s r start is asks fresh none =
 pub refused_late : (d : Data) (s : Saved) (r start : Reader) (e : Broken) → s ≡ saved_in d → r ≡ parts_asks d start → start ≡ no_asks → IsBrokenBy (fitting_asks s r).broken e → IsRefusedBy (read_of d) e
 refused_late d s r start e is asks fresh by = refused_as d s r e is (asks ∙ ap (λ (q : Reader). parts_asks d q) fresh) by
 
-pub refused_soon : (d : Data) (r start : Reader) (e : Broken) → r ≡ parts_asks d start → start ≡ no_asks → (clause : Clause) × (e ≡ broken.Clause clause) × (due_of Generations r.broken ≡ Some clause) → IsRefusedBy (read_of d) e
+pub refused_soon : (d : Data) (r start : Reader) (e : Broken) → r ≡ parts_asks d start → start ≡ no_asks → (clause : Clause) × (e ≡ broken.Clause clause) × (broken_up_to Generations r.broken ≡ Some clause) → IsRefusedBy (read_of d) e
 refused_soon d r start e asks fresh w = refused_by d e (refused_early d r e (asks ∙ ap (λ (q : Reader). parts_asks d q) fresh) w)
 
 -- what is handed on

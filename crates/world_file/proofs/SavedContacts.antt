@@ -12,7 +12,7 @@ use Rattle.contacts_base.specs.Limits.{IsContact}
 use Rattle.contacts_base.specs.declared.contact.Contact.{Contact}
 use Rattle.contacts_base.specs.declared.contact.ContactPoint.{ContactPoint}
 use Rattle.graph_colours.proofs.MoverLemmas.{same_back}
-use Rattle.plain_world.specs.Formed.{HasPoints, shape_named, shape_of_body}
+use Rattle.plain_world.specs.Formed.{HasPoints, shape_with_id, shape_of_body}
 use Rattle.plain_world.specs.Kinds.{is_dynamic}
 use Rattle.plain_world.specs.Slots.{body_at, shapes_in}
 use Rattle.plain_world.specs.declared.body.Body.{Body}
@@ -33,16 +33,16 @@ use Rattle.world_file.proofs.Tests.{all_pass, below, both_true, either_true, not
 
 pub record IsFittingContact (bodies : List (Option Body)) (c : SavedContact) : Type 0 where
   pub saved : IsSavedContact c
-  pub first : is_some (shape_named bodies c.key.first) ≡ true
-  pub second : is_some (shape_named bodies c.key.second) ≡ true
+  pub first : is_some (shape_with_id bodies c.key.first) ≡ true
+  pub second : is_some (shape_with_id bodies c.key.second) ≡ true
   pub order : c.key.first.slot < c.key.second.slot
   pub mover : (is_dynamic_body (body_at bodies c.key.first.slot) || is_dynamic_body (body_at bodies c.key.second.slot)) ≡ true
   pub has : has_points c ≡ true
 
 fitting_one : (bodies : List (Option Body)) (c : SavedContact) → IsSavedContact c → is_contact_fitting bodies c ≡ true → IsFittingContact bodies c
 fitting_one bodies c saved h =
-    let a = both_true (is_some (shape_named bodies c.key.first)) _ h in
-    let b = both_true (is_some (shape_named bodies c.key.second)) _ a.1 in
+    let a = both_true (is_some (shape_with_id bodies c.key.first)) _ h in
+    let b = both_true (is_some (shape_with_id bodies c.key.second)) _ a.1 in
     let d = both_true (nat_lt c.key.first.slot c.key.second.slot) _ b.1 in
     let e = both_true (is_dynamic_body (body_at bodies c.key.first.slot) || is_dynamic_body (body_at bodies c.key.second.slot)) (has_points c) d.1 in
     record { saved = saved; first = a.0; second = b.0; order = below c.key.first.slot c.key.second.slot d.0; mover = e.0; has = e.1 }

@@ -1,26 +1,25 @@
 -- The islands of the world that is made of what was read.
-use Rattle.std.proofs.Common.{◌≡◌, ℕ, zero, suc, ◌+◌, ◌≤◌, ◌||◌, ◌⊎◌, Bool, true, false, not, cond, nat_le, List, [], ◌∷◌, map, Option, Some, None, is_some, option_map, Contains, inl, inr, refl, sym, ap, ◌∙◌, subst, arith}
+use Rattle.std.proofs.Common.{◌≡◌, ℕ, zero, suc, ◌+◌, ◌≤◌, Bool, true, false, not, cond, nat_le, List, [], ◌∷◌, map, Option, Some, None, is_some, option_map, Contains, inl, inr, refl, sym, ap, ◌∙◌, subst, arith}
 use Rattle.std.proofs.lemmas.Bool.{false≢true}
 use Rattle.std.proofs.lemmas.Option.{none-some, same_Some}
-use Rattle.islands.specs.Labels.{Labels, is_loose, label_at, merged, merged_by, own_label, sleeping_name, union_label}
-use Rattle.islands.specs.Merging.{merged_all}
+use Rattle.islands.specs.Labels.{Labels, is_loose, label_at, own_label, sleeping_name}
 use Rattle.islands.specs.Links.{Edges, Joined, Linked}
 use Rattle.islands.specs.Partition.{AreIslands, AreTogether, IsPartition}
 use Rattle.islands.specs.declared.label.IslandState.{IslandState}
 use Rattle.islands.specs.declared.label.IslandState.TheVariants.{Asleep, Loose, Whole}
 use Rattle.islands.specs.declared.label.Label.{Label}
-use Rattle.islands.proofs.JoinLemmas.{joined_more}
-use Rattle.islands.proofs.LabelLemmas.{either_cases, same_by_name}
-use Rattle.islands.proofs.SplitLemmas.{IsLabelled, merging_all}
+use Rattle.islands.proofs.JoinLemmas.{joined_back, joined_both, joined_more}
+use Rattle.islands.proofs.LabelLemmas.{one_label}
 use Rattle.plain_world.specs.Slots.{body_at}
 use Rattle.plain_world.specs.declared.body.Body.{Body}
 use Rattle.world_file_base.specs.declared.saved.Membership.{Membership}
 use Rattle.sleep_wake.specs.Acting.{AreMovers}
 use Rattle.solver_sets.specs.Tied.{AreTied}
 use Rattle.solver_sets.specs.Ties.{is_mover_in}
-use Rattle.world_file.specs.Fitting.{alone_at, apart_from, are_named_well, are_whole, components_of, is_link_kept, is_named, is_named_well, is_same_membership, is_same_name, is_same_truth, is_tie_kept, is_whole_at, label_of, membership_at, state_of}
+use Rattle.world_file.specs.Fitting.{are_named_well, are_whole, as_one_island, components_of, is_link_kept, is_named, is_named_well, is_same_membership, is_same_name, is_same_truth, is_tie_kept, is_whole_at, label_of, links_among, membership_at, state_of}
 use Rattle.world_file.specs.declared.ties.Tie.{Tie}
 use Rattle.world_rules.specs.Sound.{AreTold}
+use Rattle.world_file.proofs.ComponentLaws.{component_is, is_mover_at, linked_by_all}
 use Rattle.world_file.proofs.SlotAsks.{OnBody}
 use Rattle.world_file.proofs.Tests.{at_most, both_true, equal_n, not_true}
 
@@ -164,74 +163,6 @@ tie_together ms t b h kept movers e = one_island ms t.member.movers.first b move
 
 -- ---- an island that isn't loose is one component
 
-abbrev pub NoLink : ℕ → ℕ → Type 0
-NoLink s t = ⊥
-
--- each mover by itself
-apart_at : (slot : ℕ) (ms : List Membership) (k : ℕ) → label_at (apart_from slot ms) k ≡ alone_at (slot + k) (membership_at ms k).island
-apart_at slot [] k = refl
-apart_at slot (m ∷ ms) zero = let same : slot ≡ slot + 0 = omega arith in ap (λ (n : ℕ). alone_at n m.island) same
-apart_at slot (m ∷ ms) (suc k) = let same : suc slot + k ≡ slot + suc k = omega arith in apart_at (suc slot) ms k ∙ ap (λ (n : ℕ). alone_at n (membership_at ms k).island) same
-
-apart_is : (ms : List Membership) (k : ℕ) → label_at (apart_from 0 ms) k ≡ alone_at k (membership_at ms k).island
-apart_is ms k = let same : 0 + k ≡ k = omega arith in apart_at 0 ms k ∙ ap (λ (n : ℕ). alone_at n (membership_at ms k).island) same
-
-own_by : (slot : ℕ) (o : Option ℕ) (l : Label) → alone_at slot o ≡ Some l → l ≡ own_label slot
-own_by slot None l e = absurd (none-some l e)
-own_by slot (Some n) l e = sym (same_Some (own_label slot) l e)
-
-own_is : (ms : List Membership) (k : ℕ) (l : Label) → label_at (apart_from 0 ms) k ≡ Some l → l ≡ own_label k
-own_is ms k l e = own_by k (membership_at ms k).island l (sym (apart_is ms k) ∙ e)
-
-apart_islands : (ms : List Membership) → AreIslands NoLink (apart_from 0 ms)
-apart_islands ms = record {
-  partition = record {
-    low = λ slot l e. let k : l.name ≡ slot = ap (λ (x : Label). x.name) (own_is ms slot l e) in omega (arith, k);
-    named = λ slot l e. let k : l.name ≡ slot = ap (λ (x : Label). x.name) (own_is ms slot l e) in ap (λ (n : ℕ). label_at (apart_from 0 ms) n) k ∙ e;
-  };
-  together = λ a b r. absurd r;
-  connected = λ a b l e f loose. ([], sym (ap (λ (x : Label). x.name) (own_is ms a l e)) ∙ ap (λ (x : Label). x.name) (own_is ms b l f));
-}
-
--- a mover of the world is one of them
-pub apart_labelled : (ms : List Membership) (k : ℕ) (l : Label) → label_at (map label_of ms) k ≡ Some l → IsLabelled (apart_from 0 ms) k
-apart_labelled ms k l e = (own_label k, apart_is ms k ∙ ap (λ (o : Option ℕ). alone_at k o) (label_there ms k l e).island)
-
--- no label is loose
-abbrev pub NoneLoose : Labels → Type 0
-NoneLoose labels = (slot : ℕ) (l : Label) → label_at labels slot ≡ Some l → is_loose l.state ≡ false
-
-whole_union : (x y : Label) → is_loose x.state ≡ false → is_loose y.state ≡ false → is_loose (union_label x y).state ≡ false
-whole_union x y h k = by (is_loose x.state) (is_loose y.state) h k
-  where
-    by : (a b : Bool) → a ≡ false → b ≡ false → is_loose (cond (a || b) Loose Whole) ≡ false
-    by true b e f = absurd (false≢true (sym e))
-    by false true e f = absurd (false≢true (sym f))
-    by false false e f = refl
-
-merged_whole : (a b : Option Label) (labels : Labels) → NoneLoose labels → ((l : Label) → a ≡ Some l → is_loose l.state ≡ false) → ((l : Label) → b ≡ Some l → is_loose l.state ≡ false) → NoneLoose (merged_by a b labels)
-merged_whole None b labels none first second = none
-merged_whole (Some x) None labels none first second = none
-merged_whole (Some x) (Some y) labels none first second = λ slot l e. elim (either_cases x.name y.name (union_label x y) l labels slot e) [
-  | inl m ↦ ap (λ (v : Label). is_loose v.state) m.1 ∙ whole_union x y (first x refl) (second y refl)
-  | inr m ↦ none slot l m.1
-]
-
-one_whole : (labels : Labels) (a b : ℕ) → NoneLoose labels → NoneLoose (merged labels a b)
-unfolding merged
-one_whole labels a b none = merged_whole (label_at labels a) (label_at labels b) labels none (none a) (none b)
-
-pub all_whole : (labels : Labels) (edges : Edges) → NoneLoose labels → NoneLoose (merged_all labels edges)
-all_whole labels [] none = none
-all_whole labels (e ∷ edges) none = all_whole (merged labels e.0 e.1) edges (one_whole labels e.0 e.1 none)
-
-pub apart_whole : (ms : List Membership) → NoneLoose (apart_from 0 ms)
-apart_whole ms slot l e = ap (λ (x : Label). is_loose x.state) (own_is ms slot l e)
-
--- the components of links between movers
-pub components_are : (ms : List Membership) (links : Edges) → ((a b : ℕ) → Contains links (a, b) → AreTogether (map label_of ms) a b) → AreIslands (λ s t. NoLink s t ⊎ Linked links s t) (components_of ms links)
-components_are ms links inside = merging_all links NoLink (apart_from 0 ms) (apart_islands ms) (λ a b h. let o = inside a b h in (apart_labelled ms a o.0 o.1, apart_labelled ms b o.0 o.2))
-
 whole_from : (components : Labels) (slot : ℕ) (ms : List Membership) (k : ℕ) → are_whole components slot ms ≡ true → is_whole_at (label_at components (slot + k)) (membership_at ms k).island (membership_at ms k) ≡ true
 whole_from components slot [] k h = refl
 whole_from components slot (m ∷ ms) zero h =
@@ -266,16 +197,22 @@ component_of ms components k l h e whole =
     let state : is_loose (state_of m) ≡ false = ap (λ (x : IslandState). is_loose x) (sym at.state) ∙ whole in
     named_there (label_at components k) l.name (component_by (label_at components k) m.island m l.name m.loose m.asleep refl refl (whole_at components ms k h) at.island state)
 
-connected_is : (ms : List Membership) (links : Edges) → ((a b : ℕ) → Contains links (a, b) → AreTogether (map label_of ms) a b) → are_whole (components_of ms links) 0 ms ≡ true
+-- a mover of it is joined to the slot that it is named by
+joined_to_name : (ms : List Membership) (links : Edges) (k : ℕ) (l : Label) → are_whole (components_of ms links) 0 ms ≡ true → label_at (map label_of ms) k ≡ Some l → is_loose l.state ≡ false → Joined (Linked (links_among (as_one_island ms) links)) k l.name
+joined_to_name ms links k l h e whole =
+    let mover : is_mover_at ms k ≡ true = ap (λ (o : Option ℕ). is_some o) (label_there ms k l e).island in
+    let w = component_is ms links k mover in
+    let c = component_of ms (components_of ms links) k l h e whole in
+    let same : w.name ≡ l.name = ap (λ (x : Label). x.name) (one_label (components_of ms links) k (own_label w.name) c.0 w.label c.1) ∙ c.2 in
+    subst (λ (n : ℕ). Joined (Linked (links_among (as_one_island ms) links)) k n) same w.joined
+
+connected_is : (ms : List Membership) (links : Edges) → are_whole (components_of ms links) 0 ms ≡ true
     → (a b : ℕ) (l : Label) → label_at (map label_of ms) a ≡ Some l → label_at (map label_of ms) b ≡ Some l → is_loose l.state ≡ false → Joined (Linked links) a b
-connected_is ms links inside h a b l e f whole =
-    let w : AreIslands (λ s t. NoLink s t ⊎ Linked links s t) (components_of ms links) = components_are ms links inside in
-    let x = component_of ms (components_of ms links) a l h e whole in
-    let y = component_of ms (components_of ms links) b l h f whole in
-    let same : x.0 ≡ y.0 = same_by_name (components_of ms links) a b x.0 y.0 w.partition x.1 y.1 (x.2 ∙ sym y.2) in
-    let loose : is_loose x.0.state ≡ false = all_whole (apart_from 0 ms) links (apart_whole ms) a x.0 x.1 in
-    let path : Joined (λ s t. NoLink s t ⊎ Linked links s t) a b = w.connected a b x.0 x.1 (y.1 ∙ ap (λ (v : Label). Some v) (sym same)) loose in
-    joined_more (λ s t. NoLink s t ⊎ Linked links s t) (Linked links) a b (λ s t r. elim r [ inl none ↦ absurd none | inr link ↦ link ]) path
+connected_is ms links h a b l e f whole =
+    let edges : Edges = links_among (as_one_island ms) links in
+    let x : Joined (Linked edges) a l.name = joined_to_name ms links a l h e whole in
+    let y : Joined (Linked edges) b l.name = joined_to_name ms links b l h f whole in
+    joined_more (Linked edges) (Linked links) a b (linked_by_all ms links) (joined_both (Linked edges) a l.name b x (joined_back edges b l.name y))
 
 -- ---- all of it
 
@@ -289,5 +226,5 @@ pub islands_are : (ms : List Membership) (links : Edges) → are_named_well ms 0
 islands_are ms links named inside whole = record {
   partition = partition_is ms named;
   together = linked_together (map label_of ms) links inside;
-  connected = connected_is ms links inside whole;
+  connected = connected_is ms links whole;
 }

@@ -2,7 +2,7 @@
 use Rattle.std.proofs.Common.{◌≡◌, ℕ, suc, ◌++◌, Bool, true, false, cond, List, [], ◌∷◌, map, filter, Option, Some, None, refl, sym, ap, ap₂, ◌∙◌, subst}
 use Rattle.std.specs.List.{cons_option, flat_map}
 use Rattle.std.proofs.lemmas.List.Elements.{filter_map-append}
-use Rattle.body_handles.specs.declared.places.Place.{Place}
+use Rattle.body_handles.specs.declared.slot_table.SlotEntry.{SlotEntry}
 use Rattle.contacts.proofs.Members.{Each}
 use Rattle.contacts.specs.declared.constraint.Constraint.{Constraint}
 use Rattle.contacts.specs.declared.constraint.Constraint.TheVariants.{Joint, Contact}
@@ -22,7 +22,7 @@ one_put : (o : Option (Member Constraint)) (colour : Option ℕ) (xs : List Tie)
 one_put None colour xs ms e = e
 one_put (Some m) colour xs ms e = ap (λ (l : List (Member Constraint)). m ∷ l) e
 
-joint_ties_are : (bodies : List (Option Body)) (slot : ℕ) (places : List Place) (joints : List (Option SavedJoint)) → members_among (flat_map tie_if_any (joint_ties bodies slot places joints)) ≡ sets.ties_in bodies (joint_bonds_from slot places (map joint_kept joints))
+joint_ties_are : (bodies : List (Option Body)) (slot : ℕ) (slot_entries : List SlotEntry) (joints : List (Option SavedJoint)) → members_among (flat_map tie_if_any (joint_ties bodies slot slot_entries joints)) ≡ sets.ties_in bodies (joint_bonds_from slot slot_entries (map joint_kept joints))
 joint_ties_are bodies slot [] joints = refl
 joint_ties_are bodies slot (p ∷ ps) [] = refl
 joint_ties_are bodies slot (p ∷ ps) (None ∷ joints) = joint_ties_are bodies (suc slot) ps joints
@@ -58,13 +58,13 @@ members_append [] ys = refl
 members_append (x ∷ xs) ys = ap (λ (l : List (Member Constraint)). x.member ∷ l) (members_append xs ys)
 
 -- the ties of the world
-pub ties_are : (s : Saved) → Each DoesTouch s.contacts → members_among (ties_read s) ≡ sets.ties_of s.bodies (slots_of s.joint_places (map joint_kept s.joints)) (map (entry_read s.bodies) s.contacts)
+pub ties_are : (s : Saved) → Each DoesTouch s.contacts → members_among (ties_read s) ≡ sets.ties_of s.bodies (slots_of s.joint_entries (map joint_kept s.joints)) (map (entry_read s.bodies) s.contacts)
 unfolding sets.ties_of
 ties_are s all =
-    let js : List Tie = flat_map tie_if_any (joint_ties s.bodies 0 s.joint_places s.joints) in
+    let js : List Tie = flat_map tie_if_any (joint_ties s.bodies 0 s.joint_entries s.joints) in
     let cs : List Tie = flat_map (contact_listed s.bodies) s.contacts in
-    let first : List sets.Bond = joint_bonds_from 0 s.joint_places (map joint_kept s.joints) in
+    let first : List sets.Bond = joint_bonds_from 0 s.joint_entries (map joint_kept s.joints) in
     let second : List sets.Bond = map contact_bond (touching_keys (map (entry_read s.bodies) s.contacts)) in
     members_append js cs
-    ∙ ap₂ (λ (x y : List (Member Constraint)). x ++ y) (joint_ties_are s.bodies 0 s.joint_places s.joints) (contact_ties_are s.bodies s.contacts all)
+    ∙ ap₂ (λ (x y : List (Member Constraint)). x ++ y) (joint_ties_are s.bodies 0 s.joint_entries s.joints) (contact_ties_are s.bodies s.contacts all)
     ∙ sym (filter_map-append (sets.tie_of s.bodies) first second)

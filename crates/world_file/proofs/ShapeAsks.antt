@@ -21,12 +21,15 @@ use Rattle.shapes.specs.declared.pose.Pose.{Pose}
 use Rattle.shapes.specs.declared.shape.ShapeDef.{ShapeDef}
 use Rattle.shapes.proofs.ShapeLemmas.{all_shape_defs}
 use Rattle.world_file_base.specs.Asks.{asked, noted}
-use Rattle.world_file_base.specs.Reading.{first_in, greatest_group, has_keys, least_group, pair_asks, second_item, vector_asks}
+use Rattle.world_file_base.specs.Reading.{first_in, greatest_group, has_keys, least_group, second_item}
+use Rattle.world_file_base.specs.AskedValues.{pair_asks, vector_asks}
 use Rattle.world_file_base.specs.declared.clause.Clause.TheVariants.{FatBoxes, Form, Limits}
 use Rattle.world_file_base.specs.declared.reader.Reader.{Reader}
-use Rattle.world_file_base.specs.SavedBodies.{are_in_boxes, fit_asks, is_pose}
-use Rattle.world_file_base.specs.SavedShapes.{capsule_asks, circle_asks, core_asks, defs_in, fats_in, form_asks, long_asks, most_bits, most_corner, round_asks, segment_asks, shape_asks, shape_in, shapes_asks}
-use Rattle.world_file.proofs.AskLaws.{IsUnbroken, Passes, Tells, passes, passes_ends, passes_group, passes_number, passes_pair, passes_unsigned, passes_vector, still_broken, tells}
+use Rattle.world_file_base.specs.SavedBodies.{are_in_boxes}
+use Rattle.world_file_base.specs.AskedBodies.{fit_asks, is_pose}
+use Rattle.world_file_base.specs.SavedShapes.{defs_in, fats_in, most_bits, most_corner, shape_in}
+use Rattle.world_file_base.specs.AskedShapes.{capsule_asks, circle_asks, core_asks, form_asks, long_asks, round_asks, segment_asks, shape_asks, shapes_asks}
+use Rattle.world_file.proofs.AskLaws.{IsUnbroken, Passes, Establishes, passes, passes_ends, passes_group, passes_number, passes_pair, passes_unsigned, passes_vector, still_broken, establishes}
 use Rattle.world_file.proofs.Tests.{contains_is, signed_from, unsigned_small, vector_small}
 
 -- ---- what is asked of each
@@ -123,13 +126,13 @@ pub record IsFit (kind : Kind) (pose : Pose) (defs : List ShapeDef) (fats : List
   pub boxes : is_pose pose ≡ true → are_in_boxes pose defs fats ≡ true
 
 fit_by : (o : Option Refusal) (u b : Bool) (r : Reader) → IsUnbroken (cond (is_none o) (cond u (asked b FatBoxes r) r) (noted Limits r)) → (o ≡ None) × (u ≡ true → b ≡ true) × IsUnbroken r
-fit_by None true b r h = let o = tells b FatBoxes r h in (refl, λ e. o.0, o.1)
+fit_by None true b r h = let o = establishes b FatBoxes r h in (refl, λ e. o.0, o.1)
 fit_by None false b r h = (refl, λ e. absurd (false≢true e), h)
 fit_by (Some e) u b r h = absurd (still_broken Limits r.broken h)
 
-pub tells_fit : (kind : Kind) (pose : Pose) (defs : List ShapeDef) (fats : List Box2) → Tells (IsFit kind pose defs fats) (fit_asks kind pose defs fats)
+pub establishes_fit : (kind : Kind) (pose : Pose) (defs : List ShapeDef) (fats : List Box2) → Establishes (IsFit kind pose defs fats) (fit_asks kind pose defs fats)
 unfolding fit_asks
-tells_fit kind pose defs fats r h =
+establishes_fit kind pose defs fats r h =
     let o = fit_by (shapes_refusal (is_static kind) defs) (is_pose pose) (are_in_boxes pose defs fats) r h in
     (record { refusal = o.0; boxes = o.1 }, o.2)
 

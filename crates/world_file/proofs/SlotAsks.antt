@@ -4,26 +4,29 @@ use Rattle.std.proofs.lemmas.Bool.{false≢true}
 use Rattle.serde_json.specs.Data.{Data, Items, no_items, item}
 use Rattle.serde_json.specs.Events.{items_len}
 use Rattle.serde_json.specs.Find.{get}
-use Rattle.body_handles.specs.Places.{IsPlace}
-use Rattle.body_handles.specs.declared.places.Place.{Place}
-use Rattle.body_handles.specs.declared.places.TheConstants.{MAX_SLOTS, WORN_OUT}
+use Rattle.body_handles.specs.SlotEntries.{IsSlotEntry}
+use Rattle.body_handles.specs.declared.slot_table.SlotEntry.{SlotEntry}
+use Rattle.body_handles.specs.declared.slot_table.TheConstants.{MAX_SLOTS, WORN_OUT}
 use Rattle.contacts.proofs.Members.{Each, all_from_each}
 use Rattle.plain_world.specs.Slots.{AreMatched, body_at, is_taken, item_at}
 use Rattle.plain_world.specs.declared.body.Body.{Body}
-use Rattle.world_file_base.specs.Reading.{has_keys, items_in, list_asks, whole_asks, whole_in}
+use Rattle.world_file_base.specs.Reading.{has_keys, items_in, whole_in}
+use Rattle.world_file_base.specs.AskedValues.{list_asks, whole_asks}
 use Rattle.world_file_base.specs.declared.clause.Clause.TheVariants.{Form, Generations, Limits}
 use Rattle.world_file_base.specs.declared.reader.Reader.{Reader}
-use Rattle.world_file_base.specs.SavedBodies.{body_asks, body_in}
-use Rattle.world_file_base.specs.SavedJoints.{joint_asks, joint_in}
-use Rattle.world_file_base.specs.SavedSlots.{bodies_asks, bodies_in, body_key, body_slot_asks, generation_asks, generation_in, generation_of_number, generation_of_value, is_in_time, item_asks, joint_key, joint_slot_asks, joints_asks, joints_in, membership_or_none, memberships_in, no_membership, place_asks, place_in, places_in, positive, slot_keys, slots_asks}
+use Rattle.world_file_base.specs.SavedBodies.{body_in}
+use Rattle.world_file_base.specs.AskedBodies.{body_asks}
+use Rattle.world_file_base.specs.SavedJoints.{joint_in}
+use Rattle.world_file_base.specs.SavedSlots.{bodies_in, body_key, generation_in, generation_of_number, generation_of_value, is_in_time, joint_key, joints_in, membership_or_none, memberships_in, no_membership, slot_entry_in, slot_entries_in, positive, slot_keys}
+use Rattle.world_file_base.specs.AskedSlots.{bodies_asks, body_slot_asks, generation_asks, item_asks, joint_slot_asks, joints_asks, slot_entry_asks, slots_asks, joint_asks}
 use Rattle.world_file_base.specs.Versions.{most_slots}
 use Rattle.world_file_base.specs.declared.saved.Membership.{Membership}
 use Rattle.world_file_base.specs.declared.saved.SavedJoint.{SavedJoint}
 use Rattle.world_file_base.specs.declared.version.Version.{Version}
 use Rattle.world_file_base.specs.declared.version.Version.TheVariants.{First, Second}
 use Rattle.world_file.specs.Fitting.{membership_at}
-use Rattle.world_file.proofs.AskLaws.{IsUnbroken, Passes, Tells, passes, passes_list, passes_whole, tells}
-use Rattle.world_file.proofs.BodyAsks.{IsSavedBody, tells_body}
+use Rattle.world_file.proofs.AskLaws.{IsUnbroken, Passes, Establishes, passes, passes_list, passes_whole, establishes}
+use Rattle.world_file.proofs.BodyAsks.{IsSavedBody, establishes_body}
 use Rattle.world_file.proofs.ContactAsks.{IsSavedJoint, joint_is, passes_joint}
 use Rattle.world_file.proofs.Tests.{at_most, below, either_true, not_true}
 
@@ -54,26 +57,26 @@ generation_is v = generation_by (whole_in v)
 passes_generation : (v : Option Data) → Passes (generation_asks v)
 passes_generation v r h = passes_whole v r (passes (is_some (generation_of_value v)) Generations (whole_asks v r) h)
 
-in_time : (p : Place) → is_in_time p ≡ true → p.live ≡ true → p.generation < WORN_OUT
+in_time : (p : SlotEntry) → is_in_time p ≡ true → p.live ≡ true → p.generation < WORN_OUT
 in_time p h e = elim (either_true (not p.live) (nat_lt p.generation WORN_OUT) h) [
   | inl free ↦ absurd (false≢true (sym (not_true p.live free) ∙ e))
   | inr low ↦ below p.generation WORN_OUT low
 ]
 
-place_is : (key : List ℕ) (d : Data) → is_in_time (place_in key d) ≡ true → IsPlace (place_in key d)
-unfolding place_in
+place_is : (key : List ℕ) (d : Data) → is_in_time (slot_entry_in key d) ≡ true → IsSlotEntry (slot_entry_in key d)
+unfolding slot_entry_in
 place_is key d h =
     let g = generation_is (get (codes "generation") d) in
-    record { positive = g.positive; bounded = g.bounded; takes_back = in_time (place_in key d) h }
+    record { positive = g.positive; bounded = g.bounded; takes_back = in_time (slot_entry_in key d) h }
 
-live_is : (key : List ℕ) (d : Data) → (place_in key d).live ≡ is_some (get key d)
-unfolding place_in
+live_is : (key : List ℕ) (d : Data) → (slot_entry_in key d).live ≡ is_some (get key d)
+unfolding slot_entry_in
 live_is key d = refl
 
-tells_place : (key : List ℕ) (d : Data) → Tells (IsPlace (place_in key d)) (place_asks key d)
-unfolding place_asks
-tells_place key d r h =
-    let o = tells (is_in_time (place_in key d)) Generations _ h in
+establishes_place : (key : List ℕ) (d : Data) → Establishes (IsSlotEntry (slot_entry_in key d)) (slot_entry_asks key d)
+unfolding slot_entry_asks
+establishes_place key d r h =
+    let o = establishes (is_in_time (slot_entry_in key d)) Generations _ h in
     let keys = passes (has_keys (slot_keys (is_some (get key d))) d) Form _ o.1 in
     (place_is key d o.0, passes_generation (get (codes "generation") d) r keys)
 
@@ -81,9 +84,9 @@ slots_small : (v : Version) → most_slots v ≤ MAX_SLOTS
 slots_small First = omega arith
 slots_small Second = omega arith
 
-pub tells_slots : (v : Version) (value : Option Data) → Tells (items_len (items_in value) ≤ MAX_SLOTS) (slots_asks v value)
-tells_slots v value r h =
-    let o = tells (nat_le (items_len (items_in value)) (most_slots v)) Limits (list_asks value r) h in
+pub establishes_slots : (v : Version) (value : Option Data) → Establishes (items_len (items_in value) ≤ MAX_SLOTS) (slots_asks v value)
+establishes_slots v value r h =
+    let o = establishes (nat_le (items_len (items_in value)) (most_slots v)) Limits (list_asks value r) h in
     let few = at_most (items_len (items_in value)) (most_slots v) o.0 in
     let all = slots_small v in
     (omega (arith, few, all), passes_list value r o.1)
@@ -94,13 +97,13 @@ abbrev pub OnBody : ℕ → Option Body → Membership → Type 0
 OnBody most None m = m ≡ no_membership
 OnBody most (Some b) m = IsSavedBody most b m
 
-pub record IsBodySlot (most : ℕ) (p : Place) (o : Option Body) (m : Membership) : Type 0 where
-  pub place : IsPlace p
+pub record IsBodySlot (most : ℕ) (p : SlotEntry) (o : Option Body) (m : Membership) : Type 0 where
+  pub place : IsSlotEntry p
   pub live : p.live ≡ is_some o
   pub body : OnBody most o m
 
 -- three lists, slot by slot
-abbrev pub AreBodySlots : ℕ → List Place → List (Option Body) → List Membership → Type 0
+abbrev pub AreBodySlots : ℕ → List SlotEntry → List (Option Body) → List Membership → Type 0
 AreBodySlots most [] [] [] = Unit {0}
 AreBodySlots most [] [] (m ∷ ms) = ⊥
 AreBodySlots most [] (o ∷ os) ms = ⊥
@@ -108,30 +111,30 @@ AreBodySlots most (p ∷ ps) [] ms = ⊥
 AreBodySlots most (p ∷ ps) (o ∷ os) [] = ⊥
 AreBodySlots most (p ∷ ps) (o ∷ os) (m ∷ ms) = IsBodySlot most p o m × AreBodySlots most ps os ms
 
-tells_item : (most : ℕ) (o : Option Data) → Tells (OnBody most (option_map (body_in most) o) (membership_or_none o)) (item_asks (body_asks most) o)
-tells_item most None r h = (refl, h)
-tells_item most (Some d) r h = tells_body most d r h
+establishes_item : (most : ℕ) (o : Option Data) → Establishes (OnBody most (option_map (body_in most) o) (membership_or_none o)) (item_asks (body_asks most) o)
+establishes_item most None r h = (refl, h)
+establishes_item most (Some d) r h = establishes_body most d r h
 
 some_map : {X Y : Type 0} (f : X → Y) (o : Option X) → is_some o ≡ is_some (option_map f o)
 some_map f None = refl
 some_map f (Some x) = refl
 
-tells_body_slot : (most : ℕ) (d : Data) → Tells (IsBodySlot most (place_in body_key d) (option_map (body_in most) (get body_key d)) (membership_or_none (get body_key d))) (body_slot_asks most d)
-tells_body_slot most d r h =
-    let o = tells_item most (get body_key d) (place_asks body_key d r) h in
-    let p = tells_place body_key d r o.1 in
+establishes_body_slot : (most : ℕ) (d : Data) → Establishes (IsBodySlot most (slot_entry_in body_key d) (option_map (body_in most) (get body_key d)) (membership_or_none (get body_key d))) (body_slot_asks most d)
+establishes_body_slot most d r h =
+    let o = establishes_item most (get body_key d) (slot_entry_asks body_key d r) h in
+    let p = establishes_place body_key d r o.1 in
     (record { place = p.0; live = live_is body_key d ∙ some_map (body_in most) (get body_key d); body = o.0 }, p.1)
 
 passes_bodies : (most : ℕ) (ds : Items) (r : Reader) → IsUnbroken (bodies_asks most ds r) → IsUnbroken r
 passes_bodies most no_items r h = h
-passes_bodies most (item d ds) r h = (tells_body_slot most d r (passes_bodies most ds (body_slot_asks most d r) h)).1
+passes_bodies most (item d ds) r h = (establishes_body_slot most d r (passes_bodies most ds (body_slot_asks most d r) h)).1
 
-body_slots : (most : ℕ) (ds : Items) (r : Reader) → IsUnbroken (bodies_asks most ds r) → AreBodySlots most (places_in body_key ds) (bodies_in most ds) (memberships_in ds)
+body_slots : (most : ℕ) (ds : Items) (r : Reader) → IsUnbroken (bodies_asks most ds r) → AreBodySlots most (slot_entries_in body_key ds) (bodies_in most ds) (memberships_in ds)
 body_slots most no_items r h = tt
-body_slots most (item d ds) r h = ((tells_body_slot most d r (passes_bodies most ds (body_slot_asks most d r) h)).0, body_slots most ds (body_slot_asks most d r) h)
+body_slots most (item d ds) r h = ((establishes_body_slot most d r (passes_bodies most ds (body_slot_asks most d r) h)).0, body_slots most ds (body_slot_asks most d r) h)
 
-pub tells_bodies : (most : ℕ) (ds : Items) → Tells (AreBodySlots most (places_in body_key ds) (bodies_in most ds) (memberships_in ds)) (bodies_asks most ds)
-tells_bodies most ds r h = (body_slots most ds r h, passes_bodies most ds r h)
+pub establishes_bodies : (most : ℕ) (ds : Items) → Establishes (AreBodySlots most (slot_entries_in body_key ds) (bodies_in most ds) (memberships_in ds)) (bodies_asks most ds)
+establishes_bodies most ds r h = (body_slots most ds r h, passes_bodies most ds r h)
 
 pub bodies_long : (most : ℕ) (ds : Items) → length (bodies_in most ds) ≡ items_len ds
 bodies_long most no_items = refl
@@ -140,7 +143,7 @@ bodies_long most (item d ds) = ap (λ n. suc n) (bodies_long most ds)
 -- ---- what the slots tell
 
 -- the body of a slot and what it says of its island, beyond the lists too
-pub slot_is : (most : ℕ) (ps : List Place) (os : List (Option Body)) (ms : List Membership) → AreBodySlots most ps os ms → (slot : ℕ) → OnBody most (body_at os slot) (membership_at ms slot)
+pub slot_is : (most : ℕ) (ps : List SlotEntry) (os : List (Option Body)) (ms : List Membership) → AreBodySlots most ps os ms → (slot : ℕ) → OnBody most (body_at os slot) (membership_at ms slot)
 slot_is most [] [] [] are slot = refl
 slot_is most [] [] (m ∷ ms) are slot = absurd are
 slot_is most [] (o ∷ os) ms are slot = absurd are
@@ -149,7 +152,7 @@ slot_is most (p ∷ ps) (o ∷ os) [] are slot = absurd are
 slot_is most (p ∷ ps) (o ∷ os) (m ∷ ms) are zero = are.0.body
 slot_is most (p ∷ ps) (o ∷ os) (m ∷ ms) are (suc slot) = slot_is most ps os ms are.1 slot
 
-taken_is : (most : ℕ) (ps : List Place) (os : List (Option Body)) (ms : List Membership) → AreBodySlots most ps os ms → (slot : ℕ) → is_some (item_at os slot) ≡ is_taken ps slot
+taken_is : (most : ℕ) (ps : List SlotEntry) (os : List (Option Body)) (ms : List Membership) → AreBodySlots most ps os ms → (slot : ℕ) → is_some (item_at os slot) ≡ is_taken ps slot
 taken_is most [] [] [] are slot = refl
 taken_is most [] [] (m ∷ ms) are slot = absurd are
 taken_is most [] (o ∷ os) ms are slot = absurd are
@@ -158,7 +161,7 @@ taken_is most (p ∷ ps) (o ∷ os) [] are slot = absurd are
 taken_is most (p ∷ ps) (o ∷ os) (m ∷ ms) are zero = sym are.0.live
 taken_is most (p ∷ ps) (o ∷ os) (m ∷ ms) are (suc slot) = taken_is most ps os ms are.1 slot
 
-as_long : (most : ℕ) (ps : List Place) (os : List (Option Body)) (ms : List Membership) → AreBodySlots most ps os ms → length ps ≡ length os
+as_long : (most : ℕ) (ps : List SlotEntry) (os : List (Option Body)) (ms : List Membership) → AreBodySlots most ps os ms → length ps ≡ length os
 as_long most [] [] [] are = refl
 as_long most [] [] (m ∷ ms) are = absurd are
 as_long most [] (o ∷ os) ms are = absurd are
@@ -166,7 +169,7 @@ as_long most (p ∷ ps) [] ms are = absurd are
 as_long most (p ∷ ps) (o ∷ os) [] are = absurd are
 as_long most (p ∷ ps) (o ∷ os) (m ∷ ms) are = ap (λ n. suc n) (as_long most ps os ms are.1)
 
-pub bodies_matched : (most : ℕ) (ps : List Place) (os : List (Option Body)) (ms : List Membership) → AreBodySlots most ps os ms → length os ≤ MAX_SLOTS → AreMatched ps os
+pub bodies_matched : (most : ℕ) (ps : List SlotEntry) (os : List (Option Body)) (ms : List Membership) → AreBodySlots most ps os ms → length os ≤ MAX_SLOTS → AreMatched ps os
 bodies_matched most ps os ms are few = record { slots = as_long most ps os ms are; few = few; taken = taken_is most ps os ms are }
 
 -- ---- slots of joints
@@ -175,12 +178,12 @@ abbrev pub OnJoint : Option SavedJoint → Type 0
 OnJoint None = Unit {0}
 OnJoint (Some j) = IsSavedJoint j
 
-pub record IsJointSlot (p : Place) (o : Option SavedJoint) : Type 0 where
-  pub place : IsPlace p
+pub record IsJointSlot (p : SlotEntry) (o : Option SavedJoint) : Type 0 where
+  pub place : IsSlotEntry p
   pub live : p.live ≡ is_some o
   pub joint : OnJoint o
 
-abbrev pub AreSavedSlots : List Place → List (Option SavedJoint) → Type 0
+abbrev pub AreSavedSlots : List SlotEntry → List (Option SavedJoint) → Type 0
 AreSavedSlots [] [] = Unit {0}
 AreSavedSlots [] (o ∷ os) = ⊥
 AreSavedSlots (p ∷ ps) [] = ⊥
@@ -194,54 +197,54 @@ passes_item : (v : Version) (o : Option Data) → Passes (item_asks (joint_asks 
 passes_item v None r h = h
 passes_item v (Some d) r h = passes_joint v d r h
 
-tells_joint_slot : (v : Version) (d : Data) → Tells (IsJointSlot (place_in joint_key d) (option_map (joint_in v) (get joint_key d))) (joint_slot_asks v d)
-tells_joint_slot v d r h =
-    let p = tells_place joint_key d r (passes_item v (get joint_key d) (place_asks joint_key d r) h) in
+establishes_joint_slot : (v : Version) (d : Data) → Establishes (IsJointSlot (slot_entry_in joint_key d) (option_map (joint_in v) (get joint_key d))) (joint_slot_asks v d)
+establishes_joint_slot v d r h =
+    let p = establishes_place joint_key d r (passes_item v (get joint_key d) (slot_entry_asks joint_key d r) h) in
     (record { place = p.0; live = live_is joint_key d ∙ some_map (joint_in v) (get joint_key d); joint = on_joint v (get joint_key d) }, p.1)
 
 passes_joints : (v : Version) (ds : Items) (r : Reader) → IsUnbroken (joints_asks v ds r) → IsUnbroken r
 passes_joints v no_items r h = h
-passes_joints v (item d ds) r h = (tells_joint_slot v d r (passes_joints v ds (joint_slot_asks v d r) h)).1
+passes_joints v (item d ds) r h = (establishes_joint_slot v d r (passes_joints v ds (joint_slot_asks v d r) h)).1
 
-joint_slots : (v : Version) (ds : Items) (r : Reader) → IsUnbroken (joints_asks v ds r) → AreSavedSlots (places_in joint_key ds) (joints_in v ds)
+joint_slots : (v : Version) (ds : Items) (r : Reader) → IsUnbroken (joints_asks v ds r) → AreSavedSlots (slot_entries_in joint_key ds) (joints_in v ds)
 joint_slots v no_items r h = tt
-joint_slots v (item d ds) r h = ((tells_joint_slot v d r (passes_joints v ds (joint_slot_asks v d r) h)).0, joint_slots v ds (joint_slot_asks v d r) h)
+joint_slots v (item d ds) r h = ((establishes_joint_slot v d r (passes_joints v ds (joint_slot_asks v d r) h)).0, joint_slots v ds (joint_slot_asks v d r) h)
 
-pub tells_joints : (v : Version) (ds : Items) → Tells (AreSavedSlots (places_in joint_key ds) (joints_in v ds)) (joints_asks v ds)
-tells_joints v ds r h = (joint_slots v ds r h, passes_joints v ds r h)
+pub establishes_joints : (v : Version) (ds : Items) → Establishes (AreSavedSlots (slot_entries_in joint_key ds) (joints_in v ds)) (joints_asks v ds)
+establishes_joints v ds r h = (joint_slots v ds r h, passes_joints v ds r h)
 
 pub joints_long : (v : Version) (ds : Items) → length (joints_in v ds) ≡ items_len ds
 joints_long v no_items = refl
 joints_long v (item d ds) = ap (λ n. suc n) (joints_long v ds)
 
-pub joint_slot_is : (ps : List Place) (os : List (Option SavedJoint)) → AreSavedSlots ps os → (slot : ℕ) → OnJoint (item_at os slot)
+pub joint_slot_is : (ps : List SlotEntry) (os : List (Option SavedJoint)) → AreSavedSlots ps os → (slot : ℕ) → OnJoint (item_at os slot)
 joint_slot_is [] [] are slot = tt
 joint_slot_is [] (o ∷ os) are slot = absurd are
 joint_slot_is (p ∷ ps) [] are slot = absurd are
 joint_slot_is (p ∷ ps) (o ∷ os) are zero = are.0.joint
 joint_slot_is (p ∷ ps) (o ∷ os) are (suc slot) = joint_slot_is ps os are.1 slot
 
-joint_taken : (ps : List Place) (os : List (Option SavedJoint)) → AreSavedSlots ps os → (slot : ℕ) → is_some (item_at os slot) ≡ is_taken ps slot
+joint_taken : (ps : List SlotEntry) (os : List (Option SavedJoint)) → AreSavedSlots ps os → (slot : ℕ) → is_some (item_at os slot) ≡ is_taken ps slot
 joint_taken [] [] are slot = refl
 joint_taken [] (o ∷ os) are slot = absurd are
 joint_taken (p ∷ ps) [] are slot = absurd are
 joint_taken (p ∷ ps) (o ∷ os) are zero = sym are.0.live
 joint_taken (p ∷ ps) (o ∷ os) are (suc slot) = joint_taken ps os are.1 slot
 
-joints_as_long : (ps : List Place) (os : List (Option SavedJoint)) → AreSavedSlots ps os → length ps ≡ length os
+joints_as_long : (ps : List SlotEntry) (os : List (Option SavedJoint)) → AreSavedSlots ps os → length ps ≡ length os
 joints_as_long [] [] are = refl
 joints_as_long [] (o ∷ os) are = absurd are
 joints_as_long (p ∷ ps) [] are = absurd are
 joints_as_long (p ∷ ps) (o ∷ os) are = ap (λ n. suc n) (joints_as_long ps os are.1)
 
-pub joints_matched : (ps : List Place) (os : List (Option SavedJoint)) → AreSavedSlots ps os → length os ≤ MAX_SLOTS → AreMatched ps os
+pub joints_matched : (ps : List SlotEntry) (os : List (Option SavedJoint)) → AreSavedSlots ps os → length os ≤ MAX_SLOTS → AreMatched ps os
 joints_matched ps os are few = record { slots = joints_as_long ps os are; few = few; taken = joint_taken ps os are }
 
-each_place : (ps : List Place) (os : List (Option SavedJoint)) → AreSavedSlots ps os → Each IsPlace ps
+each_place : (ps : List SlotEntry) (os : List (Option SavedJoint)) → AreSavedSlots ps os → Each IsSlotEntry ps
 each_place [] [] are = tt
 each_place [] (o ∷ os) are = absurd are
 each_place (p ∷ ps) [] are = absurd are
 each_place (p ∷ ps) (o ∷ os) are = (are.0.place, each_place ps os are.1)
 
-pub joint_places_are : (ps : List Place) (os : List (Option SavedJoint)) → AreSavedSlots ps os → All IsPlace ps
-joint_places_are ps os are = all_from_each IsPlace ps (each_place ps os are)
+pub joint_places_are : (ps : List SlotEntry) (os : List (Option SavedJoint)) → AreSavedSlots ps os → All IsSlotEntry ps
+joint_places_are ps os are = all_from_each IsSlotEntry ps (each_place ps os are)

@@ -181,15 +181,15 @@ clear_to n clause (Some other) h k = by_test (λ o. IsClear n o) (nat_lt (clause
 
 -- it asks these tests and nothing else
 pub record Says (tests : Tests) (ask : Ask) : Type 0 where
-  pub tells : (n : ℕ) (r : Reader) → IsClear n (ask r).broken → Hold n tests × IsClear n r.broken
+  pub establishes : (n : ℕ) (r : Reader) → IsClear n (ask r).broken → Hold n tests × IsClear n r.broken
   pub stays : (n : ℕ) (r : Reader) → Hold n tests → IsClear n r.broken → IsClear n (ask r).broken
 
 -- one question after the other
 pub after : {ss ts : Tests} {f g : Ask} → Says ss f → Says ts g → Says (both ss ts) (λ r. g (f r))
 after {ss} {ts} {f} {g} first second = record {
-  tells = λ n r clear.
-      let late = second.tells n (f r) clear in
-      let early = first.tells n r late.1 in
+  establishes = λ n r clear.
+      let late = second.establishes n (f r) clear in
+      let early = first.establishes n r late.1 in
       (both_to n ss ts early.0 late.0, early.1);
   stays = λ n r hold clear.
       let parts = both_of n ss ts hold in
@@ -198,7 +198,7 @@ after {ss} {ts} {f} {g} first second = record {
 
 -- nothing is asked
 pub idle : (ts : Tests) → AllHold ts → Says ts (λ r. r)
-idle ts all = record { tells = λ n r clear. (all_hold n ts all, clear); stays = λ n r hold clear. clear }
+idle ts all = record { establishes = λ n r clear. (all_hold n ts all, clear); stays = λ n r hold clear. clear }
 
 noted_tells : (n : ℕ) (clause : Clause) (o : Option Clause) → IsClear n (lesser_clause clause o) → Hold n (behind (before clause) false) × IsClear n o
 noted_tells n clause o clear =
@@ -214,15 +214,15 @@ noted_stays n clause o hold clear =
     clear_to n clause o (omega (arith, less, number)) clear
 
 pub asks : (b : Bool) (clause : Clause) → Says (behind (before clause) b) (asked b clause)
-asks true clause = record { tells = λ n r clear. (behind_true n (before clause), clear); stays = λ n r hold clear. clear }
-asks false clause = record { tells = λ n r clear. noted_tells n clause r.broken clear; stays = λ n r hold clear. noted_stays n clause r.broken hold clear }
+asks true clause = record { establishes = λ n r clear. (behind_true n (before clause), clear); stays = λ n r hold clear. clear }
+asks false clause = record { establishes = λ n r clear. noted_tells n clause r.broken clear; stays = λ n r hold clear. noted_stays n clause r.broken hold clear }
 
 -- it is asked if the test fails
 pub asks_unless : {ts : Tests} {f : Ask} (u : Bool) → Says ts f → Says (unless u ts) (λ r. cond u r (f r))
-asks_unless {ts} {f} true says = record { tells = λ n r clear. (unless_true n ts, clear); stays = λ n r hold clear. clear }
+asks_unless {ts} {f} true says = record { establishes = λ n r clear. (unless_true n ts, clear); stays = λ n r hold clear. clear }
 asks_unless {ts} {f} false says = record {
-  tells = λ n r clear.
-      let told = says.tells n r clear in
+  establishes = λ n r clear.
+      let told = says.establishes n r clear in
       (subst (λ (os : Tests). Hold n os) (sym (unless_false ts)) told.0, told.1);
   stays = λ n r hold clear. says.stays n r (subst (λ (os : Tests). Hold n os) (unless_false ts) hold) clear;
 }
@@ -230,6 +230,6 @@ asks_unless {ts} {f} false says = record {
 -- other tests that hold where these do, and just there
 pub says_too : {ss ts : Tests} {f : Ask} → ((n : ℕ) → Hold n ss → Hold n ts) → ((n : ℕ) → Hold n ts → Hold n ss) → Says ss f → Says ts f
 says_too {ss} {ts} {f} to of says = record {
-  tells = λ n r clear. let told = says.tells n r clear in (to n told.0, told.1);
+  establishes = λ n r clear. let told = says.establishes n r clear in (to n told.0, told.1);
   stays = λ n r hold clear. says.stays n r (of n hold) clear;
 }

@@ -1,7 +1,7 @@
 -- Each tie of what was read has a colour of the world, or none.
 use Rattle.std.proofs.Common.{ℕ, suc, Bool, true, false, cond, List, [], ◌∷◌, Option, Some, None}
 use Rattle.std.specs.List.{flat_map}
-use Rattle.body_handles.specs.declared.places.Place.{Place}
+use Rattle.body_handles.specs.declared.slot_table.SlotEntry.{SlotEntry}
 use Rattle.contacts.proofs.Members.{Each, IsIn, each_append, each_in}
 use Rattle.contacts.specs.declared.constraint.Constraint.{Constraint}
 use Rattle.contacts.specs.declared.constraint.Constraint.TheVariants.{Joint, Contact}
@@ -24,7 +24,7 @@ one_has : (o : Option (Member Constraint)) (colour : Option ℕ) → IsColour co
 one_has None colour h = tt
 one_has (Some m) colour h = (h, tt)
 
-joints_have : (bodies : List (Option Body)) (slot : ℕ) (ps : List Place) (os : List (Option SavedJoint)) → AreSavedSlots ps os → Each HasColour (flat_map tie_if_any (joint_ties bodies slot ps os))
+joints_have : (bodies : List (Option Body)) (slot : ℕ) (ps : List SlotEntry) (os : List (Option SavedJoint)) → AreSavedSlots ps os → Each HasColour (flat_map tie_if_any (joint_ties bodies slot ps os))
 joints_have bodies slot [] os are = tt
 joints_have bodies slot (p ∷ ps) [] are = absurd are
 joints_have bodies slot (p ∷ ps) (None ∷ os) are = joints_have bodies (suc slot) ps os are.1
@@ -44,5 +44,5 @@ contacts_have bodies (c ∷ cs) all =
 pub ties_coloured : (s : Saved) → HasParts s → (t : Tie) → IsIn t (ties_read s) → IsColour t.colour
 ties_coloured s h t i =
     each_in HasColour t (ties_read s)
-    (each_append HasColour (flat_map tie_if_any (joint_ties s.bodies 0 s.joint_places s.joints)) (flat_map (contact_listed s.bodies) s.contacts) (joints_have s.bodies 0 s.joint_places s.joints h.joints) (contacts_have s.bodies s.contacts h.contacts))
+    (each_append HasColour (flat_map tie_if_any (joint_ties s.bodies 0 s.joint_entries s.joints)) (flat_map (contact_listed s.bodies) s.contacts) (joints_have s.bodies 0 s.joint_entries s.joints h.joints) (contacts_have s.bodies s.contacts h.contacts))
     i

@@ -1,7 +1,7 @@
 -- What is written of a world, part by part.
 use Rattle.std.specs.Prelude.{ℕ, suc, ◌+◌, List, [], ◌∷◌, map, Option, Some, None, option_map, slice_get}
 use Rattle.body_handles.specs.declared.handle.Handle.{Handle}
-use Rattle.body_handles.specs.declared.places.Place.{Place}
+use Rattle.body_handles.specs.declared.slot_table.SlotEntry.{SlotEntry}
 use Rattle.contacts.specs.declared.constraint.Constraint.{Constraint}
 use Rattle.contacts.specs.declared.constraint.Constraint.TheVariants.{Joint, Contact}
 use Rattle.contacts_base.specs.Evaluate.{touches}
@@ -24,18 +24,18 @@ abbrev pub membership_of : Option Label → Membership
 membership_of None = no_membership
 membership_of (Some l) = record { island = Some l.name; loose = is_loose l.state; asleep = is_asleep l.state }
 
-abbrev pub id_in : List Place → ℕ → Handle
-id_in places slot = record { slot = slot; generation = generation_there (slice_get places slot) }
+abbrev pub id_in : List SlotEntry → ℕ → Handle
+id_in slot_entries slot = record { slot = slot; generation = generation_there (slice_get slot_entries slot) }
 
-abbrev pub saved_joint : List Place → Option ℕ → BodyJoint → SavedJoint
-saved_joint places colour j = record { a = id_in places j.a; b = id_in places j.b; joint = j; colour = colour }
+abbrev pub saved_joint : List SlotEntry → Option ℕ → BodyJoint → SavedJoint
+saved_joint slot_entries colour j = record { a = id_in slot_entries j.a; b = id_in slot_entries j.b; joint = j; colour = colour }
 
 -- those of the slots from this one on
-abbrev pub saved_joints : List Place → List (List Constraint) → ℕ → List Place → List (Option BodyJoint) → List (Option SavedJoint)
-saved_joints places colours slot [] joints = []
-saved_joints places colours slot (p ∷ ps) [] = []
-saved_joints places colours slot (p ∷ ps) (o ∷ joints) =
-    option_map (saved_joint places (colour_of (Joint (record { slot = slot; generation = p.generation })) colours)) o ∷ saved_joints places colours (suc slot) ps joints
+abbrev pub saved_joints : List SlotEntry → List (List Constraint) → ℕ → List SlotEntry → List (Option BodyJoint) → List (Option SavedJoint)
+saved_joints slot_entries colours slot [] joints = []
+saved_joints slot_entries colours slot (p ∷ ps) [] = []
+saved_joints slot_entries colours slot (p ∷ ps) (o ∷ joints) =
+    option_map (saved_joint slot_entries (colour_of (Joint (record { slot = slot; generation = p.generation })) colours)) o ∷ saved_joints slot_entries colours (suc slot) ps joints
 
 abbrev pub count_of : Option ContactPoint → ℕ
 count_of None = 0
@@ -53,11 +53,11 @@ saved_contact colours e = record {
 -- what is written of a world with these totals
 abbrev pub saved_of : Plain → Totals → Saved
 saved_of p t = record {
-  places = p.places;
+  slot_entries = p.slot_entries;
   bodies = p.bodies;
   memberships = map membership_of p.islands;
-  joint_places = p.joint_places;
-  joints = saved_joints p.places p.colours 0 p.joint_places p.joints;
+  joint_entries = p.joint_entries;
+  joints = saved_joints p.slot_entries p.colours 0 p.joint_entries p.joints;
   contacts = map (saved_contact p.colours) p.contacts;
   totals = t;
   gravity = p.gravity;

@@ -9,8 +9,8 @@ use Rattle.plain_world.specs.Kinds.{carried_by, is_moving}
 use Rattle.plain_world.specs.declared.body.Body.{Body}
 use Rattle.sleep_wake.specs.Acting.{links_of}
 use Rattle.world_file_base.specs.Reading.{is_null, items_in, unsigned_in}
-use Rattle.world_file_base.specs.SavedBodies.{are_in_boxes, is_at_rest, island_fits, island_told}
-use Rattle.world_file_base.specs.SavedSlots.{body_key, generation_of_value, is_in_time, joint_key, place_in}
+use Rattle.world_file_base.specs.SavedBodies.{are_in_boxes, is_at_rest, island_fits, is_island_or_nothing}
+use Rattle.world_file_base.specs.SavedSlots.{body_key, generation_of_value, is_in_time, joint_key, slot_entry_in}
 use Rattle.world_file_base.specs.Versions.{colour_of_number}
 use Rattle.world_file_base.specs.declared.clause.Clause.{Clause}
 use Rattle.world_file_base.specs.declared.clause.Clause.TheVariants.{Form, Limits, Generations, References, FatBoxes, Memberships, Links, Islands, Colours, Momentum}
@@ -25,7 +25,7 @@ use Rattle.world_file.specs.SavedLimits.{is_in_limits}
 
 -- a slot's generation is 1 to the last one, and nothing is in a slot at the last
 abbrev pub has_generation : List ℕ → Data → Bool
-has_generation key d = is_some (generation_of_value (get (codes "generation") d)) && is_in_time (place_in key d)
+has_generation key d = is_some (generation_of_value (get (codes "generation") d)) && is_in_time (slot_entry_in key d)
 
 -- of all slots of bodies and of joints
 unfoldable pub have_generations : Data → Bool
@@ -41,15 +41,15 @@ is_boxed None = true
 is_boxed (Some b) = are_in_boxes (pose_of b) b.shapes b.fats
 
 -- just a mover has an island, and what has none says nothing of one
-abbrev pub is_told : Option Body → Membership → Bool
-is_told None m = true
-is_told (Some b) m = island_fits b m && island_told m
+abbrev pub is_membership_right : Option Body → Membership → Bool
+is_membership_right None m = true
+is_membership_right (Some b) m = island_fits b m && is_island_or_nothing m
 
 -- each slot with what is said of its island
-abbrev pub are_told : List (Option Body) → List Membership → Bool
-are_told [] ms = true
-are_told (o ∷ os) [] = true
-are_told (o ∷ os) (m ∷ ms) = is_told o m && are_told os ms
+abbrev pub are_memberships_right : List (Option Body) → List Membership → Bool
+are_memberships_right [] ms = true
+are_memberships_right (o ∷ os) [] = true
+are_memberships_right (o ∷ os) (m ∷ ms) = is_membership_right o m && are_memberships_right os ms
 
 -- what isn't an awake mover has no momentum, and what is disabled has no course
 abbrev pub is_rested : Option Body → Bool
@@ -96,7 +96,7 @@ keeps Limits d = is_in_limits d
 keeps Generations d = have_generations d
 keeps References d = fits References (saved_in d)
 keeps FatBoxes d = list_all is_boxed (saved_in d).bodies
-keeps Memberships d = are_told (saved_in d).bodies (saved_in d).memberships && fits Memberships (saved_in d)
+keeps Memberships d = are_memberships_right (saved_in d).bodies (saved_in d).memberships && fits Memberships (saved_in d)
 keeps Links d = fits Links (saved_in d)
 keeps Islands d = list_all is_rested (saved_in d).bodies && fits Islands (saved_in d)
 keeps Colours d = have_colours d && fits Colours (saved_in d)

@@ -4,7 +4,7 @@ use Rattle.serde_json.specs.Data.{Data}
 use Rattle.contacts.specs.declared.constraint.Constraint.{Constraint}
 use Rattle.contacts.specs.declared.constraint.Constraint.TheVariants.{Joint, Contact}
 use Rattle.contacts_base.specs.declared.contact.ContactEntry.{ContactEntry}
-use Rattle.body_handles.specs.declared.places.Place.{Place}
+use Rattle.body_handles.specs.declared.slot_table.SlotEntry.{SlotEntry}
 use Rattle.graph_colours.specs.declared.limits.TheConstants.{COLOURS}
 use Rattle.impulse_ledger.specs.declared.totals.Totals.{Totals}
 use Rattle.plain_world.specs.Plain.{Plain, colour_of}
@@ -24,9 +24,9 @@ abbrev pub contact_colours : List (List Constraint) → List ContactEntry → Li
 contact_colours colours contacts = map (λ (e : ContactEntry). colour_of (Contact e.key) colours) contacts
 
 -- the colour of each joint, from this slot on
-abbrev pub joint_colours : List (List Constraint) → ℕ → List Place → List (Option ℕ)
+abbrev pub joint_colours : List (List Constraint) → ℕ → List SlotEntry → List (Option ℕ)
 joint_colours colours slot [] = []
-joint_colours colours slot (place ∷ places) = colour_of (Joint (record { slot = slot; generation = place.generation })) colours ∷ joint_colours colours (suc slot) places
+joint_colours colours slot (place ∷ slot_entries) = colour_of (Joint (record { slot = slot; generation = place.generation })) colours ∷ joint_colours colours (suc slot) slot_entries
 
 -- the number of the version that is written
 abbrev pub written_version : ℕ
@@ -35,11 +35,11 @@ written_version = 2
 -- a world with the totals of its ledger
 unfoldable pub value_of : Plain → Totals → Data
 value_of p t = object_of (
-    (codes "bodies", bodies_data p.places p.bodies p.islands)
+    (codes "bodies", bodies_data p.slot_entries p.bodies p.islands)
     ∷ (codes "call", natural p.calls)
     ∷ (codes "contacts", contacts_data p.contacts (contact_colours p.colours p.contacts))
     ∷ (codes "gravity", vector_of p.gravity)
-    ∷ (codes "joints", joints_data p.places p.joint_places p.joints (joint_colours p.colours 0 p.joint_places))
+    ∷ (codes "joints", joints_data p.slot_entries p.joint_entries p.joints (joint_colours p.colours 0 p.joint_entries))
     ∷ (codes "ledger", totals_data t)
     ∷ (codes "step", natural p.steps)
     ∷ (codes "version", natural written_version)
@@ -50,9 +50,9 @@ value_of p t = object_of (
 -- the world of what was read
 abbrev pub plain_of : Saved → Plain
 plain_of s = record {
-  places = s.places;
+  slot_entries = s.slot_entries;
   bodies = s.bodies;
-  joint_places = s.joint_places;
+  joint_entries = s.joint_entries;
   joints = map joint_kept s.joints;
   contacts = map (entry_read s.bodies) s.contacts;
   islands = map label_of s.memberships;

@@ -1,10 +1,10 @@
 -- Whether the parts of a saved world fit together.
 use Rattle.std.specs.Prelude.{ℕ, zero, suc, ◌==◌, ◌&&◌, ◌||◌, ◌++◌, Bool, true, false, not, cond, nat_le, nat_lt, List, [], ◌∷◌, map, slice_get, Option, Some, None, is_some, option_map, unwrap_or}
-use Rattle.std.specs.List.{flat_map, list_all}
+use Rattle.std.specs.List.{filter, flat_map, list_all}
 use Rattle.std.specs.Option.{is_none}
 use Rattle.std.specs.Ordering.{int_eq}
-use Rattle.body_handles.specs.Places.{is_live}
-use Rattle.body_handles.specs.declared.places.Place.{Place}
+use Rattle.body_handles.specs.SlotEntries.{is_live}
+use Rattle.body_handles.specs.declared.slot_table.SlotEntry.{SlotEntry}
 use Rattle.contacts.specs.declared.constraint.Constraint.{Constraint}
 use Rattle.contacts.specs.declared.constraint.Constraint.TheVariants.{Joint, Contact}
 use Rattle.contacts_base.specs.Keys.{key_number}
@@ -15,25 +15,21 @@ use Rattle.graph_colours.specs.declared.limits.TheConstants.{COLOURS}
 use Rattle.graph_colours.specs.declared.member.Member.{Member}
 use Rattle.impulse_ledger.specs.Totals.{total_over}
 use Rattle.impulse_ledger.specs.declared.totals.Totals.{Totals}
-use Rattle.islands.specs.Labels.{Labels, label_at, own_label}
-use Rattle.islands.specs.Merging.{merged_all}
+use Rattle.islands.specs.Labels.{Labels, label_at, own_label, split_by}
 use Rattle.islands.specs.Links.{Edges}
 use Rattle.islands.specs.declared.label.IslandState.{IslandState}
 use Rattle.islands.specs.declared.label.IslandState.TheVariants.{Asleep, Loose, Whole}
 use Rattle.islands.specs.declared.label.Label.{Label}
 use Rattle.plain_world.specs.Momentum.{momentum}
-use Rattle.plain_world.specs.Formed.{mixed_of, shape_named}
+use Rattle.plain_world.specs.Formed.{mixed_of, shape_with_id}
 use Rattle.plain_world.specs.Kinds.{is_dynamic}
 use Rattle.plain_world.specs.Slots.{body_at}
 use Rattle.plain_world.specs.declared.body.Body.{Body}
 use Rattle.plain_world.specs.declared.joint.BodyJoint.{BodyJoint}
-use Rattle.world_file_base.specs.Asks.{Ask, all_asked, asked}
-use Rattle.world_file_base.specs.declared.clause.Clause.TheVariants.{Colours, Islands, Links, Memberships, Momentum, References}
 use Rattle.world_file_base.specs.SavedSlots.{no_membership}
 use Rattle.world_file_base.specs.declared.saved.Membership.{Membership}
 use Rattle.world_file_base.specs.declared.saved.SavedContact.{SavedContact}
 use Rattle.world_file_base.specs.declared.saved.SavedJoint.{SavedJoint}
-use Rattle.sleep_wake.specs.Acting.{links_of}
 use Rattle.solver_sets.specs.Ties.{contact_movers, joint_movers, tie_with}
 use Rattle.world_file.specs.Saved.{Saved}
 use Rattle.world_file.specs.declared.ties.Tie.{Tie}
@@ -41,9 +37,9 @@ use Rattle.world_file.specs.declared.ties.Tie.{Tie}
 -- ---- joints and contacts are of what is there
 
 -- a joint is between two different bodies that are there
-abbrev pub is_joint_fitting : List Place → Option SavedJoint → Bool
-is_joint_fitting places None = true
-is_joint_fitting places (Some j) = is_live places j.a && (is_live places j.b && not (j.a.slot == j.b.slot))
+abbrev pub is_joint_fitting : List SlotEntry → Option SavedJoint → Bool
+is_joint_fitting slot_entries None = true
+is_joint_fitting slot_entries (Some j) = is_live slot_entries j.a && (is_live slot_entries j.b && not (j.a.slot == j.b.slot))
 
 -- one point or two of different candidates
 abbrev pub are_points : Option ContactPoint → Option ContactPoint → ℕ → Bool
@@ -62,8 +58,8 @@ is_dynamic_body (Some b) = is_dynamic b.kind
 -- a contact is of shapes of two enabled bodies, the lesser first, one of them dynamic
 abbrev pub is_contact_fitting : List (Option Body) → SavedContact → Bool
 is_contact_fitting bodies c =
-    is_some (shape_named bodies c.key.first)
-    && (is_some (shape_named bodies c.key.second)
+    is_some (shape_with_id bodies c.key.first)
+    && (is_some (shape_with_id bodies c.key.second)
     && (nat_lt c.key.first.slot c.key.second.slot
     && ((is_dynamic_body (body_at bodies c.key.first.slot) || is_dynamic_body (body_at bodies c.key.second.slot))
     && has_points c)))
@@ -78,22 +74,22 @@ are_rising_after last [] = true
 are_rising_after last (c ∷ contacts) = cond (is_above last (key_number c.key)) (are_rising_after (Some (key_number c.key)) contacts) false
 
 abbrev pub references_keep : Saved → Bool
-references_keep s = list_all (is_joint_fitting s.places) s.joints && (list_all (is_contact_fitting s.bodies) s.contacts && are_rising_after None s.contacts)
+references_keep s = list_all (is_joint_fitting s.slot_entries) s.joints && (list_all (is_contact_fitting s.bodies) s.contacts && are_rising_after None s.contacts)
 
 -- ---- the constraints that act if their movers are awake
 
 abbrev pub tie_read : Option (Member Constraint) → Option ℕ → Option Tie
 tie_read member colour = option_map (λ m. record { member = m; colour = colour }) member
 
-abbrev pub joint_tie : List (Option Body) → ℕ → Place → Option SavedJoint → Option Tie
+abbrev pub joint_tie : List (Option Body) → ℕ → SlotEntry → Option SavedJoint → Option Tie
 joint_tie bodies slot place None = None
 joint_tie bodies slot place (Some j) = tie_read (tie_with (Joint (record { slot = slot; generation = place.generation })) (joint_movers bodies j.joint)) j.colour
 
 -- those of the joints from this slot on
-abbrev pub joint_ties : List (Option Body) → ℕ → List Place → List (Option SavedJoint) → List (Option Tie)
+abbrev pub joint_ties : List (Option Body) → ℕ → List SlotEntry → List (Option SavedJoint) → List (Option Tie)
 joint_ties bodies slot [] joints = []
-joint_ties bodies slot (place ∷ places) [] = []
-joint_ties bodies slot (place ∷ places) (o ∷ joints) = joint_tie bodies slot place o ∷ joint_ties bodies (suc slot) places joints
+joint_ties bodies slot (place ∷ slot_entries) [] = []
+joint_ties bodies slot (place ∷ slot_entries) (o ∷ joints) = joint_tie bodies slot place o ∷ joint_ties bodies (suc slot) slot_entries joints
 
 abbrev pub contact_tie : List (Option Body) → SavedContact → Option Tie
 contact_tie bodies c = cond c.touching (tie_read (tie_with (Contact c.key) (contact_movers bodies c.key)) c.colour) None
@@ -106,11 +102,11 @@ abbrev pub contact_listed : List (Option Body) → SavedContact → List Tie
 contact_listed bodies c = tie_if_any (contact_tie bodies c)
 
 -- joints by slot, and then contacts by key
-abbrev pub ties_read_in : List (Option Body) → List Place → List (Option SavedJoint) → List SavedContact → List Tie
-ties_read_in bodies places joints contacts = flat_map tie_if_any (joint_ties bodies 0 places joints) ++ flat_map (contact_listed bodies) contacts
+abbrev pub ties_read_in : List (Option Body) → List SlotEntry → List (Option SavedJoint) → List SavedContact → List Tie
+ties_read_in bodies slot_entries joints contacts = flat_map tie_if_any (joint_ties bodies 0 slot_entries joints) ++ flat_map (contact_listed bodies) contacts
 
 abbrev pub ties_read : Saved → List Tie
-ties_read s = ties_read_in s.bodies s.joint_places s.joints s.contacts
+ties_read s = ties_read_in s.bodies s.joint_entries s.joints s.contacts
 
 abbrev pub members_among : List Tie → List (Member Constraint)
 members_among ties = map (λ (t : Tie). t.member) ties
@@ -151,17 +147,17 @@ is_link_kept memberships first (Some second) = is_same_name (membership_at membe
 abbrev pub is_tie_kept : List Membership → Tie → Bool
 is_tie_kept memberships t = is_link_kept memberships t.member.movers.first t.member.movers.second
 
--- each mover for itself
-abbrev pub alone_at : ℕ → Option ℕ → Option Label
-alone_at slot island = option_map (λ name. own_label slot) island
+-- all movers as one island, whose name says nothing here
+abbrev pub as_one_island : List Membership → Labels
+as_one_island memberships = map (λ (m : Membership). option_map (λ name. own_label 0) m.island) memberships
 
-abbrev pub apart_from : ℕ → List Membership → Labels
-apart_from slot [] = []
-apart_from slot (m ∷ rest) = alone_at slot m.island ∷ apart_from (suc slot) rest
+-- the links of which both ends are movers
+abbrev pub links_among : Labels → Edges → Edges
+links_among movers links = filter (λ (link : ℕ × ℕ). is_some (label_at movers link.0) && is_some (label_at movers link.1)) links
 
--- by slot all that the links join
+-- by slot the component of each mover: what one island of all movers is split into by the links between them
 abbrev pub components_of : List Membership → Edges → Labels
-components_of memberships links = merged_all (apart_from 0 memberships) links
+components_of memberships links = split_by (as_one_island memberships) 0 (links_among (as_one_island memberships) links)
 
 abbrev pub is_named : Option Label → ℕ → Bool
 is_named None name = false
@@ -190,10 +186,10 @@ abbrev pub joint_colour : Option SavedJoint → Option ℕ
 joint_colour None = None
 joint_colour (Some j) = j.colour
 
-abbrev pub are_joints_colourless : List (Option Body) → ℕ → List Place → List (Option SavedJoint) → Bool
+abbrev pub are_joints_colourless : List (Option Body) → ℕ → List SlotEntry → List (Option SavedJoint) → Bool
 are_joints_colourless bodies slot [] joints = true
-are_joints_colourless bodies slot (place ∷ places) [] = true
-are_joints_colourless bodies slot (place ∷ places) (o ∷ joints) = is_colourless (joint_tie bodies slot place o) (joint_colour o) && are_joints_colourless bodies (suc slot) places joints
+are_joints_colourless bodies slot (place ∷ slot_entries) [] = true
+are_joints_colourless bodies slot (place ∷ slot_entries) (o ∷ joints) = is_colourless (joint_tie bodies slot place o) (joint_colour o) && are_joints_colourless bodies (suc slot) slot_entries joints
 
 -- just the ties of awake movers have colours
 abbrev pub is_coloured_well : List Membership → Tie → Bool
@@ -220,7 +216,7 @@ colours_below ties (suc n) = colours_below ties n ++ coloured ties n ∷ []
 
 abbrev pub colours_keep : Saved → Bool
 colours_keep s =
-    are_joints_colourless s.bodies 0 s.joint_places s.joints
+    are_joints_colourless s.bodies 0 s.joint_entries s.joints
     && (list_all (is_contact_colourless s.bodies) s.contacts
     && (list_all (is_coloured_well s.memberships) (ties_read s)
     && list_all share_no_mover (colours_below (ties_read s) COLOURS)))
@@ -234,22 +230,10 @@ momentum_fits bodies t = int_eq (momentum bodies).x (total_over t).x && int_eq (
 abbrev pub momentum_keeps : Saved → Bool
 momentum_keeps s = momentum_fits s.bodies s.totals
 
--- ---- all of it
-
-abbrev pub fitting_asks : Saved → Ask
-fitting_asks s = all_asked (
-    asked (references_keep s) References
-    ∷ asked (are_named_well s.memberships 0 s.memberships) Memberships
-    ∷ asked (list_all (is_tie_kept s.memberships) (ties_read s)) Links
-    ∷ asked (are_whole (components_of s.memberships (links_of (members_among (ties_read s)))) 0 s.memberships) Islands
-    ∷ asked (colours_keep s) Colours
-    ∷ asked (momentum_keeps s) Momentum
-    ∷ [])
-
 -- ---- what it makes
 
 abbrev pub entry_read : List (Option Body) → SavedContact → ContactEntry
-entry_read bodies c = record { key = c.key; surface = mixed_of (shape_named bodies c.key.first) (shape_named bodies c.key.second); contact = c.contact }
+entry_read bodies c = record { key = c.key; surface = mixed_of (shape_with_id bodies c.key.first) (shape_with_id bodies c.key.second); contact = c.contact }
 
 abbrev pub joint_kept : Option SavedJoint → Option BodyJoint
 joint_kept o = option_map (λ (j : SavedJoint). j.joint) o

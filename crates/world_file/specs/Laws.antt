@@ -1,21 +1,25 @@
 -- What is known of a world that is read of a value, and of what is written of a world.
-use Rattle.std.specs.Prelude.{◌≡◌, ◌^◌, None, Ok}
+use Rattle.std.specs.Prelude.{◌≡◌, ◌^◌, List, None, Ok}
 use Rattle.serde_json.specs.Data.{Data}
 use Rattle.impulse_ledger.specs.Sums.{totals_of}
 use Rattle.impulse_ledger.specs.declared.totals.Totals.{Totals}
 use Rattle.plain_world.specs.Plain.{Plain}
-use Rattle.world_file.specs.Answers.{found_broken}
-use Rattle.world_file.specs.Clauses.{first_broken, first_unfit}
+use Rattle.sleep_wake.specs.Acting.{links_of}
+use Rattle.world_file.specs.Clauses.{first_unfit}
 use Rattle.world_file.specs.Files.{plain_of, read_of, value_of}
+use Rattle.world_file.specs.Fitting.{components_of, members_among}
+use Rattle.world_file.specs.Lone.{components_by}
+use Rattle.world_file.specs.declared.ties.Tie.{Tie}
+use Rattle.world_file_base.specs.declared.saved.Membership.{Membership}
 use Rattle.world_rules.specs.Laws.{GoOnTheSame}
 use Rattle.world_rules.specs.Sound.{AreSmall, IsSound}
 use Rattle.world_rules.specs.Settled.{settled_world}
 use Rattle.world_rules.specs.World.{World, book_of}
 use Rattle.world_file.specs.Again.{saved_of}
 
--- The questions that a reading asks, one after the other, find the first clause that the value breaks.
-abbrev pub AskingFindsTheFirst : Type 0
-AskingFindsTheFirst = (d : Data) → found_broken d ≡ first_broken d
+-- Where each mover stands alone, merges from tie to tie make the components that the links of these ties lead to.
+abbrev pub MergingMakesComponents : Type 0
+MergingMakesComponents = (memberships : List Membership) (ties : List Tie) → components_by memberships ties ≡ components_of memberships (links_of (members_among ties))
 
 -- A world that is read is sound.
 abbrev pub WhatIsReadIsSound : Type 0

@@ -1,11 +1,12 @@
 pub mod Saved
+pub mod AskedParts
 pub mod Fitting
 pub mod SavedForms
 pub mod SavedLimits
 pub mod Clauses
 pub mod Parts
 pub mod Files
-pub mod Marked
+pub mod Taken
 pub mod Lone
 pub mod Answers
 pub mod Laws

@@ -8,19 +8,19 @@ ghost use Rattle.plain_world.specs.KeptColours.{constraints_of};
 ghost use Rattle.world_file_base.specs.declared.clause.Broken.TheVariants.{NoMemory};
 ghost use Rattle.world_file.specs.Files.{contact_colours, joint_colours};
 ghost use Rattle.world_file.specs.Fitting.{share_no_mover, coloured, colours_below, has_colour, ids_below, ids_coloured};
-ghost use Rattle.world_file.specs.Marked.{
-  AreMarkedToo,
-  IsMarkedToo,
-  IsTieMarked,
+ghost use Rattle.world_file.specs.Taken.{
+  AreTakenToo,
+  IsTakenToo,
+  IsTieTaken,
   contact_colours_by,
-  is_marked,
+  is_mover_taken,
   is_unshared,
   joint_colours_by,
 };
 
 use crate::numbered_colours::{colour_at, colours_by_number, joint_number};
 use crate::ties::Tie;
-use body_handles::Place;
+use body_handles::SlotEntry;
 use contacts::Constraint;
 use contacts_base::ContactEntry;
 use fixed_geom::Refusal;
@@ -40,7 +40,7 @@ fn has_colour(tie: Tie, colour: u8) -> bool
     }
 }
 
-/// Makes a list of marks at least so long.
+/// Makes a list of slots at least so long.
 fn grow(used: &mut Vec<bool>, slots: usize) -> Result<(), Broken>
     ensures same { OnOk result ((s : ℕ) → slice_index_or used.new.items s false ≡ slice_index_or used.old.items s false) }
     ensures long { OnOk result (slots ≤ length used.new.items) }
@@ -51,9 +51,9 @@ fn grow(used: &mut Vec<bool>, slots: usize) -> Result<(), Broken>
     Ok(())
 }
 
-/// Marks a slot.
-fn mark(used: &mut Vec<bool>, slot: u32) -> Result<(), Broken>
-    ensures marked { OnOk result (IsMarkedToo slot used.old.items used.new.items) }
+/// Takes a slot.
+fn take_slot(used: &mut Vec<bool>, slot: u32) -> Result<(), Broken>
+    ensures taken { OnOk result (IsTakenToo slot used.old.items used.new.items) }
     ensures memory { IfErr result (λ e. e ≡ NoMemory) }
 {
     let place = slot as usize;
@@ -62,48 +62,48 @@ fn mark(used: &mut Vec<bool>, slot: u32) -> Result<(), Broken>
     Ok(())
 }
 
-fn is_slot_marked(used: &[bool], slot: u32) -> bool
+fn is_slot_taken(used: &[bool], slot: u32) -> bool
     ensures { result ≡ slice_index_or used.now slot false }
 {
     match used.get(slot as usize) {
-        Some(mark) => *mark,
+        Some(taken) => *taken,
         None => false,
     }
 }
 
-/// Whether one of the movers is marked.
-fn is_marked(used: &[bool], movers: Movers) -> bool
-    ensures { result ≡ is_marked used.now movers }
+/// Whether one of the movers is taken.
+fn is_mover_taken(used: &[bool], movers: Movers) -> bool
+    ensures { result ≡ is_mover_taken used.now movers }
 {
     match movers.second {
-        Some(second) => is_slot_marked(used, movers.first) || is_slot_marked(used, second),
-        None => is_slot_marked(used, movers.first),
+        Some(second) => is_slot_taken(used, movers.first) || is_slot_taken(used, second),
+        None => is_slot_taken(used, movers.first),
     }
 }
 
-/// Marks the movers.
-fn mark_movers(used: &mut Vec<bool>, movers: Movers) -> Result<(), Broken>
-    ensures marked { OnOk result (AreMarkedToo movers used.old.items used.new.items) }
+/// Takes the movers.
+fn take_movers(used: &mut Vec<bool>, movers: Movers) -> Result<(), Broken>
+    ensures taken { OnOk result (AreTakenToo movers used.old.items used.new.items) }
     ensures memory { IfErr result (λ e. e ≡ NoMemory) }
 {
-    mark(used, movers.first)?;
+    take_slot(used, movers.first)?;
     if let Some(second) = movers.second {
-        mark(used, second)?;
+        take_slot(used, second)?;
     }
     Ok(())
 }
 
-/// Marks the movers of a tie of the colour, and answers whether none of them was marked.
-fn mark_tie(used: &mut Vec<bool>, tie: Tie, colour: u8) -> Result<bool, Broken>
+/// Takes the movers of a tie of the colour, and answers whether none of them was taken.
+fn take_tie(used: &mut Vec<bool>, tie: Tie, colour: u8) -> Result<bool, Broken>
     ensures unshared { IfOk result (λ unshared. unshared ≡ is_unshared used.old.items colour tie) }
-    ensures marked { OnOk result (IsTieMarked colour tie used.old.items used.new.items) }
+    ensures taken { OnOk result (IsTieTaken colour tie used.old.items used.new.items) }
     ensures memory { IfErr result (λ e. e ≡ NoMemory) }
 {
     if !has_colour(tie, colour) {
         return Ok(true);
     }
-    let is_shared = is_marked(used, tie.member.movers);
-    mark_movers(used, tie.member.movers)?;
+    let is_shared = is_mover_taken(used, tie.member.movers);
+    take_movers(used, tie.member.movers)?;
     Ok(!is_shared)
 }
 
@@ -117,7 +117,7 @@ fn is_colour_apart(alloc: Global, ties: &[Tie], colour: u8) -> Result<bool, Brok
     let mut left = ties.len();
     while left > 0 {
         left -= 1;
-        let is_unshared = mark_tie(&mut used, ties[left], colour)?;
+        let is_unshared = take_tie(&mut used, ties[left], colour)?;
         apart = is_unshared && apart;
     }
     Ok(apart)
@@ -189,14 +189,14 @@ fn list_contact_colours(
 /// The colours of the joints by their slots.
 fn list_joint_colours(
     alloc: Global,
-    places: &[Place],
+    slot_entries: &[SlotEntry],
     by_number: &HashMap<u128, u8>,
 ) -> Result<Vec<Option<u8>>, Refusal>
-    ensures { IfOk result (λ colours. colours.items ≡ joint_colours_by (get nat_eq by_number.now) 0 places.now) }
+    ensures { IfOk result (λ colours. colours.items ≡ joint_colours_by (get nat_eq by_number.now) 0 slot_entries.now) }
 {
     let mut colours = Vec::new(alloc);
-    for slot in 0..places.len() {
-        colours.push(colour_at(by_number, joint_number(slot, places[slot].generation)))?;
+    for slot in 0..slot_entries.len() {
+        colours.push(colour_at(by_number, joint_number(slot, slot_entries[slot].generation)))?;
     }
     Ok(colours)
 }
@@ -211,11 +211,11 @@ pub(crate) struct ColoursByPlace {
 /// The colours of a world.
 pub(crate) fn colours_of(alloc: Global, plain: &Plain) -> Result<ColoursByPlace, Refusal>
     requires few { length plain.now.colours ≤ most_colours + 1 }
-    ensures joints { IfOk result (λ colours. colours.joints.items ≡ joint_colours plain.now.colours 0 plain.now.joint_places) }
+    ensures joints { IfOk result (λ colours. colours.joints.items ≡ joint_colours plain.now.colours 0 plain.now.joint_entries) }
     ensures contacts { IfOk result (λ colours. colours.contacts.items ≡ contact_colours plain.now.colours plain.now.contacts) }
 {
     let by_number = colours_by_number(alloc, plain)?;
-    let joints = list_joint_colours(alloc, plain.joint_places(), &by_number)?;
+    let joints = list_joint_colours(alloc, plain.joint_entries(), &by_number)?;
     let contacts = list_contact_colours(alloc, plain.contacts(), &by_number)?;
     Ok(ColoursByPlace { joints, contacts })
 }

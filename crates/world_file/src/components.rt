@@ -3,8 +3,9 @@
 ghost use Rattle.std.specs.Prelude.{◌≡◌, ◌≤◌, ◌<◌, ◌^◌, ◌∷◌, [], None, length, IfErr, IfOk, IsSome};
 ghost use Rattle.islands.specs.Labels.{label_at, merged};
 ghost use Rattle.world_file_base.specs.declared.clause.Broken.TheVariants.{NoMemory};
-ghost use Rattle.world_file.specs.Fitting.{apart_from, are_whole, is_whole_at};
-ghost use Rattle.world_file.specs.Lone.{AreSameLabels, added_if, components_by, joined_by};
+ghost use Rattle.sleep_wake.specs.Acting.{links_of};
+ghost use Rattle.world_file.specs.Fitting.{are_whole, components_of, is_whole_at, members_among};
+ghost use Rattle.world_file.specs.Lone.{AreSameLabels, added_if, apart_from, joined_by};
 
 use crate::memberships::membership_at;
 use crate::ties::Tie;
@@ -120,7 +121,7 @@ pub(crate) fn are_whole(
     ties: &[Tie],
 ) -> Result<bool, Broken>
     requires few { length memberships.now ≤ 2 ^ 32 }
-    ensures whole { IfOk result (λ whole. whole ≡ are_whole (components_by memberships.now ties.now) 0 memberships.now) }
+    ensures whole { IfOk result (λ whole. whole ≡ are_whole (components_of memberships.now (links_of (members_among ties.now))) 0 memberships.now) }
     ensures memory { IfErr result (λ e. e ≡ NoMemory) }
 {
     let mut islands = list_alone(alloc, memberships)?;

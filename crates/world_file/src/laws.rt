@@ -1,10 +1,17 @@
 //! What is known of saved worlds: laws over plain values. These functions do nothing; their contracts are the laws.
 
-ghost use Rattle.world_file.specs.Laws.{AskingFindsTheFirst, WhatIsReadAgainGoesOnTheSame, WhatIsReadHasSmallTotals, WhatIsReadIsSound, WhatIsWrittenFits, WhatIsWrittenIsReadAgain};
+ghost use Rattle.world_file.specs.Laws.{MergingMakesComponents, WhatIsReadAgainGoesOnTheSame, WhatIsReadHasSmallTotals, WhatIsReadIsSound, WhatIsWrittenFits, WhatIsWrittenIsReadAgain};
+ghost use Rattle.world_file.specs.AskedParts.{AskingFindsTheFirst};
 
 /// The questions that `read` asks one after the other find the first clause of the table that the value breaks.
 pub fn asking_finds_the_first()
     ensures { AskingFindsTheFirst }
+{}
+
+/// Whether an island is all that its links join is found by merges from tie to tie, and these make the components by which the
+/// clause says it.
+pub fn merging_makes_components()
+    ensures { MergingMakesComponents }
 {}
 
 /// A world that is read of a value, with the totals of its ledger, is sound, and its totals are small, so that it can be written again.

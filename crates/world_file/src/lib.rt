@@ -19,11 +19,11 @@ mod world;
 
 pub use impulse_ledger::Totals;
 pub use laws::{
-    asking_finds_the_first, what_is_read_is_sound, what_is_written_fits,
+    asking_finds_the_first, merging_makes_components, what_is_read_is_sound, what_is_written_fits,
     what_is_written_is_read_again,
 };
 pub use numbered_colours::{colour_at, colours_by_number, joint_number};
 pub use plain_world::Plain;
-pub use saved_world::Saved;
+pub use saved_world::{MOST_TICKS, Saved};
 pub use world::{fit, read, write};
 pub use world_file_base::{Broken, Clause, Version};

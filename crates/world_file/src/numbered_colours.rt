@@ -5,7 +5,7 @@ ghost use Rattle.std.specs.HashMap.{get};
 ghost use Rattle.contacts.specs.Constraints.{constraint_number};
 ghost use Rattle.contacts.specs.declared.constraint.Constraint.TheVariants.{Joint};
 ghost use Rattle.graph_colours.specs.declared.limits.TheConstants.{COLOURS as most_colours};
-ghost use Rattle.world_file.specs.Marked.{colour_numbered, has_number};
+ghost use Rattle.world_file.specs.Taken.{colour_numbered, has_number};
 
 use contacts::Constraint;
 use fixed_geom::Refusal;

@@ -1,10 +1,10 @@
 //! Whether joints and contacts are of what is there, and what a world keeps of them.
 
 ghost use Rattle.std.specs.Prelude.{◌≡◌, IfErr, IfOk, IsTrue, None, map};
-ghost use Rattle.plain_world.specs.Formed.{is_surface, mixed_of, mixed_surface, shape_named, shape_of_body};
+ghost use Rattle.plain_world.specs.Formed.{is_surface, mixed_of, mixed_surface, shape_with_id, shape_of_body};
 ghost use Rattle.plain_world.specs.Slots.{body_at};
 ghost use Rattle.std.specs.List.{list_all};
-ghost use Rattle.body_handles.specs.Places.{is_live};
+ghost use Rattle.body_handles.specs.SlotEntries.{is_live};
 ghost use Rattle.contacts_base.specs.Surfaces.{IsSurface};
 ghost use Rattle.world_file_base.specs.declared.clause.Broken.TheVariants.{NoMemory};
 ghost use Rattle.world_file.specs.Fitting.{
@@ -19,7 +19,7 @@ ghost use Rattle.world_file.specs.Fitting.{
   joint_kept,
 };
 
-use body_handles::{Handle, Place};
+use body_handles::{Handle, SlotEntry};
 use contacts_base::limits::{MAX_FRICTION, MAX_RESTITUTION};
 use contacts_base::{ContactEntry, ContactPoint, PackedSurface, ShapeId, Surface};
 use plain_world::{Body, BodyJoint, surface_of};
@@ -28,33 +28,35 @@ use std::alloc::Global;
 use world_file_base::{Broken, SavedContact, SavedJoint};
 
 /// Whether the handle names a body that is there.
-fn is_live(places: &[Place], handle: Handle) -> bool
-    ensures { result ≡ is_live places.now handle }
+fn is_live(slot_entries: &[SlotEntry], handle: Handle) -> bool
+    ensures { result ≡ is_live slot_entries.now handle }
 {
-    match places.get(handle.slot as usize) {
+    match slot_entries.get(handle.slot as usize) {
         Some(place) => place.live && place.generation == handle.generation,
         None => false,
     }
 }
 
 /// Whether a joint is between two different bodies that are there.
-fn is_joint_fitting(places: &[Place], entry: Option<SavedJoint>) -> bool
-    ensures { result ≡ is_joint_fitting places.now entry }
+fn is_joint_fitting(slot_entries: &[SlotEntry], entry: Option<SavedJoint>) -> bool
+    ensures { result ≡ is_joint_fitting slot_entries.now entry }
 {
     match entry {
         Some(joint) => {
-            is_live(places, joint.a) && is_live(places, joint.b) && joint.a.slot != joint.b.slot
+            is_live(slot_entries, joint.a)
+                && is_live(slot_entries, joint.b)
+                && joint.a.slot != joint.b.slot
         }
         None => true,
     }
 }
 
 /// Whether all joints are between two different bodies that are there.
-pub(crate) fn are_joints_fitting(places: &[Place], joints: &[Option<SavedJoint>]) -> bool
-    ensures { result ≡ list_all (is_joint_fitting places.now) joints.now }
+pub(crate) fn are_joints_fitting(slot_entries: &[SlotEntry], joints: &[Option<SavedJoint>]) -> bool
+    ensures { result ≡ list_all (is_joint_fitting slot_entries.now) joints.now }
 {
     for entry in joints {
-        if !is_joint_fitting(places, *entry) {
+        if !is_joint_fitting(slot_entries, *entry) {
             return false;
         }
     }
@@ -99,8 +101,8 @@ fn shape_of_body(entry: &Option<Body>, index: usize) -> Option<ShapeDef>
 }
 
 /// The shape of this name, if it is one of an enabled body.
-fn shape_named(bodies: &[Option<Body>], id: ShapeId) -> Option<ShapeDef>
-    ensures { result ≡ shape_named bodies.now id }
+fn shape_with_id(bodies: &[Option<Body>], id: ShapeId) -> Option<ShapeDef>
+    ensures { result ≡ shape_with_id bodies.now id }
 {
     let slot = id.slot as usize;
     if slot < bodies.len() {
@@ -127,10 +129,10 @@ fn is_contact_fitting(bodies: &[Option<Body>], saved: &SavedContact) -> bool
     ensures { result ≡ is_contact_fitting bodies.now saved.now }
 {
     let key = saved.key;
-    if shape_named(bodies, key.first).is_none() {
+    if shape_with_id(bodies, key.first).is_none() {
         return false;
     }
-    if shape_named(bodies, key.second).is_none() {
+    if shape_with_id(bodies, key.second).is_none() {
         return false;
     }
     if key.first.slot >= key.second.slot {
@@ -222,8 +224,8 @@ fn mixed_of(first: Option<ShapeDef>, second: Option<ShapeDef>) -> Surface
 fn entry_of(bodies: &[Option<Body>], saved: &SavedContact) -> ContactEntry
     ensures { result ≡ entry_read bodies.now saved.now }
 {
-    let first = shape_named(bodies, saved.key.first);
-    let second = shape_named(bodies, saved.key.second);
+    let first = shape_with_id(bodies, saved.key.first);
+    let second = shape_with_id(bodies, saved.key.second);
     ContactEntry {
         key: saved.key,
         surface: PackedSurface::new(mixed_of(first, second)),

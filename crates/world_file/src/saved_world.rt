@@ -7,14 +7,13 @@ ghost use Rattle.world_file_base.specs.declared.clause.Broken.TheVariants.{NoMem
 ghost use Rattle.serde_json.specs.View.{view};
 ghost use Rattle.world_file.specs.Saved.{
   calls_in,
-  heads_asks,
-  parts_asks,
   saved_in,
   slow_ticks,
   steps_in,
   version_in,
   version_of,
 };
+ghost use Rattle.world_file.specs.AskedParts.{heads_asks, parts_asks};
 ghost use Rattle.world_file.specs.Parts.{parts_of, version_asks};
 ghost use Rattle.momenta.specs.declared.limits.TheConstants.{MAX_GRAVITY};
 ghost use Rattle.world_file_base.specs.Reading.{vector_within};
@@ -33,7 +32,7 @@ use world_file_base::{
 use world_rules::{MAX_CALLS, MAX_TICKS};
 
 /// How many ticks a step has at most.
-const MOST_TICKS: u64 = MAX_TICKS as u64;
+pub const MOST_TICKS: u64 = MAX_TICKS as u64;
 
 /// What is read of a saved world.
 #[derive(Drop)]

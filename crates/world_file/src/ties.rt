@@ -17,7 +17,7 @@ ghost use Rattle.world_file.specs.Fitting.{
   tie_read,
 };
 
-use body_handles::{Handle, Place};
+use body_handles::{Handle, SlotEntry};
 use contacts::Constraint;
 use graph_colours::Member;
 use plain_world::Body;
@@ -45,7 +45,7 @@ fn tie_of(member: Option<Member<Constraint>>, colour: Option<u8>) -> Option<Tie>
 fn joint_tie(
     bodies: &[Option<Body>],
     slot: u32,
-    place: Place,
+    place: SlotEntry,
     entry: Option<SavedJoint>,
 ) -> Option<Tie>
     ensures { result ≡ joint_tie bodies.now slot place entry }
@@ -127,17 +127,17 @@ fn push_tie(ties: &mut Vec<Tie>, tie: Option<Tie>) -> Result<(), Broken>
 fn push_joint_ties(
     ties: &mut Vec<Tie>,
     bodies: &[Option<Body>],
-    places: &[Place],
+    slot_entries: &[SlotEntry],
     joints: &[Option<SavedJoint>],
 ) -> Result<(), Broken>
-    requires { length places.now ≤ 2 ^ 32 }
-    ensures ok { OnOk result (ties.new.items ≡ ties.old.items ++ flat_map tie_if_any (joint_ties bodies.now 0 places.now joints.now)) }
+    requires { length slot_entries.now ≤ 2 ^ 32 }
+    ensures ok { OnOk result (ties.new.items ≡ ties.old.items ++ flat_map tie_if_any (joint_ties bodies.now 0 slot_entries.now joints.now)) }
     ensures memory { IfErr result (λ e. e ≡ NoMemory) }
 {
-    for slot in 0..lesser(places.len(), joints.len()) {
+    for slot in 0..lesser(slot_entries.len(), joints.len()) {
         push_tie(
             ties,
-            joint_tie(bodies, slot as u32, places[slot], joints[slot]),
+            joint_tie(bodies, slot as u32, slot_entries[slot], joints[slot]),
         )?;
     }
     Ok(())
@@ -162,16 +162,16 @@ fn push_contact_ties(
 pub(crate) fn list_ties(
     alloc: Global,
     bodies: &[Option<Body>],
-    places: &[Place],
+    slot_entries: &[SlotEntry],
     joints: &[Option<SavedJoint>],
     contacts: &[SavedContact],
 ) -> Result<Vec<Tie>, Broken>
-    requires { length places.now ≤ 2 ^ 32 }
-    ensures ok { IfOk result (λ ties. ties.items ≡ ties_read_in bodies.now places.now joints.now contacts.now) }
+    requires { length slot_entries.now ≤ 2 ^ 32 }
+    ensures ok { IfOk result (λ ties. ties.items ≡ ties_read_in bodies.now slot_entries.now joints.now contacts.now) }
     ensures memory { IfErr result (λ e. e ≡ NoMemory) }
 {
     let mut ties = Vec::new(alloc);
-    push_joint_ties(&mut ties, bodies, places, joints)?;
+    push_joint_ties(&mut ties, bodies, slot_entries, joints)?;
     push_contact_ties(&mut ties, bodies, contacts)?;
     Ok(ties)
 }
@@ -180,7 +180,7 @@ pub(crate) fn list_ties(
 fn is_joint_colourless(
     bodies: &[Option<Body>],
     slot: u32,
-    place: Place,
+    place: SlotEntry,
     entry: Option<SavedJoint>,
 ) -> bool
     ensures { result ≡ is_colourless (joint_tie bodies.now slot place entry) (joint_colour entry) }
@@ -191,14 +191,14 @@ fn is_joint_colourless(
 /// Whether no joint has a colour that is no tie.
 pub(crate) fn are_joints_colourless(
     bodies: &[Option<Body>],
-    places: &[Place],
+    slot_entries: &[SlotEntry],
     joints: &[Option<SavedJoint>],
 ) -> bool
-    requires { length places.now ≤ 2 ^ 32 }
-    ensures { result ≡ are_joints_colourless bodies.now 0 places.now joints.now }
+    requires { length slot_entries.now ≤ 2 ^ 32 }
+    ensures { result ≡ are_joints_colourless bodies.now 0 slot_entries.now joints.now }
 {
-    for slot in 0..lesser(places.len(), joints.len()) {
-        if !is_joint_colourless(bodies, slot as u32, places[slot], joints[slot]) {
+    for slot in 0..lesser(slot_entries.len(), joints.len()) {
+        if !is_joint_colourless(bodies, slot as u32, slot_entries[slot], joints[slot]) {
             return false;
         }
     }

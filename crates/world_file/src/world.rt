@@ -7,7 +7,8 @@ ghost use Rattle.serde_json.specs.View.{view};
 ghost use Rattle.graph_colours.specs.declared.limits.TheConstants.{COLOURS as most_colours};
 ghost use Rattle.plain_world.specs.KeptColours.{constraints_of};
 ghost use Rattle.world_file_base.specs.declared.clause.Broken.TheVariants.{NoMemory};
-ghost use Rattle.world_file.specs.Answers.{IsBrokenBy, IsRefusedBy, others_asks};
+ghost use Rattle.world_file.specs.Answers.{IsRefusedBy};
+ghost use Rattle.world_file.specs.AskedParts.{IsBrokenBy, others_asks, fitting_asks};
 ghost use Rattle.world_file.specs.Clauses.{first_unfit};
 ghost use Rattle.world_file.specs.Files.{plain_of as world_of, read_of, value_of};
 ghost use Rattle.world_file.specs.Fitting.{
@@ -15,7 +16,6 @@ ghost use Rattle.world_file.specs.Fitting.{
   are_rising_after,
   colours_keep,
   entry_read,
-  fitting_asks,
   ids_below,
   is_contact_colourless,
   is_contact_fitting,
@@ -72,40 +72,40 @@ fn do_references_keep(saved: &Saved) -> bool
     ensures { result ≡ references_keep (parts_of saved.now) }
 {
     are_joints_fitting(
-        saved.bodies.places.as_slice(),
+        saved.bodies.slot_entries.as_slice(),
         saved.joints.joints.as_slice(),
     ) && are_contacts_kept(saved)
 }
 
 /// The ties of a saved world.
 fn ties_of(alloc: Global, saved: &Saved) -> Result<Vec<Tie>, Broken>
-    requires few_joints { length saved.now.joints.places.items ≤ 2 ^ 32 }
+    requires few_joints { length saved.now.joints.slot_entries.items ≤ 2 ^ 32 }
     ensures ties { IfOk result (λ ties. ties.items ≡ ties_read (parts_of saved.now)) }
     ensures memory { IfErr result (λ e. e ≡ NoMemory) }
 {
     list_ties(
         alloc,
         saved.bodies.bodies.as_slice(),
-        saved.joints.places.as_slice(),
+        saved.joints.slot_entries.as_slice(),
         saved.joints.joints.as_slice(),
         saved.contacts.as_slice(),
     )
 }
 
 /// Whether the joints that are no ties have no colour.
-fn are_joints_settled(saved: &Saved) -> bool
-    requires few_joints { length saved.now.joints.places.items ≤ 2 ^ 32 }
-    ensures { result ≡ are_joints_colourless (parts_of saved.now).bodies 0 (parts_of saved.now).joint_places (parts_of saved.now).joints }
+fn are_idle_joints_colourless(saved: &Saved) -> bool
+    requires few_joints { length saved.now.joints.slot_entries.items ≤ 2 ^ 32 }
+    ensures { result ≡ are_joints_colourless (parts_of saved.now).bodies 0 (parts_of saved.now).joint_entries (parts_of saved.now).joints }
 {
     are_joints_colourless(
         saved.bodies.bodies.as_slice(),
-        saved.joints.places.as_slice(),
+        saved.joints.slot_entries.as_slice(),
         saved.joints.joints.as_slice(),
     )
 }
 
 /// Whether the contacts that are no ties have no colour.
-fn are_contacts_settled(saved: &Saved) -> bool
+fn are_idle_contacts_colourless(saved: &Saved) -> bool
     ensures { result ≡ list_all (is_contact_colourless (parts_of saved.now).bodies) (parts_of saved.now).contacts }
 {
     are_contacts_colourless(saved.bodies.bodies.as_slice(), saved.contacts.as_slice())
@@ -113,20 +113,23 @@ fn are_contacts_settled(saved: &Saved) -> bool
 
 /// Whether just the constraints of awake movers have colours, and no two of one colour share a mover.
 fn do_colours_keep(alloc: Global, saved: &Saved, ties: &[Tie]) -> Result<bool, Broken>
-    requires few_joints { length saved.now.joints.places.items ≤ 2 ^ 32 }
+    requires few_joints { length saved.now.joints.slot_entries.items ≤ 2 ^ 32 }
     requires ties { ties.now ≡ ties_read (parts_of saved.now) }
     ensures keep { IfOk result (λ keep. keep ≡ colours_keep (parts_of saved.now)) }
     ensures memory { IfErr result (λ e. e ≡ NoMemory) }
 {
     let apart = are_apart(alloc, ties)?;
     let coloured = are_coloured_well(saved.bodies.memberships.as_slice(), ties);
-    Ok(are_joints_settled(saved) && (are_contacts_settled(saved) && (coloured && apart)))
+    Ok(
+        are_idle_joints_colourless(saved)
+            && (are_idle_contacts_colourless(saved) && (coloured && apart)),
+    )
 }
 
 /// Asks of a saved world, whose joints and contacts are of what is there, what else is to be asked.
 fn ask_others(alloc: Global, reader: &mut Reader, saved: &Saved, ties: &[Tie]) -> Result<(), Broken>
     requires few { length saved.now.bodies.memberships.items ≤ 2 ^ 32 }
-    requires few_joints { length saved.now.joints.places.items ≤ 2 ^ 32 }
+    requires few_joints { length saved.now.joints.slot_entries.items ≤ 2 ^ 32 }
     requires ties { ties.now ≡ ties_read (parts_of saved.now) }
     ensures asked { OnOk result (reader.new ≡ others_asks (parts_of saved.now) reader.old) }
     ensures memory { IfErr result (λ e. e ≡ NoMemory) }
@@ -183,9 +186,9 @@ fn plain_of(saved: Saved, parts: Parts) -> Plain
         calls,
     } = saved;
     Plain::new(
-        bodies.places,
+        bodies.slot_entries,
         bodies.bodies,
-        joints.places,
+        joints.slot_entries,
         parts.joints,
         parts.contacts,
         parts.labels,
@@ -199,7 +202,7 @@ fn plain_of(saved: Saved, parts: Parts) -> Plain
 /// Holds the parts of a saved world against one another, and lists what they make. The first clause that is broken is answered.
 fn fitted(alloc: Global, reader: Reader, saved: &Saved) -> Result<Parts, Broken>
     requires few { length saved.now.bodies.memberships.items ≤ 2 ^ 32 }
-    requires few_joints { length saved.now.joints.places.items ≤ 2 ^ 32 }
+    requires few_joints { length saved.now.joints.slot_entries.items ≤ 2 ^ 32 }
     ensures keeps { OnOk result ((fitting_asks (parts_of saved.now) reader).broken ≡ None) }
     ensures joints { IfOk result (λ parts. parts.joints.items ≡ map joint_kept (parts_of saved.now).joints) }
     ensures contacts { IfOk result (λ parts. parts.contacts.items ≡ map (entry_read (parts_of saved.now).bodies) (parts_of saved.now).contacts) }
@@ -235,7 +238,7 @@ pub fn read(alloc: Global, value: &Value) -> Result<(Plain, Totals), Broken>
 /// of the clauses that the parts break together is answered, or that memory was wanting.
 pub fn fit(alloc: Global, saved: Saved) -> Result<(Plain, Totals), Broken>
     requires few { length saved.bodies.memberships.items ≤ 2 ^ 32 }
-    requires few_joints { length saved.joints.places.items ≤ 2 ^ 32 }
+    requires few_joints { length saved.joints.slot_entries.items ≤ 2 ^ 32 }
     ensures keeps { OnOk result (first_unfit (parts_of saved) ≡ None) }
     ensures world { IfOk result (λ fit. fit.0 ≡ world_of (parts_of saved)) }
     ensures totals { IfOk result (λ fit. fit.1 ≡ saved.totals) }
@@ -255,7 +258,7 @@ fn written(alloc: Global, plain: &Plain, totals: &Totals) -> Result<Value, Refus
 {
     let colours = colours_of(alloc, plain)?;
     let mut members = Members::new(alloc);
-    let bodies = bodies_value(alloc, plain.places(), plain.bodies(), plain.islands())?;
+    let bodies = bodies_value(alloc, plain.slot_entries(), plain.bodies(), plain.islands())?;
     members.put("bodies", bodies)?;
     members.put("call", Value::from(plain.calls()))?;
     let contacts = contacts_value(alloc, plain.contacts(), colours.contacts.as_slice())?;
@@ -263,8 +266,8 @@ fn written(alloc: Global, plain: &Plain, totals: &Totals) -> Result<Value, Refus
     members.put_vector("gravity", plain.gravity())?;
     let joints = joints_value(
         alloc,
-        plain.places(),
-        plain.joint_places(),
+        plain.slot_entries(),
+        plain.joint_entries(),
         plain.joints(),
         colours.joints.as_slice(),
     )?;

@@ -2,7 +2,7 @@
 use Rattle.std.proofs.Common.{◌≡◌, ℕ, ◌<◌, ◌≤◌, ◌++◌, ◌∷◌, false, List, [], length, drop, Option, refl, sym, ap, ◌∙◌, arith, ◌⊎◌, inl, inr}
 use Rattle.std.proofs.lemmas.List.{append-nil, drop_all, length-drop}
 use Rattle.serde_json.specs.Data.{Data}
-use Rattle.body_handles.specs.declared.places.Place.{Place}
+use Rattle.body_handles.specs.declared.slot_table.SlotEntry.{SlotEntry}
 use Rattle.contacts_base.specs.declared.contact.ContactEntry.{ContactEntry}
 use Rattle.fixed_geom.specs.declared.boxes.Box2.{Box2}
 use Rattle.islands.specs.Labels.{Labels}
@@ -43,39 +43,39 @@ pub shapes_written : (items : List Data) (defs : List ShapeDef) (fats : List Box
     → items ++ shapes_of (drop k defs) (drop k fats) ≡ shapes_of defs fats → items ≡ shapes_of defs fats
 shapes_written items defs fats n k one end = all_written items (shapes_of (drop k defs) (drop k fats)) (shapes_of defs fats) (shapes_end defs fats n k one end)
 
-no_body : (slot : ℕ) (places : List Place) (labels : Labels) → body_slots slot places [] labels ≡ []
+no_body : (slot : ℕ) (slot_entries : List SlotEntry) (labels : Labels) → body_slots slot slot_entries [] labels ≡ []
 no_body slot [] labels = refl
-no_body slot (place ∷ places) labels = refl
+no_body slot (place ∷ slot_entries) labels = refl
 
-bodies_end : (places : List Place) (bodies : List (Option Body)) (labels : Labels) (n k : ℕ) → (length places ≤ n) ⊎ (length bodies ≤ n) → n ≤ k → body_slots k (drop k places) (drop k bodies) labels ≡ []
-bodies_end places bodies labels n k (inl past) end = rw (drop_all k places (omega arith)) refl
-bodies_end places bodies labels n k (inr past) end = rw (drop_all k bodies (omega arith)) (no_body k (drop k places) labels)
+bodies_end : (slot_entries : List SlotEntry) (bodies : List (Option Body)) (labels : Labels) (n k : ℕ) → (length slot_entries ≤ n) ⊎ (length bodies ≤ n) → n ≤ k → body_slots k (drop k slot_entries) (drop k bodies) labels ≡ []
+bodies_end slot_entries bodies labels n k (inl past) end = rw (drop_all k slot_entries (omega arith)) refl
+bodies_end slot_entries bodies labels n k (inr past) end = rw (drop_all k bodies (omega arith)) (no_body k (drop k slot_entries) labels)
 
-pub bodies_written : (items : List Data) (places : List Place) (bodies : List (Option Body)) (labels : Labels) (n k : ℕ) → (length places ≤ n) ⊎ (length bodies ≤ n) → n ≤ k
-    → items ++ body_slots k (drop k places) (drop k bodies) labels ≡ body_slots 0 places bodies labels → items ≡ body_slots 0 places bodies labels
-bodies_written items places bodies labels n k one end =
-    all_written items (body_slots k (drop k places) (drop k bodies) labels) (body_slots 0 places bodies labels) (bodies_end places bodies labels n k one end)
+pub bodies_written : (items : List Data) (slot_entries : List SlotEntry) (bodies : List (Option Body)) (labels : Labels) (n k : ℕ) → (length slot_entries ≤ n) ⊎ (length bodies ≤ n) → n ≤ k
+    → items ++ body_slots k (drop k slot_entries) (drop k bodies) labels ≡ body_slots 0 slot_entries bodies labels → items ≡ body_slots 0 slot_entries bodies labels
+bodies_written items slot_entries bodies labels n k one end =
+    all_written items (body_slots k (drop k slot_entries) (drop k bodies) labels) (body_slots 0 slot_entries bodies labels) (bodies_end slot_entries bodies labels n k one end)
 
-no_joint : (all places : List Place) (colours : List (Option ℕ)) → joint_slots all places [] colours ≡ []
+no_joint : (all slot_entries : List SlotEntry) (colours : List (Option ℕ)) → joint_slots all slot_entries [] colours ≡ []
 no_joint all [] colours = refl
-no_joint all (place ∷ places) colours = refl
+no_joint all (place ∷ slot_entries) colours = refl
 
-no_colour : (all places : List Place) (joints : List (Option BodyJoint)) → joint_slots all places joints [] ≡ []
+no_colour : (all slot_entries : List SlotEntry) (joints : List (Option BodyJoint)) → joint_slots all slot_entries joints [] ≡ []
 no_colour all [] joints = refl
-no_colour all (place ∷ places) [] = refl
-no_colour all (place ∷ places) (j ∷ joints) = refl
+no_colour all (place ∷ slot_entries) [] = refl
+no_colour all (place ∷ slot_entries) (j ∷ joints) = refl
 
-joints_end : (all places : List Place) (joints : List (Option BodyJoint)) (colours : List (Option ℕ)) (m n k : ℕ) → (length places ≤ m) ⊎ (length joints ≤ m) → (m ≤ n) ⊎ (length colours ≤ n) → n ≤ k
-    → joint_slots all (drop k places) (drop k joints) (drop k colours) ≡ []
-joints_end all places joints colours m n k first (inr past) end = rw (drop_all k colours (omega arith)) (no_colour all (drop k places) (drop k joints))
-joints_end all places joints colours m n k (inl past) (inl less) end = rw (drop_all k places (omega arith)) refl
-joints_end all places joints colours m n k (inr past) (inl less) end = rw (drop_all k joints (omega arith)) (no_joint all (drop k places) (drop k colours))
+joints_end : (all slot_entries : List SlotEntry) (joints : List (Option BodyJoint)) (colours : List (Option ℕ)) (m n k : ℕ) → (length slot_entries ≤ m) ⊎ (length joints ≤ m) → (m ≤ n) ⊎ (length colours ≤ n) → n ≤ k
+    → joint_slots all (drop k slot_entries) (drop k joints) (drop k colours) ≡ []
+joints_end all slot_entries joints colours m n k first (inr past) end = rw (drop_all k colours (omega arith)) (no_colour all (drop k slot_entries) (drop k joints))
+joints_end all slot_entries joints colours m n k (inl past) (inl less) end = rw (drop_all k slot_entries (omega arith)) refl
+joints_end all slot_entries joints colours m n k (inr past) (inl less) end = rw (drop_all k joints (omega arith)) (no_joint all (drop k slot_entries) (drop k colours))
 
-pub joints_written : (items : List Data) (all places : List Place) (joints : List (Option BodyJoint)) (colours : List (Option ℕ)) (m n k : ℕ)
-    → (length places ≤ m) ⊎ (length joints ≤ m) → (m ≤ n) ⊎ (length colours ≤ n) → n ≤ k
-    → items ++ joint_slots all (drop k places) (drop k joints) (drop k colours) ≡ joint_slots all places joints colours → items ≡ joint_slots all places joints colours
-joints_written items all places joints colours m n k first second end =
-    all_written items (joint_slots all (drop k places) (drop k joints) (drop k colours)) (joint_slots all places joints colours) (joints_end all places joints colours m n k first second end)
+pub joints_written : (items : List Data) (all slot_entries : List SlotEntry) (joints : List (Option BodyJoint)) (colours : List (Option ℕ)) (m n k : ℕ)
+    → (length slot_entries ≤ m) ⊎ (length joints ≤ m) → (m ≤ n) ⊎ (length colours ≤ n) → n ≤ k
+    → items ++ joint_slots all (drop k slot_entries) (drop k joints) (drop k colours) ≡ joint_slots all slot_entries joints colours → items ≡ joint_slots all slot_entries joints colours
+joints_written items all slot_entries joints colours m n k first second end =
+    all_written items (joint_slots all (drop k slot_entries) (drop k joints) (drop k colours)) (joint_slots all slot_entries joints colours) (joints_end all slot_entries joints colours m n k first second end)
 
 -- a shape without a fat box isn't in one
 boxless : (pose : Pose) (defs : List ShapeDef) → 0 < length defs → are_in_boxes pose defs [] ≡ false

@@ -48,9 +48,9 @@ abbrev pub no_asks : Reader
 no_asks = record { broken = None }
 
 -- what is broken among the clauses up to this one
-abbrev pub due_of : Clause → Option Clause → Option Clause
-due_of last None = None
-due_of last (Some clause) = cond (nat_lt (clause_number last) (clause_number clause)) None (Some clause)
+abbrev pub broken_up_to : Clause → Option Clause → Option Clause
+broken_up_to last None = None
+broken_up_to last (Some clause) = cond (nat_lt (clause_number last) (clause_number clause)) None (Some clause)
 
 -- what a call answers that reads a world
 abbrev pub refusal_of : Broken → Refusal

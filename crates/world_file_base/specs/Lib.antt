@@ -1,11 +1,16 @@
 pub mod Versions
 pub mod SavedShapes
+pub mod AskedShapes
 pub mod SavedJoints
 pub mod SavedContacts
+pub mod AskedContacts
 pub mod SavedTotals
 pub mod SavedBodies
+pub mod AskedBodies
 pub mod SavedSlots
+pub mod AskedSlots
 pub mod Asks
 pub mod Reading
+pub mod AskedValues
 pub mod Written
 pub mod Texts

@@ -1,8 +1,8 @@
--- How the value of a key is read: what it means, and what is asked of it. What a value that breaks a clause is taken for means nothing.
+-- How the value of a key is read: what it means. What a value that breaks a clause is taken for means nothing.
 use Rattle.std.specs.Prelude.{ℕ, ◌-◌, ◌==◌, ◌^◌, Bool, false, cond, nat_le, List, [], Option, Some, None, option_map, option_and_then, is_some, unwrap_or, ℤ, pos, negsuc}
 use Rattle.std.specs.Borrow.{Bor}
 use Rattle.serde_json.specs.Data.{Data, Items, no_items}
-use Rattle.serde_json.specs.Events.{items_len, members_len}
+use Rattle.serde_json.specs.Events.{members_len}
 use Rattle.serde_json.specs.Find.{as_array, as_bool, as_integer, as_null, as_number, as_object, as_str, get_item}
 use Rattle.serde_json.specs.View.{view}
 use Rattle.serde_json.specs.declared.value.Value.{Value}
@@ -10,8 +10,6 @@ use Rattle.fixed_geom.specs.Vectors.{is_within, zero_vector}
 use Rattle.fixed_geom.specs.declared.vectors.Vec2.{Vec2}
 use Rattle.fixed_geom.specs.declared.boxes.Box2.{Box2}
 use Rattle.shapes.specs.Shapes.{is_between}
-use Rattle.world_file_base.specs.Asks.{Ask, asked}
-use Rattle.world_file_base.specs.declared.clause.Clause.TheVariants.{Form, Limits}
 
 -- the value that is read, if there is one
 abbrev pub seen : Option (Bor Value) → Option Data
@@ -33,13 +31,6 @@ is_null value = is_some (option_and_then as_null value)
 abbrev pub items_in : Option Data → Items
 items_in value = unwrap_or (option_and_then as_array value) no_items
 
-abbrev pub list_asks : Option Data → Ask
-list_asks value = asked (is_some (option_and_then as_array value)) Form
-
--- a list of two
-abbrev pub pair_asks : Option Data → Ask
-pair_asks value reader = asked (items_len (items_in value) == 2) Form (list_asks value reader)
-
 abbrev pub first_in : Option Data → Option Data
 first_in value = get_item 0 (items_in value)
 
@@ -51,14 +42,8 @@ second_item value = get_item 1 (items_in value)
 abbrev pub truth_in : Option Data → Bool
 truth_in value = unwrap_or (option_and_then as_bool value) false
 
-abbrev pub truth_asks : Option Data → Ask
-truth_asks value = asked (is_some (option_and_then as_bool value)) Form
-
 abbrev pub text_in : Option Data → List ℕ
 text_in value = unwrap_or (option_and_then as_str value) []
-
-abbrev pub text_asks : Option Data → Ask
-text_asks value = asked (is_some (option_and_then as_str value)) Form
 
 -- ---- whole numbers
 
@@ -69,15 +54,9 @@ whole_of value = option_and_then (λ d. option_and_then as_integer (as_number d)
 abbrev pub whole_in : Option Data → ℤ
 whole_in value = unwrap_or (whole_of value) (pos 0)
 
-abbrev pub whole_asks : Option Data → Ask
-whole_asks value = asked (is_some (whole_of value)) Form
-
 -- a whole number from low to high
 abbrev pub signed_in : ℤ → ℤ → Option Data → ℤ
 signed_in low high value = cond (is_between low high (whole_in value)) (whole_in value) low
-
-abbrev pub signed_asks : ℤ → ℤ → Option Data → Ask
-signed_asks low high value reader = asked (is_between low high (whole_in value)) Limits (whole_asks value reader)
 
 -- a number of 32 bits with a sign
 abbrev pub least_group : ℤ
@@ -89,9 +68,6 @@ greatest_group = pos (2 ^ 31 - 1)
 abbrev pub group_in : Option Data → ℤ
 group_in value = signed_in least_group greatest_group value
 
-abbrev pub group_asks : Option Data → Ask
-group_asks value = signed_asks least_group greatest_group value
-
 -- a number without a sign, up to high
 abbrev pub natural_of : ℕ → ℤ → Option ℕ
 natural_of high (pos n) = cond (nat_le n high) (Some n) None
@@ -100,15 +76,9 @@ natural_of high (negsuc n) = None
 abbrev pub unsigned_in : ℕ → Option Data → ℕ
 unsigned_in high value = unwrap_or (natural_of high (whole_in value)) 0
 
-abbrev pub unsigned_asks : ℕ → Option Data → Ask
-unsigned_asks high value reader = asked (is_some (natural_of high (whole_in value))) Limits (whole_asks value reader)
-
 -- a number of 32 bits without a sign, or none
 abbrev pub island_in : Option Data → Option ℕ
 island_in value = cond (is_null value) None (Some (unsigned_in (2 ^ 32 - 1) value))
-
-abbrev pub island_asks : Option Data → Ask
-island_asks value reader = cond (is_null value) reader (unsigned_asks (2 ^ 32 - 1) value reader)
 
 -- ---- vectors
 
@@ -123,26 +93,13 @@ greatest = pos (2 ^ 63 - 1)
 abbrev pub number_in : Option Data → ℤ
 number_in value = signed_in least greatest value
 
-abbrev pub number_asks : Option Data → Ask
-number_asks value = signed_asks least greatest value
-
 -- two numbers of 64 bits
 abbrev pub vector_in : Option Data → Vec2
 vector_in value = record { x = number_in (first_in value); y = number_in (second_item value) }
 
-abbrev pub vector_asks : Option Data → Ask
-vector_asks value reader = number_asks (second_item value) (number_asks (first_in value) (pair_asks value reader))
-
 -- two numbers of sizes up to most
 abbrev pub vector_within : ℕ → Option Data → Vec2
 vector_within most value = cond (is_within most (vector_in value)) (vector_in value) zero_vector
-
-abbrev pub vector_within_asks : ℕ → Option Data → Ask
-vector_within_asks most value reader = asked (is_within most (vector_in value)) Limits (vector_asks value reader)
-
--- two places
-abbrev pub ends_asks : ℕ → Option Data → Ask
-ends_asks most value reader = vector_within_asks most (second_item value) (vector_within_asks most (first_in value) (pair_asks value reader))
 
 -- a box by its two corners
 abbrev pub corners_in : ℕ → Option Data → Box2

@@ -6,8 +6,6 @@ use Rattle.std.specs.Str.{bytes_eq}
 use Rattle.serde_json.specs.Data.{Data, Members, boolean, no_members, null, object, string}
 use Rattle.serde_json.specs.Find.{get}
 use Rattle.fixed_geom.specs.Boxes.{contains}
-use Rattle.fixed_geom.specs.Facings.{is_facing}
-use Rattle.fixed_geom.specs.Vectors.{is_within}
 use Rattle.fixed_geom.specs.declared.boxes.Box2.{Box2}
 use Rattle.fixed_geom.specs.declared.facings.Rot.{Rot}
 use Rattle.fixed_geom.specs.declared.limits.TheConstants.{MAX_POSITION, MAX_SPIN}
@@ -17,21 +15,18 @@ use Rattle.momenta.specs.declared.limits.TheConstants.{MAX_ANGULAR_MOMENTUM, MAX
 use Rattle.momenta.specs.declared.mass.MassData.{MassData}
 use Rattle.momenta.specs.declared.motion.Momenta.{Momenta}
 use Rattle.momenta.specs.declared.motion.Motion.{Motion}
-use Rattle.plain_world.specs.Bodies.{is_awake, is_mover, pose_of}
-use Rattle.plain_world.specs.Kinds.{carried_by, is_moving, is_static, no_course}
+use Rattle.plain_world.specs.Bodies.{is_mover}
+use Rattle.plain_world.specs.Kinds.{no_course}
 use Rattle.plain_world.specs.declared.body.Body.{Body}
 use Rattle.plain_world.specs.declared.kind.Kind.{Kind}
 use Rattle.plain_world.specs.declared.kind.Kind.TheVariants.{Static, Kinematic, Dynamic}
 use Rattle.shapes.specs.Bounds.{tight_box}
-use Rattle.shapes.specs.Shapes.{shapes_refusal}
 use Rattle.shapes.specs.declared.pose.Pose.{Pose}
 use Rattle.shapes.specs.declared.shape.ShapeDef.{ShapeDef}
-use Rattle.world_file_base.specs.Asks.{Ask, all_asked, asked, noted}
-use Rattle.world_file_base.specs.Reading.{has_keys, island_asks, island_in, items_in, list_asks, signed_asks, signed_in, text_asks, text_in, truth_asks, truth_in, unsigned_asks, unsigned_in, vector_asks, vector_in, vector_within, vector_within_asks}
-use Rattle.world_file_base.specs.Texts.{decimal_asks, decimal_in}
+use Rattle.world_file_base.specs.Reading.{island_in, items_in, signed_in, text_in, truth_in, unsigned_in, vector_in, vector_within}
+use Rattle.world_file_base.specs.Texts.{decimal_in}
 use Rattle.world_file_base.specs.Written.{decimal_of, integer, list_data, natural, vector_of, with_members}
-use Rattle.world_file_base.specs.declared.clause.Clause.TheVariants.{FatBoxes, Form, Islands, Limits, Memberships}
-use Rattle.world_file_base.specs.SavedShapes.{defs_in, fats_in, shapes_asks, shapes_of}
+use Rattle.world_file_base.specs.SavedShapes.{defs_in, fats_in, shapes_of}
 use Rattle.world_file_base.specs.declared.saved.Membership.{Membership}
 
 -- ---- its kind
@@ -53,23 +48,6 @@ bare_kind d = unwrap_or (named_kind (text_in (get (codes "kind") d))) Static
 
 unfoldable pub kind_in : Data → Kind
 kind_in d = with_course (bare_kind d) d
-
--- a kinematic body has two keys more
-abbrev pub course_asks : Kind → Data → Ask
-course_asks Static d = asked (has_keys 13 d) Form
-course_asks (Kinematic course) d = all_asked (
-    vector_within_asks (unsigned_abs MAX_SPEED) (get (codes "velocity") d)
-    ∷ signed_asks (neg_ℤ MAX_SPIN) MAX_SPIN (get (codes "spin") d)
-    ∷ asked (has_keys 15 d) Form
-    ∷ [])
-course_asks Dynamic d = asked (has_keys 13 d) Form
-
-unfoldable pub kind_asks : Data → Ask
-kind_asks d = all_asked (
-    text_asks (get (codes "kind") d)
-    ∷ asked (is_some (named_kind (text_in (get (codes "kind") d)))) Form
-    ∷ course_asks (bare_kind d) d
-    ∷ [])
 
 -- ---- its numbers
 
@@ -95,17 +73,8 @@ mass_in kind d = record {
   inertia = signed_in (pos 0) (most_inertia kind) (get (codes "inertia") d);
 }
 
-unfoldable pub mass_asks : Kind → Data → Ask
-mass_asks kind d = all_asked (
-    signed_asks (least_mass kind) (most_mass kind) (get (codes "mass") d)
-    ∷ signed_asks (pos 0) (most_inertia kind) (get (codes "inertia") d)
-    ∷ [])
-
 abbrev pub facing_in : Option Data → Rot
 facing_in value = record { c = (vector_in value).x; s = (vector_in value).y }
-
-abbrev pub facing_asks : Option Data → Ask
-facing_asks value reader = asked (is_facing (facing_in value)) Limits (vector_asks value reader)
 
 -- a body without inertia has no angular momentum
 abbrev pub most_angular : ℤ → ℕ
@@ -117,23 +86,11 @@ momenta_in most d = record {
   l = decimal_in most (get (codes "l") d);
 }
 
-unfoldable pub momenta_asks : ℕ → Data → Ask
-momenta_asks most d = all_asked (
-    vector_within_asks (unsigned_abs MAX_MOMENTUM) (get (codes "p") d)
-    ∷ decimal_asks most (get (codes "l") d)
-    ∷ [])
-
 unfoldable pub pose_in : Data → Pose
 pose_in d = record {
   x = vector_within (unsigned_abs MAX_POSITION) (get (codes "at") d);
   rot = facing_in (get (codes "facing") d);
 }
-
-unfoldable pub pose_asks : Data → Ask
-pose_asks d = all_asked (
-    vector_within_asks (unsigned_abs MAX_POSITION) (get (codes "at") d)
-    ∷ facing_asks (get (codes "facing") d)
-    ∷ [])
 
 unfoldable pub motion_in : ℤ → Data → Motion
 motion_in inertia d = record {
@@ -143,9 +100,6 @@ motion_in inertia d = record {
   rot = (pose_in d).rot;
 }
 
-unfoldable pub motion_asks : ℤ → Data → Ask
-motion_asks inertia d = all_asked (momenta_asks (most_angular inertia) d ∷ pose_asks d ∷ [])
-
 -- ---- its island
 
 unfoldable pub membership_in : Data → Membership
@@ -154,13 +108,6 @@ membership_in d = record {
   loose = truth_in (get (codes "loose") d);
   asleep = truth_in (get (codes "asleep") d);
 }
-
-unfoldable pub membership_asks : Data → Ask
-membership_asks d = all_asked (
-    island_asks (get (codes "island") d)
-    ∷ truth_asks (get (codes "loose") d)
-    ∷ truth_asks (get (codes "asleep") d)
-    ∷ [])
 
 -- the name under which it sleeps
 abbrev pub sleeping_under : Membership → Option ℕ
@@ -187,67 +134,15 @@ are_in_boxes pose [] fats = true
 are_in_boxes pose (def ∷ defs) [] = false
 are_in_boxes pose (def ∷ defs) (fat ∷ fats) = cond (contains fat (tight_box def.shape pose)) (are_in_boxes pose defs fats) false
 
-abbrev pub is_pose : Pose → Bool
-is_pose pose = is_within (unsigned_abs MAX_POSITION) pose.x && is_facing pose.rot
-
--- The body may have its shapes, and they lie in their fat boxes. The second is asked of shapes and of a pose that are within their limits.
-unfoldable pub fit_asks : Kind → Pose → List ShapeDef → List Box2 → Ask
-fit_asks kind pose defs fats reader =
-    cond (is_none (shapes_refusal (is_static kind) defs))
-    (cond (is_pose pose) (asked (are_in_boxes pose defs fats) FatBoxes reader) reader)
-    (noted Limits reader)
-
 abbrev pub is_at_rest : Motion → Bool
 is_at_rest m = int_eq m.p.x (pos 0) && (int_eq m.p.y (pos 0) && int_eq m.l (pos 0))
-
--- what isn't an awake mover is at rest, and what is disabled has no course
-unfoldable pub rest_asks : Body → Ask
-rest_asks b = all_asked (
-    asked (is_awake b || is_at_rest b.motion) Islands
-    ∷ asked (b.enabled || not (is_moving (carried_by b.kind))) Islands
-    ∷ [])
 
 -- just a mover has an island, and what has none says nothing of one
 abbrev pub island_fits : Body → Membership → Bool
 island_fits b m = cond (is_mover b) (is_some m.island) (is_none m.island)
 
-abbrev pub island_told : Membership → Bool
-island_told m = is_some m.island || not (m.loose || m.asleep)
-
-unfoldable pub told_asks : Body → Membership → Ask
-told_asks b m = all_asked (
-    asked (island_fits b m) Memberships
-    ∷ asked (island_told m) Memberships
-    ∷ [])
-
--- what is asked of its keys, but for its shapes
-unfoldable pub numbers_asks : ℕ → Data → Ask
-numbers_asks most_ticks d = all_asked (
-    kind_asks d
-    ∷ mass_asks (kind_in d) d
-    ∷ motion_asks (mass_in (kind_in d) d).inertia d
-    ∷ membership_asks d
-    ∷ truth_asks (get (codes "enabled") d)
-    ∷ unsigned_asks most_ticks (get (codes "timer") d)
-    ∷ [])
-
-unfoldable pub keys_asks : ℕ → Data → Ask
-keys_asks most_ticks d = all_asked (
-    numbers_asks most_ticks d
-    ∷ list_asks (get (codes "shapes") d)
-    ∷ shapes_asks (items_in (get (codes "shapes") d))
-    ∷ [])
-
--- what is asked of it as a whole
-unfoldable pub whole_body_asks : Body → Membership → Ask
-whole_body_asks b m = all_asked (
-    fit_asks b.kind (pose_of b) b.shapes b.fats
-    ∷ rest_asks b
-    ∷ told_asks b m
-    ∷ [])
-
-unfoldable pub body_asks : ℕ → Data → Ask
-body_asks most_ticks d reader = whole_body_asks (body_in most_ticks d) (membership_in d) (keys_asks most_ticks d reader)
+abbrev pub is_island_or_nothing : Membership → Bool
+is_island_or_nothing m = is_some m.island || not (m.loose || m.asleep)
 
 -- ---- how it is written
 

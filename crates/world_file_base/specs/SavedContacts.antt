@@ -1,5 +1,5 @@
 -- Saved contacts.
-use Rattle.std.specs.Prelude.{ℕ, ◌^◌, ◌-◌, ◌++◌, List, [], ◌∷◌, Option, Some, None, codes, cond, nat_le, ℤ, pos, int_le, unsigned_abs}
+use Rattle.std.specs.Prelude.{ℕ, ◌^◌, ◌-◌, ◌++◌, List, [], ◌∷◌, Option, Some, None, codes, cond, nat_le, ℤ, pos, unsigned_abs}
 use Rattle.std.specs.Option.{is_none}
 use Rattle.serde_json.specs.Data.{Data, Items, no_items, item, boolean}
 use Rattle.serde_json.specs.Events.{items_len}
@@ -9,28 +9,18 @@ use Rattle.contacts_base.specs.declared.contact.Contact.{Contact}
 use Rattle.contacts_base.specs.declared.contact.ContactEntry.{ContactEntry}
 use Rattle.contacts_base.specs.declared.contact.ContactPoint.{ContactPoint}
 use Rattle.contacts_base.specs.declared.key.ShapeId.{ShapeId}
-use Rattle.contacts_base.specs.declared.limits.TheConstants.{MAX_NORMAL, MAX_NORMAL_IMPULSE, MAX_OFFSET, MAX_SEPARATION, MAX_TANGENT_IMPULSE}
-use Rattle.world_file_base.specs.Asks.{Ask, all_asked, asked}
-use Rattle.world_file_base.specs.Reading.{first_in, has_keys, items_in, list_asks, number_asks, number_in, pair_asks, second_item, truth_asks, truth_in, unsigned_asks, unsigned_in, vector_within, vector_within_asks}
+use Rattle.contacts_base.specs.declared.limits.TheConstants.{MAX_NORMAL, MAX_OFFSET, MAX_SEPARATION}
+use Rattle.world_file_base.specs.Reading.{first_in, items_in, number_in, second_item, truth_in, unsigned_in, vector_within}
 use Rattle.world_file_base.specs.Written.{integer, list_data, natural, natural_or_null, object_of, pair_data, vector_of}
-use Rattle.world_file_base.specs.declared.clause.Clause.TheVariants.{Form, Limits}
-use Rattle.world_file_base.specs.Versions.{colour_asks, colour_in}
+use Rattle.world_file_base.specs.Versions.{colour_in}
 use Rattle.world_file_base.specs.declared.saved.SavedContact.{SavedContact}
 use Rattle.world_file_base.specs.declared.version.Version.{Version}
 
 -- ---- how it is read
 
--- a number of a size up to most
-abbrev pub size_asks : ℕ → Option Data → Ask
-size_asks most value reader = asked (nat_le (unsigned_abs (number_in value)) most) Limits (number_asks value reader)
-
 -- what is read of it, 0 if its size is beyond most
 abbrev pub size_in : ℕ → Option Data → ℤ
 size_in most value = cond (nat_le (unsigned_abs (number_in value)) most) (number_in value) (pos 0)
-
--- the impulse along the normal, which is at least 0
-abbrev pub push_asks : Option Data → Ask
-push_asks value reader = asked (int_le (pos 0) (number_in value)) Limits (size_asks MAX_NORMAL_IMPULSE value reader)
 
 abbrev pub last_candidate : ℕ
 last_candidate = 3
@@ -46,18 +36,6 @@ point_in d = record {
   candidate = unsigned_in last_candidate (get (codes "candidate") d);
 }
 
-unfoldable pub point_asks : Data → Ask
-point_asks d = all_asked (
-    asked (has_keys 7 d) Form
-    ∷ vector_within_asks MAX_NORMAL (get (codes "normal") d)
-    ∷ size_asks MAX_SEPARATION (get (codes "sep") d)
-    ∷ vector_within_asks MAX_OFFSET (get (codes "ra") d)
-    ∷ vector_within_asks MAX_OFFSET (get (codes "rb") d)
-    ∷ push_asks (get (codes "push") d)
-    ∷ size_asks MAX_TANGENT_IMPULSE (get (codes "slip") d)
-    ∷ unsigned_asks last_candidate (get (codes "candidate") d)
-    ∷ [])
-
 -- the first two points are kept
 abbrev pub with_point : Contact → ContactPoint → Contact
 with_point c p = cond (is_none c.first) (record c { first = Some p }) (cond (is_none c.second) (record c { second = Some p }) c)
@@ -69,16 +47,9 @@ with_points (item d ds) c = with_points ds (with_point c (point_in d))
 abbrev pub no_points : Contact
 no_points = record { first = None; second = None }
 
-abbrev pub points_asks : Items → Ask
-points_asks no_items reader = reader
-points_asks (item d ds) reader = points_asks ds (point_asks d reader)
-
 -- the slot of a body, and the place of a shape among the body's
 abbrev pub shape_id_in : Option Data → ShapeId
 shape_id_in value = record { slot = unsigned_in (2 ^ 32 - 1) (first_in value); index = unsigned_in 255 (second_item value) }
-
-abbrev pub shape_id_asks : Option Data → Ask
-shape_id_asks value reader = unsigned_asks 255 (second_item value) (unsigned_asks (2 ^ 32 - 1) (first_in value) (pair_asks value reader))
 
 unfoldable pub contact_in : Version → Data → SavedContact
 contact_in version d = record {
@@ -89,24 +60,9 @@ contact_in version d = record {
   points = items_len (items_in (get (codes "points") d));
 }
 
-unfoldable pub contact_asks : Version → Data → Ask
-contact_asks version d = all_asked (
-    asked (has_keys 5 d) Form
-    ∷ shape_id_asks (get (codes "a") d)
-    ∷ shape_id_asks (get (codes "b") d)
-    ∷ truth_asks (get (codes "touching") d)
-    ∷ colour_asks version (get (codes "colour") d)
-    ∷ list_asks (get (codes "points") d)
-    ∷ points_asks (items_in (get (codes "points") d))
-    ∷ [])
-
 abbrev pub contacts_in : Version → Items → List SavedContact
 contacts_in version no_items = []
 contacts_in version (item d ds) = contact_in version d ∷ contacts_in version ds
-
-abbrev pub contacts_asks : Version → Items → Ask
-contacts_asks version no_items reader = reader
-contacts_asks version (item d ds) reader = contacts_asks version ds (contact_asks version d reader)
 
 -- ---- how it is written
 

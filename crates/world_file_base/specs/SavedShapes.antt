@@ -6,10 +6,8 @@ use Rattle.fixed_geom.specs.declared.boxes.Box2.{Box2}
 use Rattle.shapes.specs.declared.shape.Shape.{Shape}
 use Rattle.shapes.specs.declared.shape.Shape.TheVariants.{Circle, Capsule, Segment}
 use Rattle.shapes.specs.declared.shape.ShapeDef.{ShapeDef}
-use Rattle.world_file_base.specs.Asks.{Ask, all_asked, asked}
-use Rattle.world_file_base.specs.Reading.{corners_in, ends_asks, first_in, group_asks, group_in, has_keys, number_asks, number_in, pair_asks, second_item, unsigned_asks, unsigned_in, vector_asks, vector_in}
+use Rattle.world_file_base.specs.Reading.{corners_in, first_in, group_in, number_in, second_item, unsigned_in, vector_in}
 use Rattle.world_file_base.specs.Written.{corners_of, ends_of, integer, natural, vector_of, with_members}
-use Rattle.world_file_base.specs.declared.clause.Clause.TheVariants.{Form}
 use Rattle.world_file_base.specs.declared.saved_shapes.SavedShape.{SavedShape}
 
 -- ---- how it is read
@@ -35,31 +33,6 @@ long_form None d = round_form (get (codes "circle") d) d
 unfoldable pub form_in : Data → Shape
 form_in d = long_form (get (codes "capsule") d) d
 
--- two places of any coordinates
-abbrev pub core_asks : Option Data → Ask
-core_asks value reader = vector_asks (second_item value) (vector_asks (first_in value) (pair_asks value reader))
-
--- how many keys a shape has hangs on its form
-abbrev pub capsule_asks : Data → Data → Ask
-capsule_asks core d = all_asked (core_asks (Some core) ∷ number_asks (get (codes "radius") d) ∷ asked (has_keys 8 d) Form ∷ [])
-
-abbrev pub circle_asks : Data → Data → Ask
-circle_asks core d = all_asked (vector_asks (Some core) ∷ number_asks (get (codes "radius") d) ∷ asked (has_keys 8 d) Form ∷ [])
-
-abbrev pub segment_asks : Data → Ask
-segment_asks d = all_asked (core_asks (get (codes "segment") d) ∷ asked (has_keys 7 d) Form ∷ [])
-
-abbrev pub round_asks : Option Data → Data → Ask
-round_asks (Some core) d = circle_asks core d
-round_asks None d = segment_asks d
-
-abbrev pub long_asks : Option Data → Data → Ask
-long_asks (Some core) d = capsule_asks core d
-long_asks None d = round_asks (get (codes "circle") d) d
-
-unfoldable pub form_asks : Data → Ask
-form_asks d = long_asks (get (codes "capsule") d) d
-
 -- the greatest size of a corner of a fat box
 abbrev pub most_corner : ℕ
 most_corner = 2 ^ 37
@@ -83,18 +56,6 @@ shape_in d = record {
   fat = corners_in most_corner (get (codes "fat") d);
 }
 
--- of its numbers just what their types ask: whether a body may have it is asked of all of its shapes together
-unfoldable pub shape_asks : Data → Ask
-shape_asks d = all_asked (
-    form_asks d
-    ∷ number_asks (get (codes "friction") d)
-    ∷ number_asks (get (codes "restitution") d)
-    ∷ unsigned_asks most_bits (get (codes "category") d)
-    ∷ unsigned_asks most_bits (get (codes "mask") d)
-    ∷ group_asks (get (codes "group") d)
-    ∷ ends_asks most_corner (get (codes "fat") d)
-    ∷ [])
-
 -- those of a list
 abbrev pub defs_in : Items → List ShapeDef
 defs_in no_items = []
@@ -103,10 +64,6 @@ defs_in (item d ds) = (shape_in d).def ∷ defs_in ds
 abbrev pub fats_in : Items → List Box2
 fats_in no_items = []
 fats_in (item d ds) = (shape_in d).fat ∷ fats_in ds
-
-abbrev pub shapes_asks : Items → Ask
-shapes_asks no_items reader = reader
-shapes_asks (item d ds) reader = shapes_asks ds (shape_asks d reader)
 
 -- ---- how it is written
 

@@ -5,17 +5,12 @@ use Rattle.serde_json.specs.Find.{get}
 use Rattle.impulse_ledger.specs.declared.limits.TheConstants.{MAX_TOTAL}
 use Rattle.impulse_ledger.specs.declared.totals.Total.{Total}
 use Rattle.impulse_ledger.specs.declared.totals.Totals.{Totals}
-use Rattle.world_file_base.specs.Asks.{Ask, all_asked, asked}
-use Rattle.world_file_base.specs.Reading.{first_in, has_keys_in, pair_asks, second_item}
-use Rattle.world_file_base.specs.Texts.{decimal_asks, decimal_in}
+use Rattle.world_file_base.specs.Reading.{first_in, second_item}
+use Rattle.world_file_base.specs.Texts.{decimal_in}
 use Rattle.world_file_base.specs.Written.{decimal_of, object_of, pair_data}
-use Rattle.world_file_base.specs.declared.clause.Clause.TheVariants.{Form}
 
 abbrev pub total_read : Option Data → Total
 total_read value = record { x = decimal_in MAX_TOTAL (first_in value); y = decimal_in MAX_TOTAL (second_item value) }
-
-abbrev pub total_asks : Option Data → Ask
-total_asks value reader = decimal_asks MAX_TOTAL (second_item value) (decimal_asks MAX_TOTAL (first_in value) (pair_asks value reader))
 
 -- the total of the cause of a key
 abbrev pub cause_in : List ℕ → Option Data → Option Data
@@ -30,17 +25,6 @@ totals_read value = record {
   rest = total_read (cause_in (codes "rest") value);
   departed = total_read (cause_in (codes "departed") value);
 }
-
-abbrev pub totals_asks : Option Data → Ask
-totals_asks value = all_asked (
-    asked (has_keys_in 6 value) Form
-    ∷ total_asks (cause_in (codes "command") value)
-    ∷ total_asks (cause_in (codes "gravity") value)
-    ∷ total_asks (cause_in (codes "immovable") value)
-    ∷ total_asks (cause_in (codes "clamp") value)
-    ∷ total_asks (cause_in (codes "rest") value)
-    ∷ total_asks (cause_in (codes "departed") value)
-    ∷ [])
 
 abbrev pub total_data : Total → Data
 total_data t = pair_data (decimal_of t.x) (decimal_of t.y)

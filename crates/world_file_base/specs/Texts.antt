@@ -1,14 +1,12 @@
 -- Ids and numbers as texts.
-use Rattle.std.specs.Prelude.{ℕ, ◌==◌, ◌&&◌, ◌^◌, Bool, not, cond, nat_lt, nat_le, List, [], ◌∷◌, length, drop, slice_index, Option, Some, None, option_and_then, is_some, unwrap_or, ℤ, pos, unsigned_abs}
+use Rattle.std.specs.Prelude.{ℕ, ◌==◌, ◌&&◌, ◌^◌, Bool, not, cond, nat_lt, nat_le, List, [], ◌∷◌, length, drop, slice_index, Option, Some, None, option_and_then, unwrap_or, ℤ, pos, unsigned_abs}
 use Rattle.std.specs.List.{list_all}
 use Rattle.std.specs.Str.{bytes_eq}
 use Rattle.std.specs.Str.Parse.{digits_value, signed_digits_value, starts_with_minus}
 use Rattle.serde_json.specs.Data.{Data}
 use Rattle.body_handles.specs.declared.handle.Handle.{Handle}
 use Rattle.body_handles.specs.IdTexts.{id_text, point}
-use Rattle.world_file_base.specs.Asks.{Ask, asked}
-use Rattle.world_file_base.specs.Reading.{text_asks, text_in}
-use Rattle.world_file_base.specs.declared.clause.Clause.TheVariants.{Form, Limits}
+use Rattle.world_file_base.specs.Reading.{text_in}
 
 -- ---- ids
 
@@ -38,9 +36,6 @@ no_handle = record { slot = 0; generation = 0 }
 abbrev pub handle_in : Option Data → Handle
 handle_in value = unwrap_or (handle_of_text (text_in value)) no_handle
 
-abbrev pub handle_asks : Option Data → Ask
-handle_asks value reader = asked (is_some (handle_of_text (text_in value))) Form (text_asks value reader)
-
 -- ---- numbers of any length
 
 abbrev pub is_digit : ℕ → Bool
@@ -67,7 +62,3 @@ sized most z = cond (nat_le (unsigned_abs z) most) (Some z) None
 
 abbrev pub decimal_in : ℕ → Option Data → ℤ
 decimal_in most value = unwrap_or (option_and_then (sized most) (number_of_text (text_in value))) (pos 0)
-
-abbrev pub decimal_asks : ℕ → Option Data → Ask
-decimal_asks most value reader =
-    asked (is_some (option_and_then (sized most) (number_of_text (text_in value)))) Limits (asked (is_some (number_of_text (text_in value))) Form (text_asks value reader))

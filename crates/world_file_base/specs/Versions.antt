@@ -1,11 +1,9 @@
 -- The versions of the form of a saved world, and the colours that its numbers stand for.
-use Rattle.std.specs.Prelude.{ℕ, ◌==◌, cond, nat_lt, Option, Some, None, is_some}
+use Rattle.std.specs.Prelude.{ℕ, ◌==◌, cond, nat_lt, Option, Some, None}
 use Rattle.serde_json.specs.Data.{Data}
-use Rattle.body_handles.specs.declared.places.TheConstants.{MAX_SLOTS}
+use Rattle.body_handles.specs.declared.slot_table.TheConstants.{MAX_SLOTS}
 use Rattle.graph_colours.specs.declared.limits.TheConstants.{OVERFLOW}
-use Rattle.world_file_base.specs.Asks.{Ask, asked}
-use Rattle.world_file_base.specs.Reading.{is_null, unsigned_asks, unsigned_in}
-use Rattle.world_file_base.specs.declared.clause.Clause.TheVariants.{Colours}
+use Rattle.world_file_base.specs.Reading.{is_null, unsigned_in}
 use Rattle.world_file_base.specs.declared.version.Version.{Version}
 use Rattle.world_file_base.specs.declared.version.Version.TheVariants.{First, Second}
 
@@ -25,6 +23,3 @@ colour_of_number version number = cond (nat_lt number (overflow_of version)) (So
 
 abbrev pub colour_in : Version → Option Data → Option ℕ
 colour_in version value = cond (is_null value) None (colour_of_number version (unsigned_in 255 value))
-
-abbrev pub colour_asks : Version → Option Data → Ask
-colour_asks version value reader = cond (is_null value) reader (asked (is_some (colour_of_number version (unsigned_in 255 value))) Colours (unsigned_asks 255 value reader))

@@ -2,53 +2,57 @@
 
 ghost use Rattle.std.specs.Prelude.{◌≡◌, ◌<◌, ◌^◌, ◌∷◌, ◌++◌, [], codes, All, IfErr, IfOk, OnOk};
 ghost use Rattle.world_file_base.specs.Asks.{asked};
-ghost use Rattle.world_file_base.specs.Reading.{items_in, list_asks, seen, truth_in, unsigned_in};
+ghost use Rattle.world_file_base.specs.Reading.{items_in, seen, truth_in, unsigned_in};
+ghost use Rattle.world_file_base.specs.AskedValues.{list_asks};
 ghost use Rattle.serde_json.specs.Find.{get};
 ghost use Rattle.world_file_base.specs.Written.{list_data, written};
 ghost use Rattle.world_file_base.specs.declared.clause.Broken.TheVariants.{NoMemory};
 ghost use Rattle.world_file_base.specs.SavedBodies.{
   are_in_boxes,
-  body_asks,
   body_in,
   body_data,
-  course_asks,
-  facing_asks,
   facing_in,
-  fit_asks,
   is_at_rest,
-  is_pose,
   island_fits,
-  island_told,
-  keys_asks,
-  kind_asks,
+  is_island_or_nothing,
   kind_in,
   kind_name,
   least_mass,
-  mass_asks,
   mass_in,
-  membership_asks,
   membership_in,
   most_angular,
   most_inertia,
   most_mass,
-  momenta_asks,
   momenta_in,
-  motion_asks,
   motion_in,
   named_kind,
-  numbers_asks,
-  pose_asks,
   pose_in,
   put_course_data,
   put_label,
   put_numbers,
-  rest_asks,
   sleeping_under,
-  told_asks,
-  whole_body_asks,
   with_course,
 };
-ghost use Rattle.world_file_base.specs.SavedShapes.{defs_in, fats_in, shapes_asks, shapes_of};
+ghost use Rattle.world_file_base.specs.AskedBodies.{
+  body_asks,
+  course_asks,
+  facing_asks,
+  fit_asks,
+  is_pose,
+  keys_asks,
+  kind_asks,
+  mass_asks,
+  membership_asks,
+  momenta_asks,
+  motion_asks,
+  numbers_asks,
+  pose_asks,
+  rest_asks,
+  fitting_membership_asks,
+  whole_body_asks,
+};
+ghost use Rattle.world_file_base.specs.SavedShapes.{defs_in, fats_in, shapes_of};
+ghost use Rattle.world_file_base.specs.AskedShapes.{shapes_asks};
 ghost use Rattle.serde_json.specs.View.{items_view, view};
 ghost use Rattle.shapes.specs.Poses.{IsPose};
 ghost use Rattle.shapes.specs.Shapes.{IsShapeDef};
@@ -116,7 +120,7 @@ fn read_course(reader: &mut Reader, value: &Value, kind: Kind) -> Kind
 }
 
 /// Reads the kind of a body, with its course if it is kinematic.
-#[tactic(auto, unfolding(crate::specs::SavedBodies::kind_in, crate::specs::SavedBodies::kind_asks))]
+#[tactic(auto, unfolding(crate::specs::SavedBodies::kind_in, crate::specs::AskedBodies::kind_asks))]
 fn read_kind(reader: &mut Reader, value: &Value) -> Kind
     ensures value { result ≡ kind_in (view value.now) }
     ensures asked { reader.new ≡ kind_asks (view value.now) reader.old }
@@ -161,7 +165,7 @@ fn most_inertia(kind: Kind) -> i64
 }
 
 /// Reads the mass and the inertia, which a body that isn't dynamic has none of.
-#[tactic(auto, unfolding(crate::specs::SavedBodies::mass_in, crate::specs::SavedBodies::mass_asks))]
+#[tactic(auto, unfolding(crate::specs::SavedBodies::mass_in, crate::specs::AskedBodies::mass_asks))]
 fn read_mass(reader: &mut Reader, value: &Value, kind: Kind) -> MassData
     ensures value { result ≡ mass_in kind (view value.now) }
     ensures asked { reader.new ≡ mass_asks kind (view value.now) reader.old }
@@ -197,7 +201,7 @@ fn read_facing(reader: &mut Reader, value: Option<&Value>) -> Rot
 }
 
 /// Reads the momenta of a body, of which the angular one is at most `most` in size.
-#[tactic(auto, unfolding(crate::specs::SavedBodies::momenta_in, crate::specs::SavedBodies::momenta_asks))]
+#[tactic(auto, unfolding(crate::specs::SavedBodies::momenta_in, crate::specs::AskedBodies::momenta_asks))]
 fn read_momenta(reader: &mut Reader, value: &Value, most: u128) -> Momenta
     requires { most < 2 ^ 127 }
     ensures value { result ≡ momenta_in most (view value.now) }
@@ -209,7 +213,7 @@ fn read_momenta(reader: &mut Reader, value: &Value, most: u128) -> Momenta
 }
 
 /// Reads where a body is.
-#[tactic(auto, unfolding(crate::specs::SavedBodies::pose_in, crate::specs::SavedBodies::pose_asks))]
+#[tactic(auto, unfolding(crate::specs::SavedBodies::pose_in, crate::specs::AskedBodies::pose_asks))]
 fn read_pose(reader: &mut Reader, value: &Value) -> Pose
     ensures value { result ≡ pose_in (view value.now) }
     ensures asked { reader.new ≡ pose_asks (view value.now) reader.old }
@@ -220,7 +224,7 @@ fn read_pose(reader: &mut Reader, value: &Value) -> Pose
 }
 
 /// Reads the motion of a body of this inertia.
-#[tactic(auto, unfolding(crate::specs::SavedBodies::motion_in, crate::specs::SavedBodies::motion_asks))]
+#[tactic(auto, unfolding(crate::specs::SavedBodies::motion_in, crate::specs::AskedBodies::motion_asks))]
 fn read_motion(reader: &mut Reader, value: &Value, inertia: i64) -> Motion
     ensures value { result ≡ motion_in inertia (view value.now) }
     ensures asked { reader.new ≡ motion_asks inertia (view value.now) reader.old }
@@ -236,7 +240,7 @@ fn read_motion(reader: &mut Reader, value: &Value, inertia: i64) -> Motion
 }
 
 /// Reads what a body says of its island.
-#[tactic(auto, unfolding(crate::specs::SavedBodies::membership_in, crate::specs::SavedBodies::membership_asks))]
+#[tactic(auto, unfolding(crate::specs::SavedBodies::membership_in, crate::specs::AskedBodies::membership_asks))]
 fn read_membership(reader: &mut Reader, value: &Value) -> Membership
     ensures value { result ≡ membership_in (view value.now) }
     ensures asked { reader.new ≡ membership_asks (view value.now) reader.old }
@@ -252,7 +256,7 @@ fn read_membership(reader: &mut Reader, value: &Value) -> Membership
 }
 
 /// The name under which a body sleeps, if it does.
-fn sleeping_under(membership: Membership) -> Option<u32>
+pub fn sleeping_under(membership: Membership) -> Option<u32>
     ensures { result ≡ sleeping_under membership }
 {
     if membership.asleep {
@@ -318,7 +322,7 @@ fn are_in_boxes(defs: &[ShapeDef], fats: &[Box2], pose: Pose) -> bool
 }
 
 /// Asks whether a body of this kind may have the shapes, and whether they lie in their fat boxes.
-#[tactic(auto, unfolding(crate::specs::SavedBodies::fit_asks))]
+#[tactic(auto, unfolding(crate::specs::AskedBodies::fit_asks))]
 fn ask_shapes(reader: &mut Reader, kind: Kind, pose: Pose, defs: &[ShapeDef], fats: &[Box2])
     ensures { reader.new ≡ fit_asks kind pose defs.now fats.now reader.old }
 {
@@ -340,7 +344,7 @@ fn is_at_rest(motion: &Motion) -> bool
 }
 
 /// Asks whether a body is at rest unless it is an awake mover, and whether one that is disabled has no course.
-#[tactic(auto, unfolding(crate::specs::SavedBodies::rest_asks))]
+#[tactic(auto, unfolding(crate::specs::AskedBodies::rest_asks))]
 fn ask_rest(reader: &mut Reader, body: &Body)
     ensures { reader.new ≡ rest_asks body.now reader.old }
 {
@@ -361,23 +365,23 @@ fn island_fits(body: &Body, membership: Membership) -> bool
     }
 }
 
-fn island_told(membership: Membership) -> bool
-    ensures { result ≡ island_told membership }
+fn is_island_or_nothing(membership: Membership) -> bool
+    ensures { result ≡ is_island_or_nothing membership }
 {
     membership.island.is_some() || !(membership.loose || membership.asleep)
 }
 
 /// Asks whether just a mover has an island, and whether what has none says nothing of one.
-#[tactic(auto, unfolding(crate::specs::SavedBodies::told_asks))]
+#[tactic(auto, unfolding(crate::specs::AskedBodies::fitting_membership_asks))]
 fn ask_membership(reader: &mut Reader, body: &Body, membership: Membership)
-    ensures { reader.new ≡ told_asks body.now membership reader.old }
+    ensures { reader.new ≡ fitting_membership_asks body.now membership reader.old }
 {
     reader.ask(island_fits(body, membership), Clause::Memberships);
-    reader.ask(island_told(membership), Clause::Memberships);
+    reader.ask(is_island_or_nothing(membership), Clause::Memberships);
 }
 
 /// Asks of a body as a whole.
-#[tactic(auto, unfolding(crate::specs::SavedBodies::whole_body_asks))]
+#[tactic(auto, unfolding(crate::specs::AskedBodies::whole_body_asks))]
 pub fn ask_body(reader: &mut Reader, body: &Body, membership: Membership)
     ensures { reader.new ≡ whole_body_asks body.now membership reader.old }
 {
@@ -404,7 +408,7 @@ struct Numbers {
 }
 
 /// Reads the keys of a body, but for its shapes.
-#[tactic(auto, unfolding(crate::specs::SavedBodies::numbers_asks))]
+#[tactic(auto, unfolding(crate::specs::AskedBodies::numbers_asks))]
 fn read_numbers(reader: &mut Reader, value: &Value, most_ticks: u64) -> Numbers
     ensures kind { result.kind ≡ kind_in (view value.now) }
     ensures mass { result.mass ≡ mass_in (kind_in (view value.now)) (view value.now) }
@@ -431,7 +435,7 @@ fn read_numbers(reader: &mut Reader, value: &Value, most_ticks: u64) -> Numbers
 }
 
 /// Reads the keys of a body of a world in which none was slow for longer than `most_ticks`.
-#[tactic(auto, unfolding(crate::specs::SavedBodies::body_in, crate::specs::SavedBodies::keys_asks))]
+#[tactic(auto, unfolding(crate::specs::SavedBodies::body_in, crate::specs::AskedBodies::keys_asks))]
 fn read_keys(
     alloc: Global,
     reader: &mut Reader,
@@ -462,7 +466,7 @@ fn read_keys(
 }
 
 /// Reads a body of a world in which none was slow for longer than `most_ticks`.
-#[tactic(auto, unfolding(crate::specs::SavedBodies::body_asks))]
+#[tactic(auto, unfolding(crate::specs::AskedBodies::body_asks))]
 pub(crate) fn read_body(
     alloc: Global,
     reader: &mut Reader,

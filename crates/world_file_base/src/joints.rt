@@ -1,7 +1,8 @@
 //! A saved joint.
 
 ghost use Rattle.std.specs.Prelude.{◌≡◌, IfOk};
-ghost use Rattle.world_file_base.specs.SavedJoints.{id_at, joint_asks, joint_in, joint_data};
+ghost use Rattle.world_file_base.specs.SavedJoints.{id_at, joint_in, joint_data};
+ghost use Rattle.world_file_base.specs.AskedSlots.{joint_asks};
 ghost use Rattle.serde_json.specs.View.{view};
 
 use crate::clause::Clause;
@@ -9,7 +10,7 @@ use crate::members::{Members, id_value};
 use crate::reader::{Reader, field, has_keys};
 use crate::saved::SavedJoint;
 use crate::version::{Version, colour_value, read_colour};
-use body_handles::{Handle, Place};
+use body_handles::{Handle, SlotEntry};
 use fixed_geom::Refusal;
 use joint_rows::{Joint, MAX_ANCHOR, MAX_JOINT_IMPULSE, MAX_JOINT_LENGTH};
 use plain_world::BodyJoint;
@@ -17,7 +18,7 @@ use serde_json::Value;
 use std::alloc::Global;
 
 /// Reads a joint.
-#[tactic(auto, unfolding(crate::specs::SavedJoints::joint_in, crate::specs::SavedJoints::joint_asks))]
+#[tactic(auto, unfolding(crate::specs::SavedJoints::joint_in, crate::specs::AskedSlots::joint_asks))]
 pub(crate) fn read_joint(reader: &mut Reader, value: &Value, version: Version) -> SavedJoint
     ensures value { result ≡ joint_in version (view value.now) }
     ensures asked { reader.new ≡ joint_asks version (view value.now) reader.old }
@@ -54,10 +55,10 @@ pub(crate) fn read_joint(reader: &mut Reader, value: &Value, version: Version) -
 }
 
 /// The id of the body in a slot as a text.
-fn id_at(alloc: Global, places: &[Place], slot: u32) -> Result<Value, Refusal>
-    ensures { IfOk result (λ value. view value ≡ id_at places.now slot) }
+fn id_at(alloc: Global, slot_entries: &[SlotEntry], slot: u32) -> Result<Value, Refusal>
+    ensures { IfOk result (λ value. view value ≡ id_at slot_entries.now slot) }
 {
-    let generation = match places.get(slot as usize) {
+    let generation = match slot_entries.get(slot as usize) {
         Some(place) => place.generation,
         None => 0,
     };
@@ -68,15 +69,15 @@ fn id_at(alloc: Global, places: &[Place], slot: u32) -> Result<Value, Refusal>
 #[tactic(auto, unfolding(crate::specs::SavedJoints::joint_data))]
 pub(crate) fn joint_value(
     alloc: Global,
-    places: &[Place],
+    slot_entries: &[SlotEntry],
     joint: &BodyJoint,
     colour: Option<u8>,
 ) -> Result<Value, Refusal>
-    ensures { IfOk result (λ value. view value ≡ joint_data places.now joint.now colour) }
+    ensures { IfOk result (λ value. view value ≡ joint_data slot_entries.now joint.now colour) }
 {
     let mut members = Members::new(alloc);
-    members.put("a", id_at(alloc, places, joint.a)?)?;
-    members.put("b", id_at(alloc, places, joint.b)?)?;
+    members.put("a", id_at(alloc, slot_entries, joint.a)?)?;
+    members.put("b", id_at(alloc, slot_entries, joint.b)?)?;
     members.put("collide", Value::from(joint.collide))?;
     members.put("colour", colour_value(colour))?;
     members.put_vector("from", joint.joint.from)?;

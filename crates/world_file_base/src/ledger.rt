@@ -4,13 +4,12 @@ ghost use Rattle.std.specs.Prelude.{◌≡◌, IfOk};
 ghost use Rattle.world_file_base.specs.Reading.{seen};
 ghost use Rattle.world_file_base.specs.SavedTotals.{
   cause_in,
-  total_asks,
   total_read,
   total_data,
-  totals_asks,
   totals_read,
   totals_data,
 };
+ghost use Rattle.world_file_base.specs.AskedValues.{total_asks, totals_asks};
 ghost use Rattle.serde_json.specs.View.{view};
 
 use crate::clause::Clause;

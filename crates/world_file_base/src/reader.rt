@@ -3,46 +3,50 @@
 ghost use Rattle.std.specs.Prelude.{◌≡◌, ◌-◌, ◌<◌, ◌≤◌, ◌==◌, ◌^◌, Some, None, cond, is_some, length, IfOk, IfErr, MatchResult, negsuc, pos};
 ghost use Rattle.serde_json.specs.Find.{get, get_item};
 ghost use Rattle.serde_json.specs.View.{items_view, view};
-ghost use Rattle.world_file_base.specs.Asks.{asked, due_of, no_asks, noted};
+ghost use Rattle.world_file_base.specs.Asks.{asked, broken_up_to, no_asks, noted};
 ghost use Rattle.world_file_base.specs.Reading.{
   corners_in,
-  ends_asks,
   first_in,
-  group_asks,
   group_in,
   greatest_group,
   least_group,
   has_keys_in,
   has_keys,
   is_null,
-  island_asks,
   island_in,
   items_in,
-  list_asks,
-  number_asks,
   number_in,
-  pair_asks,
   second_item,
   seen,
-  signed_asks,
   signed_in,
-  text_asks,
   text_in,
-  truth_asks,
   truth_in,
-  unsigned_asks,
   unsigned_in,
-  vector_asks,
   vector_in,
   vector_within,
-  vector_within_asks,
-  whole_asks,
   whole_in,
   whole_of,
   natural_of,
 };
+ghost use Rattle.world_file_base.specs.AskedValues.{
+  ends_asks,
+  group_asks,
+  island_asks,
+  list_asks,
+  number_asks,
+  pair_asks,
+  signed_asks,
+  text_asks,
+  truth_asks,
+  unsigned_asks,
+  vector_asks,
+  vector_within_asks,
+  whole_asks,
+  decimal_asks,
+  handle_asks,
+};
 ghost use Rattle.shapes.specs.Shapes.{is_between};
-ghost use Rattle.world_file_base.specs.Texts.{decimal_asks, decimal_in, handle_asks, handle_in, handle_of_text};
+ghost use Rattle.world_file_base.specs.Texts.{decimal_in, handle_in, handle_of_text};
 ghost use Rattle.world_file_base.specs.declared.clause.Clause.TheVariants.{Form, Limits};
 ghost use Rattle.world_file_base.specs.declared.clause.Broken.TheVariants.{Clause as BrokenClause};
 
@@ -150,8 +154,8 @@ impl Reader {
 
     /// Ends the reading if one of the clauses up to this one is broken.
     pub fn verdict(&self, last: Clause) -> Result<(), Broken>
-        ensures going { IfOk result (λ _. due_of last self.now.broken ≡ None) }
-        ensures broken { IfErr result (λ e. (clause : Clause) × (e ≡ BrokenClause clause) × (due_of last self.now.broken ≡ Some clause)) }
+        ensures going { IfOk result (λ _. broken_up_to last self.now.broken ≡ None) }
+        ensures broken { IfErr result (λ e. (clause : Clause) × (e ≡ BrokenClause clause) × (broken_up_to last self.now.broken ≡ Some clause)) }
     {
         match self.broken {
             Some(clause) if clause.number() <= last.number() => Err(Broken::Clause(clause)),

@@ -1,6 +1,6 @@
 //! The parts of a saved world as they are read: bodies, joints, contacts and totals with what the text says of each.
 
-use body_handles::{Handle, Place};
+use body_handles::{Handle, SlotEntry};
 use contacts_base::{ContactKey, PackedContact};
 use plain_world::{Body, BodyJoint};
 
@@ -23,7 +23,7 @@ pub const NO_MEMBERSHIP: Membership = Membership {
 /// The bodies by slot.
 #[derive(Drop)]
 pub struct SavedBodies {
-    pub places: Vec<Place>,
+    pub slot_entries: Vec<SlotEntry>,
     pub bodies: Vec<Option<Body>>,
     /// By slot what the body there says of its island.
     pub memberships: Vec<Membership>,
@@ -42,7 +42,7 @@ pub struct SavedJoint {
 /// The joints by slot.
 #[derive(Drop)]
 pub struct SavedJoints {
-    pub places: Vec<Place>,
+    pub slot_entries: Vec<SlotEntry>,
     pub joints: Vec<Option<SavedJoint>>,
 }
 

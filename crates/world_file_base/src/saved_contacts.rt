@@ -3,31 +3,34 @@
 ghost use Rattle.std.specs.Prelude.{◌≡◌, ◌++◌, IfOk, IfErr, OnOk};
 ghost use Rattle.world_file_base.specs.Reading.{items_in, seen};
 ghost use Rattle.world_file_base.specs.SavedContacts.{
-  contact_asks,
   contact_in,
   contact_data,
-  contacts_asks,
   contacts_in,
   contacts_data,
   no_points,
-  point_asks,
   point_in,
   point_data,
-  points_asks,
   points_of,
-  push_asks,
-  shape_id_asks,
   shape_id_in,
   shape_id_of,
-  size_asks,
   size_in,
   with_point,
   with_points,
 };
+ghost use Rattle.world_file_base.specs.AskedContacts.{
+  contact_asks,
+  contacts_asks,
+  point_asks,
+  points_asks,
+  push_asks,
+  shape_id_asks,
+  size_asks,
+};
 ghost use Rattle.contacts_base.specs.Limits.{IsPackable};
 ghost use Rattle.contacts_base.specs.declared.limits.TheConstants.{MAX_SEPARATION};
 ghost use Rattle.world_file_base.specs.Asks.{Ask};
-ghost use Rattle.world_file_base.specs.Reading.{list_asks, number_in};
+ghost use Rattle.world_file_base.specs.Reading.{number_in};
+ghost use Rattle.world_file_base.specs.AskedValues.{list_asks};
 ghost use Rattle.world_file_base.specs.declared.clause.Broken.TheVariants.{NoMemory};
 ghost use Rattle.serde_json.specs.View.{items_view, view};
 
@@ -46,7 +49,7 @@ use serde_json::Value;
 use std::alloc::Global;
 
 /// The greatest number of a candidate.
-const LAST_CANDIDATE: u64 = 3;
+pub const LAST_CANDIDATE: u64 = 3;
 
 /// Reads a number of a size up to `most`.
 fn read_size(reader: &mut Reader, value: Option<&Value>, most: u64) -> i64
@@ -82,7 +85,7 @@ fn read_push(reader: &mut Reader, value: Option<&Value>) -> i64
 }
 
 /// Reads a point of a contact.
-#[tactic(auto, unfolding(crate::specs::SavedContacts::point_in, crate::specs::SavedContacts::point_asks))]
+#[tactic(auto, unfolding(crate::specs::SavedContacts::point_in, crate::specs::AskedContacts::point_asks))]
 fn read_point(reader: &mut Reader, value: &Value) -> ContactPoint
     ensures value { result ≡ point_in (view value.now) }
     ensures asked { reader.new ≡ point_asks (view value.now) reader.old }
@@ -145,7 +148,7 @@ fn read_shape_id(reader: &mut Reader, value: Option<&Value>) -> ShapeId
 }
 
 /// Reads a contact.
-#[tactic(auto, unfolding(crate::specs::SavedContacts::contact_in, crate::specs::SavedContacts::contact_asks))]
+#[tactic(auto, unfolding(crate::specs::SavedContacts::contact_in, crate::specs::AskedContacts::contact_asks))]
 fn read_contact(reader: &mut Reader, value: &Value, version: Version) -> SavedContact
     ensures value { result ≡ contact_in version (view value.now) }
     ensures asked { reader.new ≡ contact_asks version (view value.now) reader.old }

@@ -4,23 +4,25 @@ ghost use Rattle.std.specs.Prelude.{◌≡◌, IfOk, OnOk, codes};
 ghost use Rattle.serde_json.specs.Find.{get};
 ghost use Rattle.world_file_base.specs.Reading.{first_in, seen, second_item, vector_in};
 ghost use Rattle.world_file_base.specs.SavedShapes.{
-  capsule_asks,
   capsule_in,
-  circle_asks,
   circle_in,
-  core_asks,
-  form_asks,
   form_in,
-  long_asks,
   long_form,
-  round_asks,
   round_form,
-  segment_asks,
   segment_in,
-  shape_asks,
   shape_in,
   shape_of,
   with_form,
+};
+ghost use Rattle.world_file_base.specs.AskedShapes.{
+  capsule_asks,
+  circle_asks,
+  core_asks,
+  form_asks,
+  long_asks,
+  round_asks,
+  segment_asks,
+  shape_asks,
 };
 ghost use Rattle.world_file_base.specs.Written.{written};
 ghost use Rattle.serde_json.specs.View.{view};
@@ -34,7 +36,7 @@ use shapes::{Filter, Shape, ShapeDef};
 use std::alloc::Global;
 
 /// The greatest size of a coordinate of a fat box, in u.
-const MAX_CORNER: u64 = fixed_geom::MAX_CORNER as u64;
+pub const MAX_CORNER: u64 = fixed_geom::MAX_CORNER as u64;
 
 /// The two ends of a core.
 #[derive(Clone, Copy)]
@@ -118,7 +120,7 @@ fn read_long(reader: &mut Reader, value: &Value, capsule: Option<&Value>) -> Sha
 }
 
 /// The form of a shape: the core under "capsule", or else that under "circle", or else that under "segment".
-#[tactic(auto, unfolding(crate::specs::SavedShapes::form_in, crate::specs::SavedShapes::form_asks))]
+#[tactic(auto, unfolding(crate::specs::SavedShapes::form_in, crate::specs::AskedShapes::form_asks))]
 fn read_form(reader: &mut Reader, value: &Value) -> Shape
     ensures value { result ≡ form_in (view value.now) }
     ensures asked { reader.new ≡ form_asks (view value.now) reader.old }
@@ -135,7 +137,7 @@ pub struct SavedShape {
 }
 
 /// Reads a shape. Its numbers may have any size that their types have: whether a body may have it is asked of all of its shapes together.
-#[tactic(auto, unfolding(crate::specs::SavedShapes::shape_in, crate::specs::SavedShapes::shape_asks))]
+#[tactic(auto, unfolding(crate::specs::SavedShapes::shape_in, crate::specs::AskedShapes::shape_asks))]
 pub(crate) fn read_shape(reader: &mut Reader, value: &Value) -> SavedShape
     ensures value { result ≡ shape_in (view value.now) }
     ensures asked { reader.new ≡ shape_asks (view value.now) reader.old }

@@ -6,38 +6,42 @@ ghost use Rattle.world_file_base.specs.Reading.{items_in, seen};
 ghost use Rattle.world_file_base.specs.Written.{written};
 ghost use Rattle.world_file_base.specs.declared.clause.Broken.TheVariants.{NoMemory};
 ghost use Rattle.world_file_base.specs.SavedSlots.{
-  bodies_asks,
   bodies_in,
   bodies_data,
   body_key,
-  body_slot_asks,
   body_slot_of,
-  generation_asks,
   generation_in,
   generation_of_number,
   is_in_time,
-  item_asks,
   joint_key,
-  joint_slot_asks,
   joint_slot_of,
-  joints_asks,
   joints_in,
   joints_data,
   membership_or_none,
   memberships_in,
-  place_asks,
-  place_in,
-  places_in,
+  slot_entry_in,
+  slot_entries_in,
   put_item,
   slot_body,
   slot_joint,
   slot_keys,
   slot_membership,
-  slots_asks,
   slot_of,
 };
-ghost use Rattle.world_file_base.specs.SavedBodies.{body_asks, body_in, body_data};
-ghost use Rattle.world_file_base.specs.SavedJoints.{joint_asks, joint_in, joint_data};
+ghost use Rattle.world_file_base.specs.AskedSlots.{
+  bodies_asks,
+  body_slot_asks,
+  generation_asks,
+  item_asks,
+  joint_slot_asks,
+  joints_asks,
+  slot_entry_asks,
+  slots_asks,
+  joint_asks,
+};
+ghost use Rattle.world_file_base.specs.SavedBodies.{body_in, body_data};
+ghost use Rattle.world_file_base.specs.AskedBodies.{body_asks};
+ghost use Rattle.world_file_base.specs.SavedJoints.{joint_in, joint_data};
 ghost use Rattle.serde_json.specs.View.{items_view, view};
 
 use crate::bodies::{body_value, read_body};
@@ -48,7 +52,7 @@ use crate::members::{Members, array_value};
 use crate::reader::{Reader, field, has_keys};
 use crate::saved::{NO_MEMBERSHIP, SavedBodies, SavedJoint, SavedJoints};
 use crate::version::Version;
-use body_handles::{Place, WORN_OUT};
+use body_handles::{SlotEntry, WORN_OUT};
 use fixed_geom::Refusal;
 use islands::Label;
 use plain_world::{Body, BodyJoint};
@@ -85,22 +89,22 @@ fn slot_keys(live: bool) -> usize
 }
 
 /// Whether nothing is in a slot at its last generation.
-pub fn is_in_time(place: Place) -> bool
+pub fn is_in_time(place: SlotEntry) -> bool
     ensures { result ≡ is_in_time place }
 {
     !place.live || place.generation < WORN_OUT
 }
 
 /// Reads a slot, in which something is under this key if it isn't free.
-#[tactic(auto, unfolding(crate::specs::SavedSlots::place_in, crate::specs::SavedSlots::place_asks))]
-fn read_place(reader: &mut Reader, value: &Value, key: &str) -> Place
-    ensures value { result ≡ place_in key.now (view value.now) }
-    ensures asked { reader.new ≡ place_asks key.now (view value.now) reader.old }
+#[tactic(auto, unfolding(crate::specs::SavedSlots::slot_entry_in, crate::specs::AskedSlots::slot_entry_asks))]
+fn read_slot_entry(reader: &mut Reader, value: &Value, key: &str) -> SlotEntry
+    ensures value { result ≡ slot_entry_in key.now (view value.now) }
+    ensures asked { reader.new ≡ slot_entry_asks key.now (view value.now) reader.old }
 {
     let generation = read_generation(reader, field(value, "generation"));
     let live = field(value, key).is_some();
     reader.ask(has_keys(value, slot_keys(live)), Clause::Form);
-    let place = Place { generation, live };
+    let place = SlotEntry { generation, live };
     reader.ask(is_in_time(place), Clause::Generations);
     place
 }
@@ -113,7 +117,7 @@ fn read_slot_body(
     most_ticks: u64,
     bodies: &mut SavedBodies,
 ) -> Result<(), Broken>
-    ensures places { OnOk result (bodies.new.places.items ≡ bodies.old.places.items) }
+    ensures slot_entries { OnOk result (bodies.new.slot_entries.items ≡ bodies.old.slot_entries.items) }
     ensures bodies { OnOk result (bodies.new.bodies.items ≡ bodies.old.bodies.items ++ option_map (body_in most_ticks) (seen value.entry) ∷ []) }
     ensures memberships { OnOk result (bodies.new.memberships.items ≡ bodies.old.memberships.items ++ membership_or_none (seen value.entry) ∷ []) }
     ensures asked { OnOk result (reader.new ≡ item_asks (body_asks most_ticks) (seen value.entry) reader.old) }
@@ -141,14 +145,14 @@ fn read_body_slot(
     most_ticks: u64,
     bodies: &mut SavedBodies,
 ) -> Result<(), Broken>
-    ensures places { OnOk result (bodies.new.places.items ≡ bodies.old.places.items ++ place_in body_key (view value.now) ∷ []) }
+    ensures slot_entries { OnOk result (bodies.new.slot_entries.items ≡ bodies.old.slot_entries.items ++ slot_entry_in body_key (view value.now) ∷ []) }
     ensures bodies { OnOk result (bodies.new.bodies.items ≡ bodies.old.bodies.items ++ slot_body most_ticks (view value.now) ∷ []) }
     ensures memberships { OnOk result (bodies.new.memberships.items ≡ bodies.old.memberships.items ++ slot_membership (view value.now) ∷ []) }
     ensures asked { OnOk result (reader.new ≡ body_slot_asks most_ticks (view value.now) reader.old) }
     ensures memory { IfErr result (λ e. e ≡ NoMemory) }
 {
-    let place = read_place(reader, value, "body");
-    bodies.places.push(place)?;
+    let place = read_slot_entry(reader, value, "body");
+    bodies.slot_entries.push(place)?;
     read_slot_body(alloc, reader, field(value, "body"), most_ticks, bodies)
 }
 
@@ -169,14 +173,14 @@ fn read_each_body(
     slots: &[Value],
     most_ticks: u64,
 ) -> Result<SavedBodies, Broken>
-    ensures places { IfOk result (λ saved. saved.places.items ≡ places_in body_key (items_view slots.now)) }
+    ensures slot_entries { IfOk result (λ saved. saved.slot_entries.items ≡ slot_entries_in body_key (items_view slots.now)) }
     ensures bodies { IfOk result (λ saved. saved.bodies.items ≡ bodies_in most_ticks (items_view slots.now)) }
     ensures memberships { IfOk result (λ saved. saved.memberships.items ≡ memberships_in (items_view slots.now)) }
     ensures asked { OnOk result (reader.new ≡ bodies_asks most_ticks (items_view slots.now) reader.old) }
     ensures memory { IfErr result (λ e. e ≡ NoMemory) }
 {
     let mut bodies = SavedBodies {
-        places: Vec::new(alloc),
+        slot_entries: Vec::new(alloc),
         bodies: Vec::new(alloc),
         memberships: Vec::new(alloc),
     };
@@ -194,7 +198,7 @@ pub fn read_bodies(
     version: Version,
     most_ticks: u64,
 ) -> Result<SavedBodies, Broken>
-    ensures places { IfOk result (λ saved. saved.places.items ≡ places_in body_key (items_in (seen value.entry))) }
+    ensures slot_entries { IfOk result (λ saved. saved.slot_entries.items ≡ slot_entries_in body_key (items_in (seen value.entry))) }
     ensures bodies { IfOk result (λ saved. saved.bodies.items ≡ bodies_in most_ticks (items_in (seen value.entry))) }
     ensures memberships { IfOk result (λ saved. saved.memberships.items ≡ memberships_in (items_in (seen value.entry))) }
     ensures asked { OnOk result (reader.new ≡ bodies_asks most_ticks (items_in (seen value.entry)) (slots_asks version (seen value.entry) reader.old)) }
@@ -226,14 +230,14 @@ fn read_joint_slot(
     version: Version,
     joints: &mut SavedJoints,
 ) -> Result<(), Broken>
-    ensures places { OnOk result (joints.new.places.items ≡ joints.old.places.items ++ place_in joint_key (view value.now) ∷ []) }
+    ensures slot_entries { OnOk result (joints.new.slot_entries.items ≡ joints.old.slot_entries.items ++ slot_entry_in joint_key (view value.now) ∷ []) }
     ensures joints { OnOk result (joints.new.joints.items ≡ joints.old.joints.items ++ slot_joint version (view value.now) ∷ []) }
     ensures asked { OnOk result (reader.new ≡ joint_slot_asks version (view value.now) reader.old) }
     ensures memory { IfErr result (λ e. e ≡ NoMemory) }
 {
-    let place = read_place(reader, value, "joint");
+    let place = read_slot_entry(reader, value, "joint");
     let joint = read_slot_joint(reader, field(value, "joint"), version);
-    joints.places.push(place)?;
+    joints.slot_entries.push(place)?;
     joints.joints.push(joint)?;
     Ok(())
 }
@@ -245,13 +249,13 @@ fn read_each_joint(
     slots: &[Value],
     version: Version,
 ) -> Result<SavedJoints, Broken>
-    ensures places { IfOk result (λ saved. saved.places.items ≡ places_in joint_key (items_view slots.now)) }
+    ensures slot_entries { IfOk result (λ saved. saved.slot_entries.items ≡ slot_entries_in joint_key (items_view slots.now)) }
     ensures joints { IfOk result (λ saved. saved.joints.items ≡ joints_in version (items_view slots.now)) }
     ensures asked { OnOk result (reader.new ≡ joints_asks version (items_view slots.now) reader.old) }
     ensures memory { IfErr result (λ e. e ≡ NoMemory) }
 {
     let mut joints = SavedJoints {
-        places: Vec::new(alloc),
+        slot_entries: Vec::new(alloc),
         joints: Vec::new(alloc),
     };
     for slot in slots {
@@ -267,7 +271,7 @@ pub fn read_joints(
     value: Option<&Value>,
     version: Version,
 ) -> Result<SavedJoints, Broken>
-    ensures places { IfOk result (λ saved. saved.places.items ≡ places_in joint_key (items_in (seen value.entry))) }
+    ensures slot_entries { IfOk result (λ saved. saved.slot_entries.items ≡ slot_entries_in joint_key (items_in (seen value.entry))) }
     ensures joints { IfOk result (λ saved. saved.joints.items ≡ joints_in version (items_in (seen value.entry))) }
     ensures asked { OnOk result (reader.new ≡ joints_asks version (items_in (seen value.entry)) (slots_asks version (seen value.entry) reader.old)) }
     ensures memory { IfErr result (λ e. e ≡ NoMemory) }
@@ -293,7 +297,7 @@ fn put_body(
 
 fn body_slot_value(
     alloc: Global,
-    place: Place,
+    place: SlotEntry,
     entry: &Option<Body>,
     label: Option<Label>,
 ) -> Result<Value, Refusal>
@@ -319,16 +323,16 @@ fn label_at(labels: &[Option<Label>], slot: usize) -> Option<Label>
 /// The bodies as they are written.
 pub fn bodies_value(
     alloc: Global,
-    places: &[Place],
+    slot_entries: &[SlotEntry],
     bodies: &[Option<Body>],
     labels: &[Option<Label>],
 ) -> Result<Value, Refusal>
-    ensures { IfOk result (λ value. view value ≡ bodies_data places.now bodies.now labels.now) }
+    ensures { IfOk result (λ value. view value ≡ bodies_data slot_entries.now bodies.now labels.now) }
 {
     let mut items = Vec::new(alloc);
-    for slot in 0..lesser(places.len(), bodies.len()) {
+    for slot in 0..lesser(slot_entries.len(), bodies.len()) {
         let label = label_at(labels, slot);
-        items.push(body_slot_value(alloc, places[slot], &bodies[slot], label)?)?;
+        items.push(body_slot_value(alloc, slot_entries[slot], &bodies[slot], label)?)?;
     }
     Ok(array_value(items))
 }
@@ -336,29 +340,29 @@ pub fn bodies_value(
 fn put_joint(
     members: &mut Members,
     alloc: Global,
-    places: &[Place],
+    slot_entries: &[SlotEntry],
     entry: &Option<BodyJoint>,
     colour: Option<u8>,
 ) -> Result<(), Refusal>
-    ensures { OnOk result (written members.new ≡ put_item joint_key (option_map (λ j. joint_data places.now j colour) entry.now) (written members.old)) }
+    ensures { OnOk result (written members.new ≡ put_item joint_key (option_map (λ j. joint_data slot_entries.now j colour) entry.now) (written members.old)) }
 {
     match entry {
-        Some(joint) => members.put("joint", joint_value(alloc, places, joint, colour)?),
+        Some(joint) => members.put("joint", joint_value(alloc, slot_entries, joint, colour)?),
         None => Ok(()),
     }
 }
 
 fn joint_slot_value(
     alloc: Global,
-    places: &[Place],
-    place: Place,
+    slot_entries: &[SlotEntry],
+    place: SlotEntry,
     entry: &Option<BodyJoint>,
     colour: Option<u8>,
 ) -> Result<Value, Refusal>
-    ensures { IfOk result (λ value. view value ≡ joint_slot_of places.now place entry.now colour) }
+    ensures { IfOk result (λ value. view value ≡ joint_slot_of slot_entries.now place entry.now colour) }
 {
     let mut members = Members::new(alloc);
-    put_joint(&mut members, alloc, places, entry, colour)?;
+    put_joint(&mut members, alloc, slot_entries, entry, colour)?;
     members.put("generation", Value::from(place.generation))?;
     Ok(members.object())
 }
@@ -366,19 +370,19 @@ fn joint_slot_value(
 /// The joints as they are written, between bodies of these places, each with its colour.
 pub fn joints_value(
     alloc: Global,
-    places: &[Place],
-    joint_places: &[Place],
+    slot_entries: &[SlotEntry],
+    joint_entries: &[SlotEntry],
     joints: &[Option<BodyJoint>],
     colours: &[Option<u8>],
 ) -> Result<Value, Refusal>
-    ensures { IfOk result (λ value. view value ≡ joints_data places.now joint_places.now joints.now colours.now) }
+    ensures { IfOk result (λ value. view value ≡ joints_data slot_entries.now joint_entries.now joints.now colours.now) }
 {
     let mut items = Vec::new(alloc);
-    for slot in 0..lesser(lesser(joint_places.len(), joints.len()), colours.len()) {
+    for slot in 0..lesser(lesser(joint_entries.len(), joints.len()), colours.len()) {
         let item = joint_slot_value(
             alloc,
-            places,
-            joint_places[slot],
+            slot_entries,
+            joint_entries[slot],
             &joints[slot],
             colours[slot],
         )?;

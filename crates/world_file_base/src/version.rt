@@ -4,12 +4,12 @@ ghost use Rattle.std.specs.Prelude.{◌≡◌};
 ghost use Rattle.world_file_base.specs.Reading.{seen};
 ghost use Rattle.world_file_base.specs.Written.{natural_or_null};
 ghost use Rattle.world_file_base.specs.Versions.{
-  colour_asks,
   colour_in,
   colour_of_number,
   most_slots,
   overflow_of,
 };
+ghost use Rattle.world_file_base.specs.AskedValues.{colour_asks};
 ghost use Rattle.serde_json.specs.View.{view};
 
 use crate::clause::Clause;

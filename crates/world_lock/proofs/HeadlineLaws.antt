@@ -19,10 +19,10 @@ use Rattle.plain_world.specs.Bodies.{IsAtRest}
 use Rattle.plain_world.specs.Slots.{body_at}
 use Rattle.solver_sets.proofs.ListLaws.{in_map}
 use Rattle.solver_sets.specs.Census.{IsCensus, census_of, standings_of}
-use Rattle.solver_sets.specs.Laws.{ListsAreCensus, TiesAreNamed}
+use Rattle.solver_sets.specs.Laws.{ListsAreCensus, TiesAreWithin}
 use Rattle.solver_sets.specs.Tied.{AreTied}
 use Rattle.solver_sets.specs.Alike.{AreJointSlots}
-use Rattle.solver_sets.specs.Ties.{IsNamed, JointSlots, is_mover_in, member_of, members_of, movers_of, tie_with}
+use Rattle.solver_sets.specs.Ties.{IsKeyWithin, JointSlots, is_mover_in, member_of, members_of, movers_of, tie_with}
 use Rattle.world_rules.specs.Laws as rules
 use Rattle.world_rules.specs.Laws.{ColoursAreApart, LinkedMoversStandTogether, SleepingSetsAreComponents, SleepsIn, WhatActsHasAColour}
 use Rattle.world_rules.specs.Sets.{acting_of}
@@ -32,9 +32,9 @@ use Rattle.world_lock.specs.Headline.{EachHasOneColour, EachSleepingSetIsOneComp
 
 -- ---- solver sets
 
-census_is : ListsAreCensus → (w : World) → IsCensus (standings_of w.plain.places w.plain.bodies (joints_in_slots w.plain) w.plain.contacts) (census_of_world w)
+census_is : ListsAreCensus → (w : World) → IsCensus (standings_of w.plain.slot_entries w.plain.bodies (joints_in_slots w.plain) w.plain.contacts) (census_of_world w)
 unfolding census_of
-census_is law w = law (standings_of w.plain.places w.plain.bodies (joints_in_slots w.plain) w.plain.contacts)
+census_is law w = law (standings_of w.plain.slot_entries w.plain.bodies (joints_in_slots w.plain) w.plain.contacts)
 
 pub in_one_set : ListsAreCensus → rules.EachStandsInOneSet → (w : World) → IsSound w → EachStandsInOneSet w
 in_one_set are law w s = record { once = law w s; census = census_is are w }
@@ -67,15 +67,15 @@ has_movers bodies s colours m h =
     let p = made_of o.0 (movers_of bodies s o.0) m o.1 in
     ap (movers_of bodies s) p.0 ∙ p.1
 
-pub has_one_colour : TiesAreNamed → (w : World) → IsSound w → EachHasOneColour w
+pub has_one_colour : TiesAreWithin → (w : World) → IsSound w → EachHasOneColour w
 unfolding acting_of
 has_one_colour law w s =
-    let settled = s.promises.settled in
-    let slots : AreJointSlots (joints_in_slots w.plain) = record { matched = s.formed.joint_slots; places = s.formed.joint_places } in
-    let named : All (λ (e : ContactEntry). IsNamed e.key) w.plain.contacts = All-weaker (HasBodies w.plain.bodies) (λ (e : ContactEntry). IsNamed e.key) (λ e h. h.named) w.plain.contacts s.formed.there in
+    let consistent = s.promises.consistent in
+    let slots : AreJointSlots (joints_in_slots w.plain) = record { matched = s.formed.joint_slots; slot_entries = s.formed.joint_entries } in
+    let named : All (λ (e : ContactEntry). IsKeyWithin e.key) w.plain.contacts = All-weaker (HasBodies w.plain.bodies) (λ (e : ContactEntry). IsKeyWithin e.key) (λ e h. h.named) w.plain.contacts s.formed.there in
     record {
-      colouring = settled.colouring;
-      named = λ m h. law w.plain.bodies (joints_in_slots w.plain) w.plain.contacts m slots named ((settled.acting m).0 h).0;
+      colouring = consistent.colouring;
+      named = λ m h. law w.plain.bodies (joints_in_slots w.plain) w.plain.contacts m slots named ((consistent.acting m).0 h).0;
       movers = λ m h. has_movers w.plain.bodies (joints_in_slots w.plain) w.plain.colours m h;
     }
 
@@ -83,7 +83,7 @@ has_one_colour law w s =
 
 pub share_island : (w : World) → IsSound w → LinkedShareAnIsland w
 unfolding acting_of
-share_island w s a b linked = s.promises.settled.islands.together a b linked
+share_island w s a b linked = s.promises.consistent.islands.together a b linked
 
 pub stand_together : LinkedMoversStandTogether → (w : World) → IsSound w → LinkedStandTogether w
 stand_together law w s a b x y linked at_x at_y = law w a b x y s linked at_x at_y
@@ -132,7 +132,7 @@ one_island w s name slot sleeps =
     let bodies = w.plain.bodies in
     let labels = w.plain.islands in
     let told = s.promises.told in
-    let partition = s.promises.settled.islands.partition in
+    let partition = s.promises.consistent.islands.partition in
     let own : SleepsUnder (label_at labels slot) name = label_of bodies labels name slot told sleeps in
     let named : label_at labels name ≡ Some own.label = ap (label_at labels) (sym own.named) ∙ partition.named slot own.label own.there in (
       own.label,

@@ -14,19 +14,19 @@ use Rattle.plain_world.specs.Bodies.{is_awake, standing_of}
 use Rattle.plain_world.specs.Slots.{body_at}
 use Rattle.solver_sets.specs.Census.{Census, IsCensus, census_of, standings_of}
 use Rattle.solver_sets.specs.EachOnce.{ListsEachOnce}
-use Rattle.solver_sets.specs.Ties.{IsNamedConstraint, movers_of}
+use Rattle.solver_sets.specs.Ties.{IsConstraintWithin, movers_of}
 use Rattle.world_rules.specs.Laws.{AreLinked, SleepsIn, coloured_in, movers_awake, ties_of_world}
 use Rattle.world_rules.specs.World.{World, joints_in_slots}
 
 -- the lists of its solver sets
 abbrev pub census_of_world : World → Census
-census_of_world w = census_of w.plain.places w.plain.bodies (joints_in_slots w.plain) w.plain.contacts
+census_of_world w = census_of w.plain.slot_entries w.plain.bodies (joints_in_slots w.plain) w.plain.contacts
 
 -- Each body, joint and contact stands in exactly one solver set: in the lists of all sets together none occurs twice, and each is in the list of the set in
 -- which it stands. In each list bodies come first, by slot, then joints by slot, then contacts by key.
 pub record EachStandsInOneSet (w : World) : Type 0 where
-  pub once : ListsEachOnce w.plain.places w.plain.bodies (joints_in_slots w.plain) w.plain.contacts (census_of_world w)
-  pub census : IsCensus (standings_of w.plain.places w.plain.bodies (joints_in_slots w.plain) w.plain.contacts) (census_of_world w)
+  pub once : ListsEachOnce w.plain.slot_entries w.plain.bodies (joints_in_slots w.plain) w.plain.contacts (census_of_world w)
+  pub census : IsCensus (standings_of w.plain.slot_entries w.plain.bodies (joints_in_slots w.plain) w.plain.contacts) (census_of_world w)
 
 -- No two constraints of a colour share a mover: those with a colour are those that the world lists.
 abbrev pub NoColourSharesAMover : World → Type 0
@@ -40,7 +40,7 @@ WhatActsIsColoured w = (m : Member Constraint) → Contains (all_members (colour
 -- them all. Their names are within their ranges, so that no two have one number; and each stands there with the movers that its bodies give it.
 pub record EachHasOneColour (w : World) : Type 0 where
   pub colouring : IsColouring constraint_number (coloured_in w)
-  pub named : (m : Member Constraint) → Contains (all_members (coloured_in w)) m → IsNamedConstraint m.id
+  pub named : (m : Member Constraint) → Contains (all_members (coloured_in w)) m → IsConstraintWithin m.id
   pub movers : (m : Member Constraint) → Contains (all_members (coloured_in w)) m → movers_of w.plain.bodies (joints_in_slots w.plain) m.id ≡ Some m.movers
 
 -- Movers that touch or are jointed share an island.

@@ -111,8 +111,8 @@ abbrev pub Shown : World → Known → View → Known → Type 0
 Shown first before frame after = (past : List Line) × IsPastOf first before past × (after ≡ known before.seat past) × (frame ≡ frame_of (replayed first past))
 
 -- the seat has then seen one past of it, of whose last step these are the events; where it has none, they are those at `open`
-abbrev pub Told : World → Known → EventLists → Known → Type 0
-Told first before events after = (past : List Line) × IsPastOf first before past × (after ≡ known before.seat past) × (events ≡ (replayed first past).events)
+abbrev pub EventsShown : World → Known → EventLists → Known → Type 0
+EventsShown first before events after = (past : List Line) × IsPastOf first before past × (after ≡ known before.seat past) × (events ≡ (replayed first past).events)
 
 -- ---- closing
 

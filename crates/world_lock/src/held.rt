@@ -11,7 +11,7 @@ ghost use Rattle.world_rules.specs.World.{book_of};
 ghost use Rattle.world_lock.specs.Headline.{EachHasOneColour, EachSleepingSetIsOneComponent, EachSleepingSetIsOneIsland, EachStandsInOneSet, LinkedShareAnIsland, LinkedStandTogether, NoColourSharesAMover, OnlyAwakeMoversHaveMomentum, WhatActsIsColoured};
 ghost use Rattle.world_lock.specs.Journals.{AreTotalsSince, IsLegal, booked_by, commands_of, replayed, line};
 ghost use Rattle.world_lock.specs.Tallies.{no_calls};
-ghost use Rattle.world_lock.specs.Histories.{Called, IsClosed, IsPastFor, Met, Refused, Shown, Told, next_number, with_line, with_settled};
+ghost use Rattle.world_lock.specs.Histories.{Called, IsClosed, IsPastFor, Met, Refused, Shown, EventsShown, next_number, with_line, with_settled};
 
 use crate::journalled::{JournalEntry, JournalledWorld};
 use crate::opened::Opened;
@@ -20,7 +20,7 @@ use crate::shared::Closed;
 use crate::tally::{Tally, calls_in, count_call};
 use fixed_geom::Refusal;
 use seat_book::{Book, Keeper};
-use solver_sets::laws::{lists_are_census, ties_are_named};
+use solver_sets::laws::{lists_are_census, ties_are_within};
 use std::alloc::Global;
 use std::marker::Model;
 use std::sync::Arc;
@@ -104,7 +104,7 @@ impl<N: Opened> Held<N> {
         each_stands_in_one_set();
         colours_are_apart();
         what_acts_has_a_colour();
-        ties_are_named();
+        ties_are_within();
         linked_movers_stand_together();
         sleeping_sets_are_components();
         self.journalled.journal()
@@ -227,7 +227,7 @@ impl<N: Opened> Held<N> {
         book: &Book<N, Command, Reply>,
         seat: &mut Seat<N>,
     ) -> Result<Events, Refusal>
-        ensures told { MatchResult result (λ events. Told N.opening seat.old events seat.new) (λ refusal. (refusal ≡ Refusal.NoMemory) × Met N.opening seat.old seat.new) }
+        ensures told { MatchResult result (λ events. EventsShown N.opening seat.old events seat.new) (λ refusal. (refusal ≡ Refusal.NoMemory) × Met N.opening seat.old seat.new) }
         ensures same { self.new ≡ self.old }
     {
         book.meet(&mut self.keeper, &mut seat.pass);

@@ -7,7 +7,7 @@ ghost use Rattle.seat_book.specs.Seats.{newcomers};
 ghost use Rattle.world_rules.specs.Sound.{IsSound};
 ghost use Rattle.world_lock.specs.Journals.{beginning_at};
 ghost use Rattle.world_lock.specs.Tallies.{no_calls};
-ghost use Rattle.world_lock.specs.Histories.{Called, HasAll, IsClosed, Met, Misses, Refused, Shown, Told, has_seat};
+ghost use Rattle.world_lock.specs.Histories.{Called, HasAll, IsClosed, Met, Misses, Refused, Shown, EventsShown, has_seat};
 
 use crate::held::Held;
 use crate::journalled::{JournalEntry, JournalledWorld};
@@ -217,7 +217,7 @@ impl<N: Opened> SharedWorld<N> {
     /// The events of the last step. The seat has then seen one past of it, and these are the events of the past's last step, or
     /// those at `open` where it has none. Refused 1 where memory is wanting.
     pub fn events<R: Wait>(&self, rt: &R, seat: &mut Seat<N>) -> Result<Events, Refusal>
-        ensures { MatchResult result (λ events. Told N.opening seat.old events seat.new) (λ refusal. (refusal ≡ Refusal.NoMemory) × Met N.opening seat.old seat.new) }
+        ensures { MatchResult result (λ events. EventsShown N.opening seat.old events seat.new) (λ refusal. (refusal ≡ Refusal.NoMemory) × Met N.opening seat.old seat.new) }
     {
         self.lock.lock(rt).events(&self.book, seat)
     }

@@ -19,7 +19,7 @@ use Rattle.contacts_base.specs.declared.key.ShapeId.{ShapeId}
 use Rattle.shape_rays.specs.Hits.{hit_at, hit_on, is_before, nearer, region}
 use Rattle.shape_rays.specs.Reach.{reaches}
 use Rattle.shape_rays.specs.declared.hits.Hit.{Hit}
-use Rattle.shape_rays.specs.declared.hits.PlacedShape.{PlacedShape}
+use Rattle.shape_rays.specs.declared.hits.PosedShape.{PosedShape}
 use Rattle.shape_rays.proofs.BoxLaws.{missed}
 use Rattle.shape_rays.proofs.HitLemmas.{associate, none_last}
 use Rattle.box_tree_base.specs.Rays.{nearer as nearer_key}
@@ -32,23 +32,23 @@ use Rattle.plain_world.specs.Slots.{body_at, item_in}
 use Rattle.plain_world.specs.declared.body.Body.{Body}
 use Rattle.world_core_base.specs.Covers.{IsCover, IsCovered, AreCovered}
 use Rattle.world_queries.specs.ByBoxes.{fraction_of, fraction_at, hit_through, region_at}
-use Rattle.world_queries.specs.Placed.{shapes_from, shapes_at, placed_from, placed_shapes}
-use Rattle.world_queries.proofs.PlacedLaws.{region_of_parts}
+use Rattle.world_queries.specs.Posed.{shapes_from, shapes_at, posed_from, posed_shapes}
+use Rattle.world_queries.proofs.PosedLaws.{region_of_parts}
 use Rattle.world_queries.proofs.ThroughLaws.{first_through, through_first, through_parts}
 
 -- ---- shapes in a box
 
-pub record IsShapeIn (box : Box2) (p : PlacedShape) : Type 0 where
+pub record IsShapeIn (box : Box2) (p : PosedShape) : Type 0 where
   pub shape : IsShape p.shape
   pub inside : Contains box (tight_box p.shape p.pose)
 
 -- each shape lies in the box; where there is no box, there is no shape
-abbrev pub AreIn : Option Box2 → List PlacedShape → Type 0
+abbrev pub AreIn : Option Box2 → List PosedShape → Type 0
 AreIn o [] = Unit {0}
 AreIn None (p ∷ ps) = ⊥
 AreIn (Some box) (p ∷ ps) = IsShapeIn box p × AreIn (Some box) ps
 
-no_shapes : (ps : List PlacedShape) → AreIn None ps → ps ≡ []
+no_shapes : (ps : List PosedShape) → AreIn None ps → ps ≡ []
 no_shapes [] h = refl
 no_shapes (p ∷ ps) h = absurd h
 
@@ -56,7 +56,7 @@ none_if : (t : Bool) (o : Option Hit) → o ≡ None → cond t o None ≡ None
 none_if true o e = e
 none_if false o e = refl
 
-missed_all : (r : Beam) (test : ShapeId → Bool) (box : Box2) (ps : List PlacedShape) → IsBeam r → AreIn (Some box) ps → reaches r box ≡ false → first_through r test ps ≡ None
+missed_all : (r : Beam) (test : ShapeId → Bool) (box : Box2) (ps : List PosedShape) → IsBeam r → AreIn (Some box) ps → reaches r box ≡ false → first_through r test ps ≡ None
 missed_all r test box [] b h e = refl
 missed_all r test box (p ∷ ps) b h e =
     let none : ray_of p.shape p.pose r.from r.along ≡ None = missed p.shape p.pose r box h.0.shape b h.0.inside e in
@@ -65,7 +65,7 @@ missed_all r test box (p ∷ ps) b h e =
     ∙ ap (λ (o : Option Hit). nearer o (first_through r test ps)) (none_if (test p.id) (hit_on r p) here)
     ∙ missed_all r test box ps b h.1 e
 
-none_over : (q box : Box2) (ps : List PlacedShape) → AreIn (Some box) ps → overlaps box q ≡ false → region q ps ≡ []
+none_over : (q box : Box2) (ps : List PosedShape) → AreIn (Some box) ps → overlaps box q ≡ false → region q ps ≡ []
 none_over q box [] h e = refl
 none_over q box (p ∷ ps) h e =
     let apart : overlaps (tight_box p.shape p.pose) q ≡ false = overlaps_within box (tight_box p.shape p.pose) q h.0.inside e in
@@ -83,7 +83,7 @@ in_fats slot index o box (d ∷ defs) (fat ∷ fats) a each e c =
     let here : IsShapeIn box (record { id = record { slot = slot; index = index }; shape = d.shape; pose = o }) = record { shape = form.shape; inside = contains_both box fat (tight_box d.shape o) round each.0.contains } in
     (here, in_fats slot (suc index) o box defs fats (All-tail IsShapeDef d defs a) each.1 (omega (arith, e)) (All-tail (Contains box) fat fats c))
 
-in_enabled : (t : Bool) (box : Box2) (ps : List PlacedShape) → AreIn (Some box) ps → AreIn (Some box) (cond t ps [])
+in_enabled : (t : Bool) (box : Box2) (ps : List PosedShape) → AreIn (Some box) ps → AreIn (Some box) (cond t ps [])
 in_enabled true box ps h = h
 in_enabled false box ps h = tt
 
@@ -128,11 +128,11 @@ side_next slot o bodies x boxes h = λ k. subst (λ (n : ℕ). AreIn (box_at box
 side_bare : (slot : ℕ) (o : Option Body) (bodies : List (Option Body)) → AreSide slot (o ∷ bodies) [] → AreSide (suc slot) bodies []
 side_bare slot o bodies h = λ k. subst (λ (n : ℕ). AreIn None (shapes_at n (body_at bodies k))) (next slot k) (h (suc k))
 
-none_placed : (slot : ℕ) (bodies : List (Option Body)) → AreSide slot bodies [] → placed_from slot bodies ≡ []
-none_placed slot [] h = refl
-none_placed slot (o ∷ bodies) h =
-    ap (λ (ps : List PlacedShape). ps ++ placed_from (suc slot) bodies) (no_shapes (shapes_at slot o) (side_here slot o bodies [] h))
-    ∙ none_placed (suc slot) bodies (side_bare slot o bodies h)
+none_posed : (slot : ℕ) (bodies : List (Option Body)) → AreSide slot bodies [] → posed_from slot bodies ≡ []
+none_posed slot [] h = refl
+none_posed slot (o ∷ bodies) h =
+    ap (λ (ps : List PosedShape). ps ++ posed_from (suc slot) bodies) (no_shapes (shapes_at slot o) (side_here slot o bodies [] h))
+    ∙ none_posed (suc slot) bodies (side_bare slot o bodies h)
 
 -- ---- the shapes over a region
 
@@ -152,9 +152,9 @@ from_here slot o bodies all h = subst (λ (n : ℕ). body_at all n ≡ o) (first
 none_here : (slot : ℕ) (all : List (Option Body)) → AreBodiesFrom slot [] all → body_at all slot ≡ None
 none_here slot all h = subst (λ (n : ℕ). body_at all n ≡ None) (first_of slot) (h 0)
 
-asked_if : (q : Box2) (all : List (Option Body)) (slot : ℕ) (t : Bool) (slots : List ℕ) (here : List PlacedShape) (rest : List ShapeId) →
+asked_if : (q : Box2) (all : List (Option Body)) (slot : ℕ) (t : Bool) (slots : List ℕ) (here : List PosedShape) (rest : List ShapeId) →
     shapes_at slot (body_at all slot) ≡ here → (t ≡ false → region q here ≡ []) → region_at q all slots ≡ rest → region_at q all (cond t (slot ∷ slots) slots) ≡ region q here ++ rest
-asked_if q all slot true slots here rest e f h = ap (λ (ps : List PlacedShape). region q ps ++ region_at q all slots) e ∙ ap (λ (ids : List ShapeId). region q here ++ ids) h
+asked_if q all slot true slots here rest e f h = ap (λ (ps : List PosedShape). region q ps ++ region_at q all slots) e ∙ ap (λ (ids : List ShapeId). region q here ++ ids) h
 asked_if q all slot false slots here rest e f h = h ∙ ap (λ (ids : List ShapeId). ids ++ rest) (sym (f refl))
 
 none_asked : (q : Box2) (all : List (Option Body)) (slot : ℕ) (boxes : List (Option Box2)) → AreBodiesFrom slot [] all → region_at q all (keys_over q slot boxes) ≡ []
@@ -163,19 +163,19 @@ none_asked q all slot (None ∷ boxes) h = none_asked q all (suc slot) boxes (fr
 none_asked q all slot (Some box ∷ boxes) h =
     asked_if q all slot (overlaps box q) (keys_over q (suc slot) boxes) [] [] (ap (shapes_at slot) (none_here slot all h)) (λ e. refl) (none_asked q all (suc slot) boxes (from_none slot all h))
 
-asked_from : (q : Box2) (all : List (Option Body)) (slot : ℕ) (bodies : List (Option Body)) (boxes : List (Option Box2)) → AreBodiesFrom slot bodies all → AreSide slot bodies boxes → region_at q all (keys_over q slot boxes) ≡ region q (placed_from slot bodies)
+asked_from : (q : Box2) (all : List (Option Body)) (slot : ℕ) (bodies : List (Option Body)) (boxes : List (Option Box2)) → AreBodiesFrom slot bodies all → AreSide slot bodies boxes → region_at q all (keys_over q slot boxes) ≡ region q (posed_from slot bodies)
 asked_from q all slot [] boxes h s = none_asked q all slot boxes h
-asked_from q all slot (o ∷ bodies) [] h s = sym (ap (region q) (none_placed slot (o ∷ bodies) s))
+asked_from q all slot (o ∷ bodies) [] h s = sym (ap (region q) (none_posed slot (o ∷ bodies) s))
 asked_from q all slot (o ∷ bodies) (None ∷ boxes) h s =
     let bare : shapes_at slot o ≡ [] = no_shapes (shapes_at slot o) (side_here slot o bodies (None ∷ boxes) s) in
     asked_from q all (suc slot) bodies boxes (from_next slot o bodies all h) (side_next slot o bodies None boxes s)
-    ∙ ap (λ (ps : List PlacedShape). region q (ps ++ placed_from (suc slot) bodies)) (sym bare)
+    ∙ ap (λ (ps : List PosedShape). region q (ps ++ posed_from (suc slot) bodies)) (sym bare)
 asked_from q all slot (o ∷ bodies) (Some box ∷ boxes) h s =
-    asked_if q all slot (overlaps box q) (keys_over q (suc slot) boxes) (shapes_at slot o) (region q (placed_from (suc slot) bodies))
+    asked_if q all slot (overlaps box q) (keys_over q (suc slot) boxes) (shapes_at slot o) (region q (posed_from (suc slot) bodies))
     (ap (shapes_at slot) (from_here slot o bodies all h))
     (none_over q box (shapes_at slot o) (side_here slot o bodies (Some box ∷ boxes) s))
     (asked_from q all (suc slot) bodies boxes (from_next slot o bodies all h) (side_next slot o bodies (Some box) boxes s))
-    ∙ sym (region_of_parts q (shapes_at slot o) (placed_from (suc slot) bodies))
+    ∙ sym (region_of_parts q (shapes_at slot o) (posed_from (suc slot) bodies))
 
 bodies_themselves : (all : List (Option Body)) → AreBodiesFrom 0 all all
 bodies_themselves all = λ k. let e : 0 + k ≡ k = omega arith in ap (body_at all) e
@@ -184,7 +184,7 @@ side_all : (bodies : List (Option Body)) (boxes : List (Option Box2)) → AreBod
 side_all bodies boxes h c = λ k. let e : k ≡ 0 + k = omega arith in subst (λ (n : ℕ). AreIn (box_at boxes k) (shapes_at n (body_at bodies k))) e (in_box bodies boxes k h c)
 
 -- the shapes over a region are those of the bodies whose boxes overlap it
-pub region_by_boxes : (q : Box2) (bodies : List (Option Body)) (boxes : List (Option Box2)) → AreBodies bodies → AreCovered bodies boxes → region_at q bodies (keys_over q 0 boxes) ≡ region q (placed_shapes bodies)
+pub region_by_boxes : (q : Box2) (bodies : List (Option Body)) (boxes : List (Option Box2)) → AreBodies bodies → AreCovered bodies boxes → region_at q bodies (keys_over q 0 boxes) ≡ region q (posed_shapes bodies)
 region_by_boxes q bodies boxes h c = asked_from q bodies 0 bodies boxes (bodies_themselves bodies) (side_all bodies boxes h c)
 
 -- ---- the first hit
@@ -216,19 +216,19 @@ of_hit : (slot : ℕ) (o : Option ℕ) (id : ShapeId) → id.slot ≡ slot → I
 of_hit slot None id e = tt
 of_hit slot (Some f) id e = e
 
-of_shape : (r : Beam) (t : Bool) (slot : ℕ) (p : PlacedShape) → p.id.slot ≡ slot → IsOf slot (cond t (hit_on r p) None)
+of_shape : (r : Beam) (t : Bool) (slot : ℕ) (p : PosedShape) → p.id.slot ≡ slot → IsOf slot (cond t (hit_on r p) None)
 of_shape r true slot p e = of_hit slot (ray_of p.shape p.pose r.from r.along) p.id e
 of_shape r false slot p e = tt
 
 of_shapes : (r : Beam) (test : ShapeId → Bool) (slot index : ℕ) (o : Pose) (defs : List ShapeDef) → IsOf slot (first_through r test (shapes_from slot o index defs))
 of_shapes r test slot index o [] = tt
 of_shapes r test slot index o (d ∷ defs) =
-    let p : PlacedShape = record { id = record { slot = slot; index = index }; shape = d.shape; pose = o } in
+    let p : PosedShape = record { id = record { slot = slot; index = index }; shape = d.shape; pose = o } in
     let later = shapes_from slot o (suc index) defs in
     subst (IsOf slot) (sym (through_first r test p later))
     (kept_nearer (IsOf slot) (hit_through r test p) (first_through r test later) (of_shape r (test p.id) slot p refl) (of_shapes r test slot (suc index) o defs))
 
-of_enabled : (r : Beam) (test : ShapeId → Bool) (slot : ℕ) (t : Bool) (ps : List PlacedShape) → IsOf slot (first_through r test ps) → IsOf slot (first_through r test (cond t ps []))
+of_enabled : (r : Beam) (test : ShapeId → Bool) (slot : ℕ) (t : Bool) (ps : List PosedShape) → IsOf slot (first_through r test ps) → IsOf slot (first_through r test (cond t ps []))
 of_enabled r test slot true ps h = h
 of_enabled r test slot false ps h = tt
 
@@ -300,19 +300,19 @@ no_more hit slot (Some box ∷ boxes) best h =
     no_more hit (suc slot) boxes best (unhit_next hit slot h) ∙ ap (λ (o : Option ℕ). first_key hit (suc slot) boxes (nearer_key best slot o)) (sym (unhit_here hit slot h))
 
 told_from : (r : Beam) (test : ShapeId → Bool) (hit : ℕ → Option ℕ) (slot : ℕ) (bodies : List (Option Body)) (boxes : List (Option Box2)) (a : Option Hit) →
-    AreTold r test hit slot bodies → AreSide slot bodies boxes → IsBelow slot a → told (nearer a (first_through r test (placed_from slot bodies))) ≡ first_key hit slot boxes (told a)
+    AreTold r test hit slot bodies → AreSide slot bodies boxes → IsBelow slot a → told (nearer a (first_through r test (posed_from slot bodies))) ≡ first_key hit slot boxes (told a)
 told_from r test hit slot [] boxes a h s below = ap told (none_last a) ∙ no_more hit slot boxes (told a) h
-told_from r test hit slot (o ∷ bodies) [] a h s below = ap (λ (ps : List PlacedShape). told (nearer a (first_through r test ps))) (none_placed slot (o ∷ bodies) s) ∙ ap told (none_last a)
+told_from r test hit slot (o ∷ bodies) [] a h s below = ap (λ (ps : List PosedShape). told (nearer a (first_through r test ps))) (none_posed slot (o ∷ bodies) s) ∙ ap told (none_last a)
 told_from r test hit slot (o ∷ bodies) (None ∷ boxes) a h s below =
     let bare : shapes_at slot o ≡ [] = no_shapes (shapes_at slot o) (side_here slot o bodies (None ∷ boxes) s) in
-    ap (λ (ps : List PlacedShape). told (nearer a (first_through r test (ps ++ placed_from (suc slot) bodies)))) bare
+    ap (λ (ps : List PosedShape). told (nearer a (first_through r test (ps ++ posed_from (suc slot) bodies)))) bare
     ∙ told_from r test hit (suc slot) bodies boxes a (told_next r test hit slot o bodies h) (side_next slot o bodies None boxes s) (below_next slot a below)
 told_from r test hit slot (o ∷ bodies) (Some box ∷ boxes) a h s below =
     let here = first_through r test (shapes_at slot o) in
-    let later = first_through r test (placed_from (suc slot) bodies) in
+    let later = first_through r test (posed_from (suc slot) bodies) in
     let of : IsOf slot here = of_slot r test slot o in
     let low : IsBelow (suc slot) (nearer a here) = kept_nearer (IsBelow (suc slot)) a here (below_next slot a below) (of_below slot here of) in
-    ap (λ (x : Option Hit). told (nearer a x)) (through_parts r test (shapes_at slot o) (placed_from (suc slot) bodies))
+    ap (λ (x : Option Hit). told (nearer a x)) (through_parts r test (shapes_at slot o) (posed_from (suc slot) bodies))
     ∙ ap told (sym (associate a here later))
     ∙ told_from r test hit (suc slot) bodies boxes (nearer a here) (told_next r test hit slot o bodies h) (side_next slot o bodies (Some box) boxes s) low
     ∙ ap (first_key hit (suc slot) boxes) (told_nearer slot a here below of ∙ ap (nearer_key (told a) slot) (sym (told_here r test hit slot o bodies h)))
@@ -327,13 +327,13 @@ told_of : (at : ℕ → Option Hit) (slot : ℕ) (o : Option Hit) → at slot �
 told_of at slot None e of = tt
 told_of at slot (Some h) e of = ap at of ∙ e
 
-told_in : (r : Beam) (test : ShapeId → Bool) (all : List (Option Body)) (slot : ℕ) (bodies : List (Option Body)) → AreBodiesFrom slot bodies all → IsTold (λ k. first_through r test (shapes_at k (body_at all k))) (first_through r test (placed_from slot bodies))
+told_in : (r : Beam) (test : ShapeId → Bool) (all : List (Option Body)) (slot : ℕ) (bodies : List (Option Body)) → AreBodiesFrom slot bodies all → IsTold (λ k. first_through r test (shapes_at k (body_at all k))) (first_through r test (posed_from slot bodies))
 told_in r test all slot [] h = tt
 told_in r test all slot (o ∷ bodies) h =
     let P = IsTold (λ k. first_through r test (shapes_at k (body_at all k))) in
     let here = first_through r test (shapes_at slot o) in
-    let later = first_through r test (placed_from (suc slot) bodies) in
-    subst P (sym (through_parts r test (shapes_at slot o) (placed_from (suc slot) bodies)))
+    let later = first_through r test (posed_from (suc slot) bodies) in
+    subst P (sym (through_parts r test (shapes_at slot o) (posed_from (suc slot) bodies)))
     (kept_nearer P here later
     (told_of _ slot here (ap (λ (x : Option Body). first_through r test (shapes_at slot x)) (from_here slot o bodies all h)) (of_slot r test slot o))
     (told_in r test all (suc slot) bodies (from_next slot o bodies all h)))
@@ -352,14 +352,14 @@ told_at r test bodies = λ k. let e : k ≡ 0 + k = omega arith in ap (λ (n : �
 
 -- the first hit on all shapes that pass the test is that on the body whose slot a tree of the boxes tells
 pub first_by_boxes : (r : Beam) (test : ShapeId → Bool) (bodies : List (Option Body)) (boxes : List (Option Box2)) →
-    AreBodies bodies → AreCovered bodies boxes → hit_of r test bodies (first_key (fraction_at r test bodies) 0 boxes None) ≡ first_through r test (placed_shapes bodies)
+    AreBodies bodies → AreCovered bodies boxes → hit_of r test bodies (first_key (fraction_at r test bodies) 0 boxes None) ≡ first_through r test (posed_shapes bodies)
 first_by_boxes r test bodies boxes h c =
     ap (hit_of r test bodies) (sym (told_from r test (fraction_at r test bodies) 0 bodies boxes None (told_at r test bodies) (side_all bodies boxes h c) tt))
-    ∙ hit_told r test bodies (first_through r test (placed_shapes bodies)) (told_in r test bodies 0 bodies (bodies_themselves bodies))
+    ∙ hit_told r test bodies (first_through r test (posed_shapes bodies)) (told_in r test bodies 0 bodies (bodies_themselves bodies))
 
 pub first_of_tree : (r beam : Beam) (test : ShapeId → Bool) (bodies : List (Option Body)) (boxes : List (Option Box2)) (o : Option KeyHit) → r ≡ beam →
-    AreBodies bodies → AreCovered bodies boxes → o ≡ first_key (fraction_at r test bodies) 0 boxes None → hit_of r test bodies o ≡ first_through beam test (placed_shapes bodies)
-first_of_tree r beam test bodies boxes o same h c e = ap (hit_of r test bodies) e ∙ first_by_boxes r test bodies boxes h c ∙ ap (λ (x : Beam). first_through x test (placed_shapes bodies)) same
+    AreBodies bodies → AreCovered bodies boxes → o ≡ first_key (fraction_at r test bodies) 0 boxes None → hit_of r test bodies o ≡ first_through beam test (posed_shapes bodies)
+first_of_tree r beam test bodies boxes o same h c e = ap (hit_of r test bodies) e ∙ first_by_boxes r test bodies boxes h c ∙ ap (λ (x : Beam). first_through x test (posed_shapes bodies)) same
 
 -- ---- one slot after another
 

@@ -4,7 +4,7 @@ use Rattle.std.proofs.Math.Numerals.{add-one}
 use Rattle.std.proofs.lemmas.Option.{slice_get-get_or}
 use Rattle.std.specs.Prelude.{option_map, slice_get}
 use Rattle.shape_rays.specs.declared.hits.Hit.{Hit}
-use Rattle.shape_rays.specs.declared.hits.PlacedShape.{PlacedShape}
+use Rattle.shape_rays.specs.declared.hits.PosedShape.{PosedShape}
 use Rattle.shape_rays.specs.Hits.{first_hit, nearer}
 use Rattle.shape_rays.proofs.HitLemmas.{associate, first_of_parts}
 use Rattle.shapes.specs.declared.beam.Beam.{Beam}
@@ -13,41 +13,41 @@ use Rattle.shapes.specs.declared.shape.ShapeDef.{ShapeDef}
 use Rattle.world_core.specs.Frames.{AreFrameBodies, IsFrameBody, frame_body_in}
 use Rattle.world_core.specs.declared.frame.FrameBody.{FrameBody}
 use Rattle.world_queries.specs.Framed.{framed_at, framed_shape, framed_shapes}
-use Rattle.world_queries.specs.Placed.{named, shapes_from}
+use Rattle.world_queries.specs.Posed.{named, shapes_from}
 
 -- ---- those of one body
 
 -- the shapes of a body from the one at `index` on
-abbrev pub left_of : FrameBody → ℕ → List PlacedShape
+abbrev pub left_of : FrameBody → ℕ → List PosedShape
 left_of b index = shapes_from b.handle.slot b.pose index (drop index b.shapes)
 
 -- what is found at an index, and then what is left behind it; nothing is left where nothing is found
-abbrev found_and : Option PlacedShape → List PlacedShape → List PlacedShape
+abbrev found_and : Option PosedShape → List PosedShape → List PosedShape
 found_and None later = []
 found_and (Some p) later = p ∷ later
 
-abbrev placed_by : ℕ → ℕ → Pose → ShapeDef → PlacedShape
-placed_by slot index pose d = named (record { slot = slot; index = index }) (d.shape, pose)
+abbrev posed_by : ℕ → ℕ → Pose → ShapeDef → PosedShape
+posed_by slot index pose d = named (record { slot = slot; index = index }) (d.shape, pose)
 
 left_from : (slot index : ℕ) (pose : Pose) (defs : List ShapeDef) (k : ℕ) →
-    shapes_from slot pose index (drop k defs) ≡ found_and (option_map (placed_by slot index pose) (slice_get defs k)) (shapes_from slot pose (suc index) (drop (suc k) defs))
+    shapes_from slot pose index (drop k defs) ≡ found_and (option_map (posed_by slot index pose) (slice_get defs k)) (shapes_from slot pose (suc index) (drop (suc k) defs))
 left_from slot index pose [] zero = refl
 left_from slot index pose [] (suc k) = refl
 left_from slot index pose (d ∷ defs) zero = refl
 left_from slot index pose (d ∷ defs) (suc k) = left_from slot index pose defs k
 
-none_by : (o : Option PlacedShape) (later : List PlacedShape) → None ≡ o → found_and o later ≡ []
+none_by : (o : Option PosedShape) (later : List PosedShape) → None ≡ o → found_and o later ≡ []
 none_by None later e = refl
 none_by (Some p) later e = cc
 
-some_by : (o : Option PlacedShape) (p : PlacedShape) (later : List PlacedShape) → Some p ≡ o → found_and o later ≡ p ∷ later
-some_by o p later e = ap (λ (x : Option PlacedShape). found_and x later) (sym e)
+some_by : (o : Option PosedShape) (p : PosedShape) (later : List PosedShape) → Some p ≡ o → found_and o later ≡ p ∷ later
+some_by o p later e = ap (λ (x : Option PosedShape). found_and x later) (sym e)
 
 -- nothing is left from an index at which the body has no shape
 pub none_left_of : (b : FrameBody) (index : ℕ) → None ≡ framed_shape b index → left_of b index ≡ []
 none_left_of b index e = left_from b.handle.slot index b.pose b.shapes index ∙ none_by (framed_shape b index) (left_of b (suc index)) e
 
-pub some_left_of : (b : FrameBody) (index : ℕ) (p : PlacedShape) → Some p ≡ framed_shape b index → left_of b index ≡ p ∷ left_of b (index + 1)
+pub some_left_of : (b : FrameBody) (index : ℕ) (p : PosedShape) → Some p ≡ framed_shape b index → left_of b index ≡ p ∷ left_of b (index + 1)
 some_left_of b index p e = rw add-one (left_from b.handle.slot index b.pose b.shapes index ∙ some_by (framed_shape b index) p (left_of b (suc index)) e)
 
 past : (defs : List ShapeDef) (k : ℕ) → length defs ≤ k → drop k defs ≡ []
@@ -87,6 +87,6 @@ formed_in bodies k o h within e = formed_by bodies k o h (found_at bodies k o wi
 
 -- ---- the first hit and the shapes over a region, part by part
 
-pub hit_parts : (r : Beam) (best all : Option Hit) (now part later : List PlacedShape) → now ≡ part ++ later → nearer best (first_hit r now) ≡ all → nearer (nearer best (first_hit r part)) (first_hit r later) ≡ all
+pub hit_parts : (r : Beam) (best all : Option Hit) (now part later : List PosedShape) → now ≡ part ++ later → nearer best (first_hit r now) ≡ all → nearer (nearer best (first_hit r part)) (first_hit r later) ≡ all
 hit_parts r best all now part later e h =
     associate best (first_hit r part) (first_hit r later) ∙ ap (nearer best) (sym (ap (first_hit r) e ∙ first_of_parts r part later)) ∙ h

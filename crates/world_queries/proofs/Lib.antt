@@ -1,5 +1,5 @@
 pub mod ByBoxesLaws
 pub mod FramedLaws
-pub mod PlacedLaws
+pub mod PosedLaws
 pub mod ShownLaws
 pub mod ThroughLaws

@@ -4,17 +4,17 @@ use Rattle.std.proofs.Math.Numerals.{add-one}
 use Rattle.std.proofs.Math.Seq.{take-length}
 use Rattle.std.proofs.lemmas.List.{append_assoc, append-nil, length-take-le, take_more}
 use Rattle.std.proofs.lemmas.Option.{slice_get-get_or}
-use Rattle.body_handles.specs.Places.{generation_at}
+use Rattle.body_handles.specs.SlotEntries.{generation_at}
 use Rattle.body_handles.specs.declared.handle.Handle.{Handle}
-use Rattle.body_handles.specs.declared.places.Place.{Place}
+use Rattle.body_handles.specs.declared.slot_table.SlotEntry.{SlotEntry}
 use Rattle.plain_world.specs.Bodies.{pose_of}
 use Rattle.plain_world.specs.Slots.{body_at, item_in}
 use Rattle.plain_world.specs.declared.body.Body.{Body}
-use Rattle.shape_rays.specs.declared.hits.PlacedShape.{PlacedShape}
+use Rattle.shape_rays.specs.declared.hits.PosedShape.{PosedShape}
 use Rattle.world_core.specs.Frames.{shown, shown_up}
 use Rattle.world_core.specs.declared.frame.FrameBody.{FrameBody}
 use Rattle.world_queries.specs.Framed.{framed_at, framed_shapes}
-use Rattle.world_queries.specs.Placed.{placed_from, placed_shapes, shapes_at}
+use Rattle.world_queries.specs.Posed.{posed_from, posed_shapes, shapes_at}
 
 -- ---- one slot
 
@@ -34,36 +34,36 @@ shown_in_slot h (Some b) = if_enabled b.enabled (shown_as h b)
 
 framed_parts : (xs ys : List (Option FrameBody)) → framed_shapes (xs ++ ys) ≡ framed_shapes xs ++ framed_shapes ys
 framed_parts [] ys = refl
-framed_parts (x ∷ xs) ys = ap (λ (ps : List PlacedShape). framed_at x ++ ps) (framed_parts xs ys) ∙ sym (append_assoc (framed_at x) (framed_shapes xs) (framed_shapes ys))
+framed_parts (x ∷ xs) ys = ap (λ (ps : List PosedShape). framed_at x ++ ps) (framed_parts xs ys) ∙ sym (append_assoc (framed_at x) (framed_shapes xs) (framed_shapes ys))
 
 framed_last : (xs : List (Option FrameBody)) (o : Option FrameBody) → framed_shapes (xs ++ o ∷ []) ≡ framed_shapes xs ++ framed_at o
-framed_last xs o = framed_parts xs (o ∷ []) ∙ ap (λ (ps : List PlacedShape). framed_shapes xs ++ ps) (append-nil (framed_at o))
+framed_last xs o = framed_parts xs (o ∷ []) ∙ ap (λ (ps : List PosedShape). framed_shapes xs ++ ps) (append-nil (framed_at o))
 
-placed_last : (slot last : ℕ) (xs : List (Option Body)) (o : Option Body) → slot + length xs ≡ last → placed_from slot (xs ++ o ∷ []) ≡ placed_from slot xs ++ shapes_at last o
-placed_last slot last [] o e =
+posed_last : (slot last : ℕ) (xs : List (Option Body)) (o : Option Body) → slot + length xs ≡ last → posed_from slot (xs ++ o ∷ []) ≡ posed_from slot xs ++ shapes_at last o
+posed_last slot last [] o e =
     let here : slot ≡ last = omega (arith, e) in
     append-nil (shapes_at slot o) ∙ ap (λ (n : ℕ). shapes_at n o) here
-placed_last slot last (x ∷ xs) o e =
-    ap (λ (ps : List PlacedShape). shapes_at slot x ++ ps) (placed_last (suc slot) last xs o (omega (arith, e))) ∙ sym (append_assoc (shapes_at slot x) (placed_from (suc slot) xs) (shapes_at last o))
+posed_last slot last (x ∷ xs) o e =
+    ap (λ (ps : List PosedShape). shapes_at slot x ++ ps) (posed_last (suc slot) last xs o (omega (arith, e))) ∙ sym (append_assoc (shapes_at slot x) (posed_from (suc slot) xs) (shapes_at last o))
 
 found_in_slot : (bodies : List (Option Body)) (n : ℕ) → n < length bodies → get_or bodies n None ≡ body_at bodies n
 found_in_slot bodies n h = sym (ap item_in (slice_get-get_or bodies n None h))
 
 -- what is shown of the slots below n is what can be seen of the first n bodies
-up_to : (places : List Place) (bodies : List (Option Body)) (n : ℕ) → n ≤ length bodies → framed_shapes (shown_up places bodies n) ≡ placed_from 0 (take n bodies)
-up_to places bodies zero h = refl
-up_to places bodies (suc n) h =
+up_to : (slot_entries : List SlotEntry) (bodies : List (Option Body)) (n : ℕ) → n ≤ length bodies → framed_shapes (shown_up slot_entries bodies n) ≡ posed_from 0 (take n bodies)
+up_to slot_entries bodies zero h = refl
+up_to slot_entries bodies (suc n) h =
     let within : n < length bodies = omega (arith, h) in
     let below : n ≤ length bodies = omega (arith, h) in
-    let handle : Handle = record { slot = n; generation = generation_at places n } in
+    let handle : Handle = record { slot = n; generation = generation_at slot_entries n } in
     let long : 0 + length (take n bodies) ≡ n = omega (arith, length-take-le n bodies below) in
     let more : take (suc n) bodies ≡ take n bodies ++ get_or bodies n None ∷ [] = rw (← add-one) (take_more bodies n None within) in
-    framed_last (shown_up places bodies n) (shown handle (body_at bodies n))
-    ∙ ap (λ (ps : List PlacedShape). ps ++ framed_at (shown handle (body_at bodies n))) (up_to places bodies n below)
-    ∙ ap (λ (ps : List PlacedShape). placed_from 0 (take n bodies) ++ ps) (shown_in_slot handle (body_at bodies n) ∙ ap (shapes_at n) (sym (found_in_slot bodies n within)))
-    ∙ sym (ap (placed_from 0) more ∙ placed_last 0 n (take n bodies) (get_or bodies n None) long)
+    framed_last (shown_up slot_entries bodies n) (shown handle (body_at bodies n))
+    ∙ ap (λ (ps : List PosedShape). ps ++ framed_at (shown handle (body_at bodies n))) (up_to slot_entries bodies n below)
+    ∙ ap (λ (ps : List PosedShape). posed_from 0 (take n bodies) ++ ps) (shown_in_slot handle (body_at bodies n) ∙ ap (shapes_at n) (sym (found_in_slot bodies n within)))
+    ∙ sym (ap (posed_from 0) more ∙ posed_last 0 n (take n bodies) (get_or bodies n None) long)
 
-pub all_shown : (places : List Place) (bodies : List (Option Body)) → framed_shapes (shown_up places bodies (length bodies)) ≡ placed_shapes bodies
-all_shown places bodies =
+pub all_shown : (slot_entries : List SlotEntry) (bodies : List (Option Body)) → framed_shapes (shown_up slot_entries bodies (length bodies)) ≡ posed_shapes bodies
+all_shown slot_entries bodies =
     let whole : length bodies ≤ length bodies = omega arith in
-    up_to places bodies (length bodies) whole ∙ ap (placed_from 0) (take-length bodies)
+    up_to slot_entries bodies (length bodies) whole ∙ ap (posed_from 0) (take-length bodies)

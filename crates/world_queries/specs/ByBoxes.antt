@@ -6,17 +6,17 @@ use Rattle.plain_world.specs.declared.body.Body.{Body}
 use Rattle.plain_world.specs.Slots.{body_at}
 use Rattle.shape_rays.specs.Hits.{first_hit, hit_on, region}
 use Rattle.shape_rays.specs.declared.hits.Hit.{Hit}
-use Rattle.shape_rays.specs.declared.hits.PlacedShape.{PlacedShape}
+use Rattle.shape_rays.specs.declared.hits.PosedShape.{PosedShape}
 use Rattle.shapes.specs.declared.beam.Beam.{Beam}
 use Rattle.world_queries.specs.Filters.{through}
-use Rattle.world_queries.specs.Placed.{shapes_at}
+use Rattle.world_queries.specs.Posed.{shapes_at}
 
 abbrev pub fraction_of : Option Hit → Option ℕ
 fraction_of None = None
 fraction_of (Some h) = Some h.fraction
 
 -- the ray's hit on one shape, if its name passes the test
-abbrev pub hit_through : Beam → (ShapeId → Bool) → PlacedShape → Option Hit
+abbrev pub hit_through : Beam → (ShapeId → Bool) → PosedShape → Option Hit
 hit_through r test p = cond (test p.id) (hit_on r p) None
 
 -- where the ray first hits those shapes of the body in a slot whose names pass the test

@@ -7,10 +7,10 @@ use Rattle.fixed_geom.specs.declared.refusal.Refusal.TheVariants.{StaleHandle}
 use Rattle.plain_world.specs.Plain.{Plain}
 use Rattle.plain_world.specs.Slots.{body_at}
 use Rattle.plain_world.specs.declared.body.Body.{Body}
-use Rattle.shape_rays.specs.declared.hits.PlacedShape.{PlacedShape}
+use Rattle.shape_rays.specs.declared.hits.PosedShape.{PosedShape}
 use Rattle.shapes.specs.declared.shape.ShapeDef.{ShapeDef}
 use Rattle.world_rules.specs.World.{body_named}
-use Rattle.world_queries.specs.Placed.{placed_shapes}
+use Rattle.world_queries.specs.Posed.{posed_shapes}
 use Rattle.world_queries.specs.declared.filters.QueryFilter.{QueryFilter}
 
 -- ---- one shape
@@ -44,12 +44,12 @@ lets_through f bodies id = not (is_slot_of f.without id.slot) && is_in_mask f.ma
 -- ---- all shapes
 
 -- those whose names pass a test
-abbrev pub through : (ShapeId → Bool) → List PlacedShape → List PlacedShape
+abbrev pub through : (ShapeId → Bool) → List PosedShape → List PosedShape
 through test ps = filter (λ p. test p.id) ps
 
 -- the shapes of all enabled bodies that the filter lets through
-abbrev pub shapes_through : QueryFilter → List (Option Body) → List PlacedShape
-shapes_through f bodies = through (lets_through f bodies) (placed_shapes bodies)
+abbrev pub shapes_through : QueryFilter → List (Option Body) → List PosedShape
+shapes_through f bodies = through (lets_through f bodies) (posed_shapes bodies)
 
 -- ---- filters that are refused
 

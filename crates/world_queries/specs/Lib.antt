@@ -3,4 +3,4 @@ pub mod Filters
 pub mod Framed
 pub mod Laws
 pub mod Limits
-pub mod Placed
+pub mod Posed

@@ -19,10 +19,10 @@ fn hit_on_body(cast: &RayCast, body: &FrameBody) -> Option<Hit>
 {
     let mut best: Option<Hit> = None;
     for index in 0..MAX_SHAPES {
-        let Some(placed) = framed_shape(body, index as u8) else {
+        let Some(posed) = framed_shape(body, index as u8) else {
             return best;
         };
-        best = nearer(best, hit_on(cast, &placed));
+        best = nearer(best, hit_on(cast, &posed));
     }
     best
 }

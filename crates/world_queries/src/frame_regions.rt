@@ -21,10 +21,10 @@ fn add_body(found: &mut Vec<ShapeId>, bounds: &Box2, body: &FrameBody) -> Result
     ensures memory_only { IsOkUnless result Refusal.NoMemory }
 {
     for index in 0..MAX_SHAPES {
-        let Some(placed) = framed_shape(body, index as u8) else {
+        let Some(posed) = framed_shape(body, index as u8) else {
             return Ok(());
         };
-        add_over(found, bounds, &placed)?;
+        add_over(found, bounds, &posed)?;
     }
     Ok(())
 }

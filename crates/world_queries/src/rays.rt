@@ -4,19 +4,19 @@ ghost use Rattle.std.specs.Prelude.{◌≡◌, IfOk};
 ghost use Rattle.std.specs.Result.{result_err};
 ghost use Rattle.plain_world.specs.Slots.{body_at};
 ghost use Rattle.shapes.specs.Rays.{IsBeam, beam_of};
-ghost use Rattle.shape_rays.specs.Hits.{IsPlacedShape, first_hit};
+ghost use Rattle.shape_rays.specs.Hits.{IsPosedShape, first_hit};
 ghost use Rattle.shape_rays.specs.Reach.{reaches};
 ghost use Rattle.world_queries.specs.ByBoxes.{fraction_of, fraction_at, hit_through};
 ghost use Rattle.world_queries.specs.Filters.{filter_refusal, lets_through, shapes_through, through};
-ghost use Rattle.world_queries.specs.Placed.{shapes_at, placed_shapes};
+ghost use Rattle.world_queries.specs.Posed.{shapes_at, posed_shapes};
 ghost use Rattle.shape_rays.proofs.WayLemmas.{missed_within};
 
 use crate::filters::QueryFilter;
-use crate::shapes_in::placed_shape;
+use crate::shapes_in::posed_shape;
 use box_tree::Ray;
 use contacts_base::ShapeId;
 use fixed_geom::{Box2, Refusal, Vec2};
-use shape_rays::{Hit, PlacedShape, RayCast, hit_on, nearer};
+use shape_rays::{Hit, PosedShape, RayCast, hit_on, nearer};
 use shapes::MAX_SHAPES;
 use world_core::WorldCore;
 
@@ -25,13 +25,13 @@ fn hit_through(
     world: &WorldCore,
     cast: &RayCast,
     filter: &QueryFilter,
-    placed: &PlacedShape,
+    posed: &PosedShape,
 ) -> Option<Hit>
-    requires { IsPlacedShape placed.now }
-    ensures { result ≡ hit_through cast.now (lets_through filter.now world.now.plain.bodies) placed.now }
+    requires { IsPosedShape posed.now }
+    ensures { result ≡ hit_through cast.now (lets_through filter.now world.now.plain.bodies) posed.now }
 {
-    if filter.lets_through(world.bodies(), placed.id) {
-        hit_on(cast, placed)
+    if filter.lets_through(world.bodies(), posed.id) {
+        hit_on(cast, posed)
     } else {
         None
     }
@@ -50,10 +50,10 @@ fn hit_at_slot(world: &WorldCore, cast: &RayCast, filter: &QueryFilter, slot: u3
             slot,
             index: index as u8,
         };
-        let Some(placed) = placed_shape(world, id) else {
+        let Some(posed) = posed_shape(world, id) else {
             return best;
         };
-        best = nearer(best, hit_through(world, cast, filter, &placed));
+        best = nearer(best, hit_through(world, cast, filter, &posed));
     }
     best
 }
@@ -115,7 +115,7 @@ fn first_through(world: &WorldCore, from: Vec2, along: Vec2, filter: &QueryFilte
 /// reaches, and takes no memory.
 pub fn ray(world: &WorldCore, from: Vec2, along: Vec2) -> Option<Hit>
     requires { IsBeam (beam_of from along) }
-    ensures { result ≡ first_hit (beam_of from along) (placed_shapes world.now.plain.bodies) }
+    ensures { result ≡ first_hit (beam_of from along) (posed_shapes world.now.plain.bodies) }
 {
     let all = QueryFilter {
         without: None,

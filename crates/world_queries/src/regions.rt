@@ -3,14 +3,14 @@
 ghost use Rattle.std.specs.Prelude.{◌≡◌, [], ◌∷◌, ◌++◌, IfOk, OnOk};
 ghost use Rattle.std.specs.Result.{IsOkUnless};
 ghost use Rattle.plain_world.specs.Slots.{body_at};
-ghost use Rattle.shape_rays.specs.Hits.{IsPlacedShape, region};
+ghost use Rattle.shape_rays.specs.Hits.{IsPosedShape, region};
 ghost use Rattle.world_rules.specs.Sound.{IsSound};
-ghost use Rattle.world_queries.specs.Placed.{shapes_at, placed_shapes};
+ghost use Rattle.world_queries.specs.Posed.{shapes_at, posed_shapes};
 
-use crate::shapes_in::placed_shape;
+use crate::shapes_in::posed_shape;
 use contacts_base::ShapeId;
 use fixed_geom::{Box2, Refusal};
-use shape_rays::{PlacedShape, is_over};
+use shape_rays::{PosedShape, is_over};
 use shapes::MAX_SHAPES;
 use std::alloc::Global;
 use world_core::WorldCore;
@@ -19,14 +19,14 @@ use world_core::WorldCore;
 pub(crate) fn add_over(
     found: &mut Vec<ShapeId>,
     bounds: &Box2,
-    placed: &PlacedShape,
+    posed: &PosedShape,
 ) -> Result<(), Refusal>
-    requires { IsPlacedShape placed.now }
-    ensures found { OnOk result (found.new.items ≡ found.old.items ++ region bounds.now (placed.now ∷ [])) }
+    requires { IsPosedShape posed.now }
+    ensures found { OnOk result (found.new.items ≡ found.old.items ++ region bounds.now (posed.now ∷ [])) }
     ensures memory_only { IsOkUnless result Refusal.NoMemory }
 {
-    if is_over(&placed.shape, placed.pose, bounds) {
-        found.push(placed.id)?;
+    if is_over(&posed.shape, posed.pose, bounds) {
+        found.push(posed.id)?;
     }
     Ok(())
 }
@@ -47,10 +47,10 @@ fn add_at_slot(
             slot,
             index: index as u8,
         };
-        let Some(placed) = placed_shape(world, id) else {
+        let Some(posed) = posed_shape(world, id) else {
             return Ok(());
         };
-        add_over(found, bounds, &placed)?;
+        add_over(found, bounds, &posed)?;
     }
     Ok(())
 }
@@ -58,7 +58,7 @@ fn add_at_slot(
 /// All shapes of enabled bodies whose tight box overlaps the region, ascending by name; a box that only touches it does. It looks at the
 /// bodies whose boxes overlap the region. Refused 1 where memory is wanting.
 pub fn region(alloc: Global, world: &WorldCore, bounds: &Box2) -> Result<Vec<ShapeId>, Refusal>
-    ensures shapes { IfOk result (λ found. found.items ≡ region bounds.now (placed_shapes world.now.plain.bodies)) }
+    ensures shapes { IfOk result (λ found. found.items ≡ region bounds.now (posed_shapes world.now.plain.bodies)) }
     ensures memory_only { IsOkUnless result Refusal.NoMemory }
 {
     let slots = world.tree().overlapping(bounds)?;

@@ -26,14 +26,14 @@ use Rattle.world_rules.specs.declared.command.Command.{Command}
 use Rattle.world_rules.specs.declared.command.Command.TheVariants.{CreateBody, DestroyBody, CreateJoint, DestroyJoint, Push, PushAt, SetPose, SetVelocity, SetGravity, Disable, Enable, Wake, Sleep, Step}
 use Rattle.world_rules.proofs.AcceptedLaws.{create_accepted, gravity_accepted, pose_accepted, push_accepted, sleep_accepted, velocity_accepted, wake_accepted}
 use Rattle.world_rules.proofs.AcceptedParts.{destroy_accepted, disable_accepted, enable_accepted, join_accepted, unjoin_accepted}
-use Rattle.world_rules.proofs.KeptStep.{IsTicked, collided_in, collided_world, step_solved_kept, turned_in}
+use Rattle.world_rules.proofs.KeptStep.{IsTicked, collided_in, collided_world, step_solved_kept, changed_in}
 use Rattle.world_rules.proofs.SoundLaws.{IsKept, kept_sound, sound_kept}
 
 -- ---- what the crates below answer for
 
 -- what the ticks of a step leave of a world
 abbrev pub solved_in : World → ℕ → Solving
-solved_in w n = solved_after w.plain n (collided_in w) (turned_in w)
+solved_in w n = solved_after w.plain n (collided_in w) (changed_in w)
 
 -- the collide's contacts ascend, and up to 8 ticks leave all within its limits
 pub record CanStep (w : World) : Type 0 where

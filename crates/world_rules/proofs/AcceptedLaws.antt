@@ -7,9 +7,9 @@ use Rattle.fixed_geom.specs.Vectors.{IsWithin, is_within}
 use Rattle.fixed_geom.specs.declared.refusal.Refusal.{Refusal}
 use Rattle.fixed_geom.specs.declared.refusal.Refusal.TheVariants.{OutOfRange, TooMany}
 use Rattle.fixed_geom.specs.declared.vectors.Vec2.{Vec2}
-use Rattle.body_handles.specs.Places.{lowest}
+use Rattle.body_handles.specs.SlotEntries.{lowest}
 use Rattle.body_handles.specs.declared.handle.Handle.{Handle}
-use Rattle.body_handles.specs.declared.places.TheConstants.{MAX_SLOTS}
+use Rattle.body_handles.specs.declared.slot_table.TheConstants.{MAX_SLOTS}
 use Rattle.momenta.specs.declared.motion.Momenta.{Momenta}
 use Rattle.shapes.specs.Poses.{IsPose}
 use Rattle.shapes.specs.declared.pose.Pose.{Pose}
@@ -45,14 +45,14 @@ kept_whatever_events w events k = record {
   filters = k.filters;
   timers = k.timers;
   matched = k.matched;
-  places = k.places;
+  slot_entries = k.slot_entries;
   joint_slots = k.joint_slots;
-  joint_places = k.joint_places;
+  joint_entries = k.joint_entries;
   joints = k.joints;
   contacts = k.contacts;
   pairs = k.pairs;
   there = k.there;
-  settled = k.settled;
+  consistent = k.consistent;
   tied = k.tied;
   told = k.told;
   labels = k.labels;
@@ -132,11 +132,11 @@ sleep_accepted w h a k few e = by (mover_refusal (body_named w.plain h)) e
 pub create_accepted : (w : World) (d : BodyDef) (a : Applied) → IsKept w → w.plain.calls < 2 ^ 40 → (def_refusal d ≡ None → IsBody (made d)) → HaveFilters d.shapes → apply_create w.plain d ≡ Ok a → IsKept (world_with w a)
 create_accepted w d a k few body filters e = by (def_refusal d) refl e
   where
-    room : (t : Bool) → nat_lt (lowest w.plain.places) MAX_SLOTS ≡ t → IsBody (made d) → ◌≡◌ {A = Result Applied Refusal} (cond t (Ok (created w.plain d)) (Err TooMany)) (Ok a) → IsKept (world_with w a)
+    room : (t : Bool) → nat_lt (lowest w.plain.slot_entries) MAX_SLOTS ≡ t → IsBody (made d) → ◌≡◌ {A = Result Applied Refusal} (cond t (Ok (created w.plain d)) (Err TooMany)) (Ok a) → IsKept (world_with w a)
     room true f is q = subst (λ (b : Applied). IsKept (world_with w b)) (same_ok (created w.plain d) a q)
         (kept_with w (created w.plain d) (subst (λ (es : List Entry). IsKept (record w { plain = (created w.plain d).plain; entries = es })) (sym (append-nil w.entries)) (create_kept w d k few (grind (arith, common_steps)) is filters)))
     room false f is q = cc
 
     by : (o : Option Refusal) → def_refusal d ≡ o → create_due w.plain d o ≡ Ok a → IsKept (world_with w a)
     by (Some r) f g = cc
-    by None f g = room (nat_lt (lowest w.plain.places) MAX_SLOTS) refl (body f) g
+    by None f g = room (nat_lt (lowest w.plain.slot_entries) MAX_SLOTS) refl (body f) g

@@ -4,8 +4,8 @@ use Rattle.std.proofs.lemmas.List.{append-nil}
 use Rattle.fixed_geom.specs.declared.refusal.Refusal.{Refusal}
 use Rattle.fixed_geom.specs.declared.refusal.Refusal.TheVariants.{BodyDisabled, TooMany}
 use Rattle.body_handles.specs.declared.handle.Handle.{Handle}
-use Rattle.body_handles.specs.declared.places.TheConstants.{MAX_SLOTS}
-use Rattle.body_handles.specs.Places.{lowest}
+use Rattle.body_handles.specs.declared.slot_table.TheConstants.{MAX_SLOTS}
+use Rattle.body_handles.specs.SlotEntries.{lowest}
 use Rattle.impulse_ledger.specs.declared.entry.Entry.{Entry}
 use Rattle.plain_world.specs.declared.body.Body.{Body}
 use Rattle.plain_world.specs.declared.joint.BodyJoint.{BodyJoint}
@@ -61,18 +61,18 @@ enable_accepted w h a k few e = by (body_named w.plain h) refl e
 pub join_accepted : (w : World) (d : JointDef) (a : Applied) → IsKept w → w.plain.calls < 2 ^ 40 → apply_join w.plain d ≡ Ok a → IsKept (world_with w a)
 join_accepted w d a k few e = by (join_refusal (body_named w.plain d.a) (body_named w.plain d.b) d) refl e
   where
-    room : (t : Bool) → nat_lt (lowest w.plain.joint_places) MAX_SLOTS ≡ t → join_refusal (body_named w.plain d.a) (body_named w.plain d.b) d ≡ None
-        → ◌≡◌ {A = Result Applied Refusal} (cond t (Ok (joined w.plain d (handle_at w.plain.joint_places (lowest w.plain.joint_places)))) (Err TooMany)) (Ok a) → IsKept (world_with w a)
-    room true free f g = left_by w _ a g (nothing_booked w _ (join_kept w (joint_made d) k few (ltb-true (lowest w.plain.joint_places) MAX_SLOTS free) (join_allowed w d f)))
+    room : (t : Bool) → nat_lt (lowest w.plain.joint_entries) MAX_SLOTS ≡ t → join_refusal (body_named w.plain d.a) (body_named w.plain d.b) d ≡ None
+        → ◌≡◌ {A = Result Applied Refusal} (cond t (Ok (joined w.plain d (handle_at w.plain.joint_entries (lowest w.plain.joint_entries)))) (Err TooMany)) (Ok a) → IsKept (world_with w a)
+    room true free f g = left_by w _ a g (nothing_booked w _ (join_kept w (joint_made d) k few (ltb-true (lowest w.plain.joint_entries) MAX_SLOTS free) (join_allowed w d f)))
     room false free f g = cc
 
     by : (o : Option Refusal) → join_refusal (body_named w.plain d.a) (body_named w.plain d.b) d ≡ o → join_due w.plain d o ≡ Ok a → IsKept (world_with w a)
     by (Some r) f g = cc
-    by None f g = room (nat_lt (lowest w.plain.joint_places) MAX_SLOTS) refl f g
+    by None f g = room (nat_lt (lowest w.plain.joint_entries) MAX_SLOTS) refl f g
 
 pub unjoin_accepted : (w : World) (h : Handle) (a : Applied) → IsKept w → w.plain.calls < 2 ^ 40 → apply_unjoin w.plain h ≡ Ok a → IsKept (world_with w a)
-unjoin_accepted w h a k few e = by (joint_of w.plain.joint_places w.plain.joints h) refl e
+unjoin_accepted w h a k few e = by (joint_of w.plain.joint_entries w.plain.joints h) refl e
   where
-    by : (o : Option BodyJoint) → joint_of w.plain.joint_places w.plain.joints h ≡ o → unjoin_due w.plain h o ≡ Ok a → IsKept (world_with w a)
+    by : (o : Option BodyJoint) → joint_of w.plain.joint_entries w.plain.joints h ≡ o → unjoin_due w.plain h o ≡ Ok a → IsKept (world_with w a)
     by None f g = cc
     by (Some j) f g = left_by w _ a g (nothing_booked w _ (unjoin_kept w h j k few f))

@@ -1,9 +1,9 @@
--- The constraints, islands and colours that a command leaves, put into the world with its bodies told: they are those of the new world, and it is settled.
+-- The constraints, islands and colours that a command leaves, put into the world with its bodies told: they are those of the new world, and it is consistent.
 use Rattle.std.proofs.Common.{◌≡◌, ℕ, ◌+◌, ◌*◌, ◌^◌, ◌≤◌, List, [], ◌∷◌, length, All, Bool, true, false, cond, is_some, Option, Some, None, refl, sym, ap, ◌∙◌, subst}
 use Rattle.std.specs.Prelude.{Contains, not}
 use Rattle.std.specs.Option.{is_none}
 use Rattle.fixed_geom.specs.Vectors.{IsWithin}
-use Rattle.body_handles.specs.Places.{IsPlace}
+use Rattle.body_handles.specs.SlotEntries.{IsSlotEntry}
 use Rattle.impulse_ledger.specs.Sums.{total}
 use Rattle.contacts_base.specs.Contacts.{AreKeysRising}
 use Rattle.contacts.specs.Constraints.{constraint_number}
@@ -44,7 +44,7 @@ use Rattle.world_rules.proofs.ToldLaws.{NobodyFallsAsleep, length_told, told_ali
 
 -- the constraints, islands and colours s are those of the lists of w, but for who sleeps
 pub record IsActing (w : Plain) (s : Acting Constraint) : Type 0 where
-  pub settled : IsConsistent constraint_number s
+  pub consistent : IsConsistent constraint_number s
   pub ties : s.ties ≡ ties_of w.bodies (joints_in_slots w) w.contacts
   pub tied : AreTied w.bodies s.labels
   pub long : length s.labels ≡ length w.bodies
@@ -52,7 +52,7 @@ pub record IsActing (w : Plain) (s : Acting Constraint) : Type 0 where
 -- what follows of the world with them
 pub record IsActed (w : Plain) (s : Acting Constraint) : Type 0 where
   pub acting : acting_of (with_acting s w) ≡ s
-  pub settled : IsConsistent constraint_number (acting_of (with_acting s w))
+  pub consistent : IsConsistent constraint_number (acting_of (with_acting s w))
   pub tied : AreTied (sleep.told s.labels w.bodies) s.labels
   pub told : AreTold (sleep.told s.labels w.bodies) s.labels
   pub labels : length s.labels ≡ length (sleep.told s.labels w.bodies)
@@ -66,7 +66,7 @@ told_ties w s is = alike_bodies_keep_ties w.bodies (sleep.told s.labels w.bodies
 told_lists : (w : Plain) (s : Acting Constraint) → IsActing w s → members_of (sleep.told s.labels w.bodies) (joints_in_slots w) (ids_of s.lists) ≡ s.lists
 told_lists w s is =
     lists_are_members (sleep.told s.labels w.bodies) (joints_in_slots w) w.contacts s.lists
-    (λ m h. subst (λ (ts : List (Member Constraint)). Contains ts m) (sym (told_ties w s is)) (((is.settled.acting m).0 h).0))
+    (λ m h. subst (λ (ts : List (Member Constraint)). Contains ts m) (sym (told_ties w s is)) (((is.consistent.acting m).0 h).0))
 
 same_acting : (w : Plain) (s : Acting Constraint) → IsActing w s → acting_of (with_acting s w) ≡ s
 unfolding acting_of
@@ -75,7 +75,7 @@ same_acting w s is = λ j. record { ties = told_ties w s is j; labels = s.labels
 pub acted : (w : Plain) (s : Acting Constraint) → AreBodies w.bodies → IsActing w s → IsActed w s
 acted w s bodies is = record {
   acting = same_acting w s is;
-  settled = subst (IsConsistent constraint_number) (sym (same_acting w s is)) is.settled;
+  consistent = subst (IsConsistent constraint_number) (sym (same_acting w s is)) is.consistent;
   tied = told_tied s.labels w.bodies is.tied;
   told = told_are_told s.labels w.bodies bodies is.tied;
   labels = is.long ∙ sym (length_told s.labels w.bodies);
@@ -92,10 +92,10 @@ pub record AreLists (w : World) : Type 0 where
   pub bodies : AreBodies w.plain.bodies
   pub filters : AreFiltered w.plain.bodies
   pub timers : AreTimers w.plain.steps w.plain.bodies
-  pub matched : AreMatched w.plain.places w.plain.bodies
-  pub places : All IsPlace w.plain.places
-  pub joint_slots : AreMatched w.plain.joint_places w.plain.joints
-  pub joint_places : All IsPlace w.plain.joint_places
+  pub matched : AreMatched w.plain.slot_entries w.plain.bodies
+  pub slot_entries : All IsSlotEntry w.plain.slot_entries
+  pub joint_slots : AreMatched w.plain.joint_entries w.plain.joints
+  pub joint_entries : All IsSlotEntry w.plain.joint_entries
   pub joints : AreJoints w.plain.bodies w.plain.joints
   pub contacts : AreKeysRising w.plain.contacts
   pub pairs : AreContactsOf w.plain.bodies w.plain.contacts
@@ -113,9 +113,9 @@ lists_kept w k = record {
   filters = k.filters;
   timers = k.timers;
   matched = k.matched;
-  places = k.places;
+  slot_entries = k.slot_entries;
   joint_slots = k.joint_slots;
-  joint_places = k.joint_places;
+  joint_entries = k.joint_entries;
   joints = k.joints;
   contacts = k.contacts;
   pairs = k.pairs;
@@ -128,7 +128,7 @@ lists_kept w k = record {
 -- a world is kept if its lists are, and its islands and colours go with them
 pub kept_of : (w : World) → AreLists w → IsConsistent constraint_number (acting_of w.plain) → AreTied w.plain.bodies w.plain.islands → AreTold w.plain.bodies w.plain.islands
     → length w.plain.islands ≡ length w.plain.bodies → ids_of (members_of w.plain.bodies (joints_in_slots w.plain) w.plain.colours) ≡ w.plain.colours → IsKept w
-kept_of w l settled tied told labels moved = record {
+kept_of w l consistent tied told labels moved = record {
   total_x = l.total_x;
   total_y = l.total_y;
   causes = l.causes;
@@ -136,14 +136,14 @@ kept_of w l settled tied told labels moved = record {
   filters = l.filters;
   timers = l.timers;
   matched = l.matched;
-  places = l.places;
+  slot_entries = l.slot_entries;
   joint_slots = l.joint_slots;
-  joint_places = l.joint_places;
+  joint_entries = l.joint_entries;
   joints = l.joints;
   contacts = l.contacts;
   pairs = l.pairs;
   there = l.there;
-  settled = settled;
+  consistent = consistent;
   tied = tied;
   told = told;
   labels = labels;
@@ -169,10 +169,10 @@ lists_told w s l still =
       bodies = told_are_bodies s.labels old l.bodies;
       filters = filters_same old new shapes l.filters;
       timers = told_timers s.labels old w.plain.steps l.timers;
-      matched = AreMatched-same w.plain.places old new slots l.matched;
-      places = l.places;
+      matched = AreMatched-same w.plain.slot_entries old new slots l.matched;
+      slot_entries = l.slot_entries;
       joint_slots = l.joint_slots;
-      joint_places = l.joint_places;
+      joint_entries = l.joint_entries;
       joints = joints_same old new w.plain.joints slots l.joints;
       contacts = l.contacts;
       pairs = contacts_of_same old new w.plain.contacts moves l.pairs;
@@ -187,7 +187,7 @@ pub acting_put : (w : World) (s : Acting Constraint) → AreLists w → IsActing
     → IsKept (record w { plain = with_acting s w.plain })
 acting_put w s l is still =
     let a = acted w.plain s l.bodies is in
-    kept_of (record w { plain = with_acting s w.plain }) (lists_told w s l still) a.settled a.tied a.told a.labels a.moved
+    kept_of (record w { plain = with_acting s w.plain }) (lists_told w s l still) a.consistent a.tied a.told a.labels a.moved
 
 -- the same where nobody falls asleep
 pub awake_put : (w : World) (s : Acting Constraint) → AreLists w → IsActing w.plain s → NobodyFallsAsleep w.plain.bodies s.labels → IsKept (record w { plain = with_acting s w.plain })
@@ -259,7 +259,7 @@ unfolding acting_of
 woken_acting w names k =
     let s = acting_of w.plain in
     record {
-      settled = waking_named_keeps s names k.settled;
+      consistent = waking_named_keeps s names k.consistent;
       ties = islands_woken_ties names s;
       tied = λ slot. movers_stay.waking s names slot ∙ k.tied slot;
       long = waking_long constraint_number names s ∙ k.labels;
@@ -267,7 +267,7 @@ woken_acting w names k =
 
 woken_awake : (w : World) (names : List ℕ) → IsKept w → NobodyFallsAsleep w.plain.bodies (islands_woken constraint_number names (acting_of w.plain)).labels
 unfolding acting_of
-woken_awake w names k = let s = acting_of w.plain in stay_awake w.plain.bodies w.plain.islands (islands_woken constraint_number names s).labels k.tied k.told (awake_stay_awake.waking s names k.settled)
+woken_awake w names k = let s = acting_of w.plain in stay_awake w.plain.bodies w.plain.islands (islands_woken constraint_number names s).labels k.tied k.told (awake_stay_awake.waking s names k.consistent)
 
 pub waking_kept : (w : World) (slots : List ℕ) → IsKept w → IsWoken w slots
 waking_kept w slots k =

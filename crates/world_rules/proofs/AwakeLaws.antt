@@ -54,12 +54,12 @@ gone_awake slot k s far h = without_awake (label_at s.labels slot) slot k s.labe
 -- a mover of which the island was woken is awake
 pub named_awake : (w : World) (slots : List ℕ) (slot : ℕ) → IsKept w → Contains slots slot → moves w.plain.bodies slot ≡ true → is_mover_awake (with_woken w.plain slots).islands slot ≡ true
 unfolding acting_of
-named_awake w slots slot k h moving = the_named_are_awake (acting_of w.plain) slots slot k.settled h (k.tied slot ∙ moving)
+named_awake w slots slot k h moving = the_named_are_awake (acting_of w.plain) slots slot k.consistent h (k.tied slot ∙ moving)
 
 -- two movers of a constraint are both awake, or neither is
 second_as : (w : World) (m : Member Constraint) (b : ℕ) → IsKept w → Contains (ties_of w.plain.bodies (joints_in_slots w.plain) w.plain.contacts) m → m.movers.second ≡ Some b → is_mover_awake w.plain.islands m.movers.first ≡ is_mover_awake w.plain.islands b
 unfolding acting_of
-second_as w m b k h e = (linked_stand_together (acting_of w.plain) m.movers.first b k.settled (inl (in_links (acting_of w.plain).ties m m.movers.first b h refl e))).1
+second_as w m b k h e = (linked_stand_together (acting_of w.plain) m.movers.first b k.consistent (inl (in_links (acting_of w.plain).ties m m.movers.first b h refl e))).1
 
 pub both_awake : (labels : Labels) (first : ℕ) (second : Option ℕ) → is_mover_awake labels first ≡ true → ((b : ℕ) → second ≡ Some b → is_mover_awake labels b ≡ true) → (is_mover_awake labels first && second_awake labels second) ≡ true
 both_awake labels first None a b = rw a refl

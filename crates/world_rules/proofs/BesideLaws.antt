@@ -4,7 +4,7 @@ use Rattle.std.specs.Prelude.{option_map, pos, slice_set}
 use Rattle.std.proofs.lemmas.Bool.{cases_eq, eqb-false}
 use Rattle.std.proofs.lemmas.List.{length-set}
 use Rattle.std.proofs.lemmas.Option.{none-some, same_Some}
-use Rattle.body_handles.specs.declared.places.Place.{Place}
+use Rattle.body_handles.specs.declared.slot_table.SlotEntry.{SlotEntry}
 use Rattle.contacts_base.specs.declared.contact.ContactEntry.{ContactEntry}
 use Rattle.contacts_base.specs.Contacts.{AreKeysRising, contacts_without, has_slot}
 use Rattle.contacts_base.proofs.ContactsLemmas.{keys_rise-filter}
@@ -56,8 +56,8 @@ timers_beside steps bodies slot o lt own all = each_beside (λ k a. (b : Body) �
 pub taken_beside : (bodies : List (Option Body)) (slot : ℕ) (b c : Body) → body_at bodies slot ≡ Some b → (k : ℕ) → is_some (body_at (slice_set bodies slot (Some c)) k) ≡ is_some (body_at bodies k)
 taken_beside bodies slot b c at = each_beside (λ k a. is_some a ≡ is_some (body_at bodies k)) bodies slot (Some c) (below_length bodies slot b at) (sym (ap is_some at)) (λ k far. refl)
 
-pub matched_beside : (places : List Place) (bodies : List (Option Body)) (slot : ℕ) (b c : Body) → body_at bodies slot ≡ Some b → AreMatched places bodies → AreMatched places (slice_set bodies slot (Some c))
-matched_beside places bodies slot b c at m =
+pub matched_beside : (slot_entries : List SlotEntry) (bodies : List (Option Body)) (slot : ℕ) (b c : Body) → body_at bodies slot ≡ Some b → AreMatched slot_entries bodies → AreMatched slot_entries (slice_set bodies slot (Some c))
+matched_beside slot_entries bodies slot b c at m =
     let long : length (slice_set bodies slot (Some c)) ≡ length bodies = length-set bodies slot (Some c) in
     let few = m.few in
     record { slots = m.slots ∙ sym long; few = omega (arith, long, few); taken = λ k. taken_beside bodies slot b c at k ∙ m.taken k }
@@ -151,7 +151,7 @@ others_up : (body n : ℕ) (s : JointSlots) → AreOthers body n s.joints (unjoi
 others_up body zero s = record { long = refl; from = λ k j at. at; other = λ k j lt at. absurd (omega (arith, lt)) }
 others_up body (suc n) s =
     let before : JointSlots = unjoined_up body n s in
-    by_test (λ (r : JointSlots). AreOthers body (suc n) s.joints r.joints) (is_end_in body (joint_at before.joints n)) (unjoined (handle_at before.places n) before) before
+    by_test (λ (r : JointSlots). AreOthers body (suc n) s.joints r.joints) (is_end_in body (joint_at before.joints n)) (unjoined (handle_at before.slot_entries n) before) before
     (λ q. others_without body n s.joints before.joints (others_up body n s)) (λ q. others_with body n s.joints before.joints q (others_up body n s))
 
 pub joints_beside : (bodies : List (Option Body)) (slot : ℕ) (o : Option Body) (s : JointSlots) → AreJoints bodies s.joints → AreJoints (slice_set bodies slot o) (unjoined_all slot s).joints
@@ -215,8 +215,8 @@ idle_length : (slot : ℕ) (joints : List (Option BodyJoint)) → length (idle_j
 idle_length slot [] = refl
 idle_length slot (o ∷ joints) = ap suc (idle_length slot joints)
 
-pub idle_matched : (places : List Place) (slot : ℕ) (joints : List (Option BodyJoint)) → AreMatched places joints → AreMatched places (idle_joints slot joints)
-idle_matched places slot joints m =
+pub idle_matched : (slot_entries : List SlotEntry) (slot : ℕ) (joints : List (Option BodyJoint)) → AreMatched slot_entries joints → AreMatched slot_entries (idle_joints slot joints)
+idle_matched slot_entries slot joints m =
     let long : length (idle_joints slot joints) ≡ length joints = idle_length slot joints in
     let few = m.few in
     record { slots = m.slots ∙ sym long; few = omega (arith, long, few); taken = λ k. ap is_some (idle_at slot joints k) ∙ idle_some slot (joint_at joints k) ∙ m.taken k }

@@ -2,10 +2,10 @@
 use Rattle.std.proofs.Common.{◌≡◌, ℕ, ◌<◌, true, false, List, [], ◌∷◌, Some, None, ◌∙◌}
 use Rattle.std.specs.Prelude.{Contains, filter}
 use Rattle.body_handles.specs.declared.handle.Handle.{Handle}
-use Rattle.body_handles.specs.declared.places.TheConstants.{MAX_SLOTS}
-use Rattle.body_handles.specs.Places.{lowest}
+use Rattle.body_handles.specs.declared.slot_table.TheConstants.{MAX_SLOTS}
+use Rattle.body_handles.specs.SlotEntries.{lowest}
 use Rattle.graph_colours.specs.declared.member.Movers.{Movers}
-use Rattle.graph_colours.specs.Members.{has_id}
+use Rattle.graph_colours.specs.FoundMembers.{has_id}
 use Rattle.graph_colours.specs.Movers.{has_mover}
 use Rattle.contacts.specs.Constraints.{constraint_number}
 use Rattle.contacts.specs.declared.constraint.Constraint.TheVariants.{Joint}
@@ -60,7 +60,7 @@ pub record CanJoin (w : World) (h : Handle) (j : BodyJoint) : Type 0 where
   pub fresh : has_id constraint_number (Joint h) (acting_of (with_woken w.plain (j.a ∷ j.b ∷ []))).ties ≡ false
   pub awake : (m : Movers) → joint_movers (with_woken w.plain (j.a ∷ j.b ∷ [])).bodies j ≡ Some m → are_awake (acting_of (with_woken w.plain (j.a ∷ j.b ∷ []))).labels m ≡ true
 
-pub can_join : (w : World) (j : BodyJoint) → IsKept w → lowest w.plain.joint_places < MAX_SLOTS → CanJoin w (handle_at w.plain.joint_places (lowest w.plain.joint_places)) j
+pub can_join : (w : World) (j : BodyJoint) → IsKept w → lowest w.plain.joint_entries < MAX_SLOTS → CanJoin w (handle_at w.plain.joint_entries (lowest w.plain.joint_entries)) j
 unfolding acting_of
 can_join w j k free =
     let slots : List ℕ = j.a ∷ j.b ∷ [] in
@@ -73,7 +73,7 @@ pub record CanUnjoin (w : World) (h : Handle) (j : BodyJoint) : Type 0 where
   pub there : (m : Movers) → joint_movers (with_woken w.plain (j.a ∷ j.b ∷ [])).bodies j ≡ Some m → Contains (acting_of (with_woken w.plain (j.a ∷ j.b ∷ []))).ties (record { id = Joint h; movers = m })
   pub awake : (m : Movers) → joint_movers (with_woken w.plain (j.a ∷ j.b ∷ [])).bodies j ≡ Some m → are_awake (acting_of (with_woken w.plain (j.a ∷ j.b ∷ []))).labels m ≡ true
 
-pub can_unjoin : (w : World) (h : Handle) (j : BodyJoint) → IsKept w → joint_of w.plain.joint_places w.plain.joints h ≡ Some j → CanUnjoin w h j
+pub can_unjoin : (w : World) (h : Handle) (j : BodyJoint) → IsKept w → joint_of w.plain.joint_entries w.plain.joints h ≡ Some j → CanUnjoin w h j
 unfolding acting_of
 can_unjoin w h j k named =
     let slots : List ℕ = j.a ∷ j.b ∷ [] in

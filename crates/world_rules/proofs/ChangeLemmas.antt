@@ -65,7 +65,7 @@ alike_members w new k alike =
     let same = alike_bodies_keep_ties w.plain.bodies new (joints_in_slots w.plain) w.plain.contacts alike in
     ap (members_of new (joints_in_slots w.plain)) (sym k.moved)
     ∙ lists_are_members new (joints_in_slots w.plain) w.plain.contacts (members_of w.plain.bodies (joints_in_slots w.plain) w.plain.colours)
-    (λ m h. subst (λ (ts : List (Member Constraint)). Contains ts m) (sym same) (((k.settled.acting m).0 h).0))
+    (λ m h. subst (λ (ts : List (Member Constraint)). Contains ts m) (sym same) (((k.consistent.acting m).0 h).0))
 
 pub alike_acting : (w : World) (new : List (Option Body)) → IsKept w → AreAlike w.plain.bodies new → acting_of (record w.plain { bodies = new }) ≡ acting_of w.plain
 unfolding acting_of

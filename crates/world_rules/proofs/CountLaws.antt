@@ -7,8 +7,8 @@ use Rattle.fixed_geom.specs.declared.refusal.Refusal.TheVariants.{BodyDisabled, 
 use Rattle.fixed_geom.specs.declared.vectors.Vec2.{Vec2}
 use Rattle.fixed_geom.specs.Vectors.{IsWithin, is_within, zero_vector}
 use Rattle.body_handles.specs.declared.handle.Handle.{Handle}
-use Rattle.body_handles.specs.declared.places.TheConstants.{MAX_SLOTS}
-use Rattle.body_handles.specs.Places.{lowest}
+use Rattle.body_handles.specs.declared.slot_table.TheConstants.{MAX_SLOTS}
+use Rattle.body_handles.specs.SlotEntries.{lowest}
 use Rattle.momenta.specs.declared.motion.Momenta.{Momenta}
 use Rattle.shapes.specs.Shapes.{is_between}
 use Rattle.shapes.specs.declared.pose.Pose.{Pose}
@@ -44,7 +44,7 @@ tested false x a e n is h = cc
 
 create_counts : (w : Plain) (d : BodyDef) (o : Option Refusal) (a : Applied) → create_due w d o ≡ Ok a → a.plain.calls ≡ w.calls + 1
 create_counts w d (Some e) a h = cc
-create_counts w d None a h = tested (nat_lt (lowest w.places) MAX_SLOTS) _ a TooMany (w.calls + 1) refl h
+create_counts w d None a h = tested (nat_lt (lowest w.slot_entries) MAX_SLOTS) _ a TooMany (w.calls + 1) refl h
 
 destroy_counts : (w : Plain) (b : Handle) (o : Option Body) (a : Applied) → destroy_due w b o ≡ Ok a → a.plain.calls ≡ w.calls + 1
 destroy_counts w b None a h = cc
@@ -52,7 +52,7 @@ destroy_counts w b (Some body) a h = sym (ap calls_of h)
 
 join_counts : (w : Plain) (d : JointDef) (due : Option Refusal) (a : Applied) → join_due w d due ≡ Ok a → a.plain.calls ≡ w.calls + 1
 join_counts w d (Some e) a h = cc
-join_counts w d None a h = tested (nat_lt (lowest w.joint_places) MAX_SLOTS) _ a TooMany (w.calls + 1) refl h
+join_counts w d None a h = tested (nat_lt (lowest w.joint_entries) MAX_SLOTS) _ a TooMany (w.calls + 1) refl h
 
 unjoin_counts : (w : Plain) (j : Handle) (o : Option BodyJoint) (a : Applied) → unjoin_due w j o ≡ Ok a → a.plain.calls ≡ w.calls + 1
 unjoin_counts w j None a h = cc
@@ -97,7 +97,7 @@ accepted_counts : (w : Plain) (c : Command) (a : Applied) → apply_accepted w c
 accepted_counts w (CreateBody d) a h = create_counts w d (def_refusal d) a h
 accepted_counts w (DestroyBody b) a h = destroy_counts w b (body_named w b) a h
 accepted_counts w (CreateJoint d) a h = join_counts w d (join_refusal (body_named w d.a) (body_named w d.b) d) a h
-accepted_counts w (DestroyJoint j) a h = unjoin_counts w j (joint_of w.joint_places w.joints j) a h
+accepted_counts w (DestroyJoint j) a h = unjoin_counts w j (joint_of w.joint_entries w.joints j) a h
 accepted_counts w (Push b j) a h = push_counts w b j (pushed (body_named w b) j zero_vector) a h
 accepted_counts w (PushAt b j r) a h = push_counts w b j (pushed (body_named w b) j r) a h
 accepted_counts w (SetPose b o) a h = pose_counts w b (posed (body_named w b) o) a h

@@ -5,7 +5,7 @@ use Rattle.std.specs.List.{cons_option, filter_map}
 use Rattle.std.proofs.lemmas.Bool.{cases_eq, false≢true}
 use Rattle.std.proofs.lemmas.Option.{none-some, same_Some}
 use Rattle.body_handles.specs.declared.handle.Handle.{Handle}
-use Rattle.body_handles.specs.declared.places.Place.{Place}
+use Rattle.body_handles.specs.declared.slot_table.SlotEntry.{SlotEntry}
 use Rattle.graph_colours.specs.declared.member.Movers.{Movers}
 use Rattle.graph_colours.specs.declared.member.Member.{Member}
 use Rattle.graph_colours.proofs.PlaceLemmas.{not_same, same_from}
@@ -124,20 +124,20 @@ next_among slot old new h j bonds others m true alike here rest within =
     ]
 next_among slot old new h j bonds others m false alike here rest within = among_more slot (joined_by old slot (Some j)) others m (rest within)
 
-all_among : (slot n : ℕ) (old new : List (Option Body)) (places : List Place) (joints : List (Option BodyJoint)) (m : Member Constraint) → AreAlikeBeside slot old new
-    → Contains (filter_map (tie_of new) (filter (is_bond_of slot) (joint_bonds_from n places joints))) m → AreAmong slot (filter_map (joined_by old slot) joints) m
+all_among : (slot n : ℕ) (old new : List (Option Body)) (slot_entries : List SlotEntry) (joints : List (Option BodyJoint)) (m : Member Constraint) → AreAlikeBeside slot old new
+    → Contains (filter_map (tie_of new) (filter (is_bond_of slot) (joint_bonds_from n slot_entries joints))) m → AreAmong slot (filter_map (joined_by old slot) joints) m
 all_among slot n old new [] joints m alike h = none_among slot (filter_map (joined_by old slot) joints) m h
-all_among slot n old new (p ∷ places) [] m alike h = none_among slot [] m h
-all_among slot n old new (p ∷ places) (None ∷ joints) m alike h = all_among slot (suc n) old new places joints m alike h
-all_among slot n old new (p ∷ places) (Some j ∷ joints) m alike h =
+all_among slot n old new (p ∷ slot_entries) [] m alike h = none_among slot [] m h
+all_among slot n old new (p ∷ slot_entries) (None ∷ joints) m alike h = all_among slot (suc n) old new slot_entries joints m alike h
+all_among slot n old new (p ∷ slot_entries) (Some j ∷ joints) m alike h =
     let handle : Handle = record { slot = n; generation = p.generation } in
-    next_among slot old new handle j (filter (is_bond_of slot) (joint_bonds_from (suc n) places joints)) (filter_map (joined_by old slot) joints) m (is_bond_of slot (joint_bond handle j)) alike refl
-    (λ q. all_among slot (suc n) old new places joints m alike q) h
+    next_among slot old new handle j (filter (is_bond_of slot) (joint_bonds_from (suc n) slot_entries joints)) (filter_map (joined_by old slot) joints) m (is_bond_of slot (joint_bond handle j)) alike refl
+    (λ q. all_among slot (suc n) old new slot_entries joints m alike q) h
 
 -- the movers of its joints are the body itself, and those that it is joined to
 pub joints_among : (slot : ℕ) (old new : List (Option Body)) (s : JointSlots) (m : Member Constraint) → AreAlikeBeside slot old new → Contains (joint_ties_at slot new s) m → AreAmong slot (joined_to old s.joints slot) m
 unfolding joint_ties_at joined_to
-joints_among slot old new s m alike h = all_among slot 0 old new s.places s.joints m alike h
+joints_among slot old new s m alike h = all_among slot 0 old new s.slot_entries s.joints m alike h
 
 -- and they are movers
 bond_moves : (new : List (Option Body)) (b : Bond) (m : Member Constraint) (k : ℕ) → tie_of new b ≡ Some m → IsMoverOf m.movers k → moves new k ≡ true
@@ -152,4 +152,4 @@ ties_move new (b ∷ bonds) m k h is = elim (cons_in (tie_of new b) (filter_map 
 
 pub joints_move : (slot : ℕ) (new : List (Option Body)) (s : JointSlots) (m : Member Constraint) (k : ℕ) → Contains (joint_ties_at slot new s) m → IsMoverOf m.movers k → moves new k ≡ true
 unfolding joint_ties_at
-joints_move slot new s m k h is = ties_move new (filter (is_bond_of slot) (joint_bonds_from 0 s.places s.joints)) m k h is
+joints_move slot new s m k h is = ties_move new (filter (is_bond_of slot) (joint_bonds_from 0 s.slot_entries s.joints)) m k h is

@@ -21,7 +21,7 @@ use Rattle.solver_sets.specs.Ties.{is_mover_in}
 use Rattle.world_rules.specs.Sets.{acting_of, body_come}
 use Rattle.world_rules.specs.Sound.{AreTold}
 use Rattle.world_rules.specs.World.{World}
-use Rattle.world_rules.proofs.KeptMade.{come_settled}
+use Rattle.world_rules.proofs.KeptMade.{come_consistent}
 use Rattle.world_rules.proofs.QuietLaws.{each_begun_alike, told_by_alike}
 use Rattle.solver_sets.proofs.SlotLemmas.{below_length, item_at-set_other, none_if, slice_get-with_own}
 use Rattle.world_rules.proofs.SlotLemmas.{AreBodies-set}
@@ -74,5 +74,5 @@ enabling_told w slot b ms k at off is up =
     let new : List (Option Body) = slice_set w.plain.bodies slot (Some (enabled_body b)) in
     let s : Acting Constraint = body_come slot (enabled_body b) (acting_of w.plain) in
     let bodies : AreBodies new = AreBodies-set w.plain.bodies slot (Some (enabled_body b)) k.bodies (λ d f. let same : enabled_body b ≡ d = cc in subst IsBody same is) in
-    let settled = come_settled (is_mover (enabled_body b)) slot (acting_of w.plain) k.settled (off_label w slot b k at off) in
-    told_by_alike s.labels (each_begun constraint_number ms s).labels new (each_begun_alike ms s settled.islands.partition up) ∙ told_stays s.labels new bodies (enabled_told w slot b k at off)
+    let consistent = come_consistent (is_mover (enabled_body b)) slot (acting_of w.plain) k.consistent (off_label w slot b k at off) in
+    told_by_alike s.labels (each_begun constraint_number ms s).labels new (each_begun_alike ms s consistent.islands.partition up) ∙ told_stays s.labels new bodies (enabled_told w slot b k at off)

@@ -32,7 +32,7 @@ use Rattle.world_rules.specs.Gathering.{CanGather}
 use Rattle.world_rules.specs.Sets.{acting_of}
 use Rattle.world_rules.specs.World.{World, joints_in_slots}
 use Rattle.world_rules.proofs.ActingLaws.{awake_name}
-use Rattle.world_rules.proofs.KeptStep.{collide_kept, collided_in, collided_world, turned_in}
+use Rattle.world_rules.proofs.KeptStep.{collide_kept, collided_in, collided_world, changed_in}
 use Rattle.world_rules.proofs.SolveLaws.{can_solve, coloured}
 use Rattle.world_rules.proofs.SoundLaws.{IsKept}
 
@@ -133,7 +133,7 @@ all_gathered : (w : World) → IsKept w → All (MemberIsGathered w) (all_member
 unfolding acting_of
 all_gathered w k i d lt =
     let m : Member Constraint = get_or (all_members (coloured w)) i d in
-    let up : are_awake w.plain.islands m.movers ≡ true = ((k.settled.acting m).0 (Contains-get_or (all_members (coloured w)) i d lt)).1 in
+    let up : are_awake w.plain.islands m.movers ≡ true = ((k.consistent.acting m).0 (Contains-get_or (all_members (coloured w)) i d lt)).1 in
     one_gathered w m.id m.movers k (all_have w.plain.bodies (joints_in_slots w.plain) w.plain.colours i d lt) (first_awake (is_mover_awake w.plain.islands m.movers.first) (second_awake w.plain.islands m.movers.second) up)
 
 -- a kept world can be gathered
@@ -148,8 +148,8 @@ can_gather w k = record {
 }
 
 -- and so can what the collide of a step leaves
-pub can_gather_collided : (w : World) → IsKept w → AreKeysRising (collided_in w).now → CanGather (told (turned_in w).labels w.plain.bodies) w.plain.joints (collided_in w).now (turned_in w).lists
+pub can_gather_collided : (w : World) → IsKept w → AreKeysRising (collided_in w).now → CanGather (told (changed_in w).labels w.plain.bodies) w.plain.joints (collided_in w).now (changed_in w).lists
 unfolding acting_of
 can_gather_collided w k rises =
     let is = collide_kept w k rises in
-    subst (λ (s : Acting Constraint). CanGather (told (turned_in w).labels w.plain.bodies) w.plain.joints (collided_in w).now s.lists) is.acting (can_gather (collided_world w) is.kept)
+    subst (λ (s : Acting Constraint). CanGather (told (changed_in w).labels w.plain.bodies) w.plain.joints (collided_in w).now s.lists) is.acting (can_gather (collided_world w) is.kept)

@@ -1,4 +1,4 @@
--- A body that goes, or takes no part any more, leaves what acts settled: its ties end, and a mover leaves its island.
+-- A body that goes, or takes no part any more, leaves what acts consistent: its ties end, and a mover leaves its island.
 use Rattle.std.proofs.Common.{◌≡◌, ◌≢◌, ℕ, ◌+◌, ◌<◌, ◌==◌, Bool, true, false, not, List, [], ◌∷◌, length, Option, Some, None, is_some, refl, sym, ap, ◌∙◌, subst}
 use Rattle.std.proofs.lemmas.List.{length-set}
 use Rattle.std.specs.Prelude.{Contains, filter, slice_set}
@@ -10,7 +10,7 @@ use Rattle.contacts_base.specs.declared.contact.ContactEntry.{ContactEntry}
 use Rattle.contacts_base.specs.Contacts.{contacts_without}
 use Rattle.contacts.specs.Constraints.{constraint_number}
 use Rattle.contacts.specs.declared.constraint.Constraint.{Constraint}
-use Rattle.body_handles.specs.declared.places.Place.{Place}
+use Rattle.body_handles.specs.declared.slot_table.SlotEntry.{SlotEntry}
 use Rattle.islands.specs.declared.label.Label.{Label}
 use Rattle.islands.specs.Labels.{Labels, label_at}
 use Rattle.islands.proofs.JoinLemmas.{contains_head, contains_tail}
@@ -43,7 +43,7 @@ pub record CanGo (w : World) (slot : ℕ) : Type 0 where
 
 -- what is left once they ended
 pub record IsEnded (w : World) (slot : ℕ) (s : Acting Constraint) : Type 0 where
-  pub settled : IsConsistent constraint_number s
+  pub consistent : IsConsistent constraint_number s
   pub ties : s.ties ≡ each_without constraint_number (ties_at slot w.plain.bodies (joints_in_slots w.plain) w.plain.contacts) (ties_of w.plain.bodies (joints_in_slots w.plain) w.plain.contacts)
   pub tied : AreTied w.plain.bodies s.labels
   pub awake : (k : ℕ) → is_mover_awake w.plain.islands k ≡ true → is_mover_awake s.labels k ≡ true
@@ -53,10 +53,10 @@ unfolding acting_of
 is_ended w slot k go =
     let ms : List (Member Constraint) = ties_at slot w.plain.bodies (joints_in_slots w.plain) w.plain.contacts in
     record {
-      settled = ending_each_keeps (acting_of w.plain) ms k.settled go.can;
+      consistent = ending_each_keeps (acting_of w.plain) ms k.consistent go.can;
       ties = each_ended_ties ms (acting_of w.plain);
       tied = λ other. movers_stay.ended (acting_of w.plain) ms other ∙ k.tied other;
-      awake = awake_stay_awake.ended (acting_of w.plain) ms k.settled go.can;
+      awake = awake_stay_awake.ended (acting_of w.plain) ms k.consistent go.can;
     }
 
 -- ---- a mover goes
@@ -104,14 +104,14 @@ ended_alone w slot k go lt =
     let contacts : List ContactEntry = contacts_without slot w.plain.contacts in
     let labels : Labels = (mover_gone constraint_number slot before).labels in
     let tied : AreTied now labels = tied_beside w.plain.bodies slot None w.plain.islands labels lt k.tied (gone_here slot before) (λ j far. gone_there slot j before far ∙ is.tied j ∙ sym (k.tied j)) in
-    let same : before.ties ≡ ties_of now joints contacts = is.ties ∙ sym (going_takes_ties slot w.plain.bodies (joints_in_slots w.plain) w.plain.contacts (record { matched = k.joint_slots; places = k.joint_places }) k.contacts).1 in
+    let same : before.ties ≡ ties_of now joints contacts = is.ties ∙ sym (going_takes_ties slot w.plain.bodies (joints_in_slots w.plain) w.plain.contacts (record { matched = k.joint_slots; slot_entries = k.joint_entries }) k.contacts).1 in
     none_left (λ (m : Member Constraint). has_mover m.movers slot) before.ties (λ m h. no_mover now joints contacts labels slot m tied (ap is_mover_in (own_item w.plain.bodies slot None lt)) (subst (λ (ms : List (Member Constraint)). Contains ms m) same h))
 
 -- ---- what acts once the body is no mover any more
 
 -- the lists in which another body, or none, is in a slot, and its contacts are gone
-abbrev pub beside : ℕ → Option Body → List Place → JointSlots → Plain → Plain
-beside slot o places s w = record w { places = places; bodies = slice_set w.bodies slot o; joint_places = s.places; joints = s.joints; contacts = contacts_without slot w.contacts; calls = w.calls + 1 }
+abbrev pub beside : ℕ → Option Body → List SlotEntry → JointSlots → Plain → Plain
+beside slot o slot_entries s w = record w { slot_entries = slot_entries; bodies = slice_set w.bodies slot o; joint_entries = s.slot_entries; joints = s.joints; contacts = contacts_without slot w.contacts; calls = w.calls + 1 }
 
 -- what becomes of what acts
 pub record IsGone (w : World) (u : Plain) (s : Acting Constraint) : Type 0 where
@@ -122,24 +122,24 @@ ended_slots : (w : World) (slot : ℕ) → length (ties_ended slot w.plain).labe
 unfolding acting_of
 ended_slots w slot = each_ended_long constraint_number (ties_at slot w.plain.bodies (joints_in_slots w.plain) w.plain.contacts) (acting_of w.plain)
 
-pub gone_by : (w : World) (slot : ℕ) (o : Option Body) (places : List Place) (joints : JointSlots) (t : Bool) → IsKept w → CanGo w slot → slot < length w.plain.bodies → moves w.plain.bodies slot ≡ t → is_mover_in o ≡ false
+pub gone_by : (w : World) (slot : ℕ) (o : Option Body) (slot_entries : List SlotEntry) (joints : JointSlots) (t : Bool) → IsKept w → CanGo w slot → slot < length w.plain.bodies → moves w.plain.bodies slot ≡ t → is_mover_in o ≡ false
     → moves (slice_set w.plain.bodies slot o) slot ≡ false
     → ties_of (slice_set w.plain.bodies slot o) joints (contacts_without slot w.plain.contacts) ≡ each_without constraint_number (ties_at slot w.plain.bodies (joints_in_slots w.plain) w.plain.contacts) (ties_of w.plain.bodies (joints_in_slots w.plain) w.plain.contacts)
     → ((b : Body) → o ≡ Some b → bodies.is_awake b ≡ true → ⊥)
-    → IsGone w (beside slot o places joints w.plain) (body_gone slot t w.plain)
-gone_by w slot o places joints false k go lt e still off ties rests =
+    → IsGone w (beside slot o slot_entries joints w.plain) (body_gone slot t w.plain)
+gone_by w slot o slot_entries joints false k go lt e still off ties rests =
     let s : Acting Constraint = ties_ended slot w.plain in
     let is = is_ended w slot k go in
     record {
       acting = record {
-        settled = is.settled;
+        consistent = is.consistent;
         ties = is.ties ∙ sym ties;
         tied = tied_beside w.plain.bodies slot o w.plain.islands s.labels lt k.tied (is.tied slot ∙ e ∙ sym still) (λ j far. is.tied j ∙ sym (k.tied j));
         long = ended_slots w slot ∙ k.labels ∙ sym (length-set w.plain.bodies slot o);
       };
       awake = others_stay w slot o s.labels k (λ j far up. is.awake j up) (λ b at up. absurd (rests b at up));
     }
-gone_by w slot o places joints true k go lt e still off ties rests =
+gone_by w slot o slot_entries joints true k go lt e still off ties rests =
     let before : Acting Constraint = ties_ended slot w.plain in
     let is = is_ended w slot k go in
     let s : Acting Constraint = mover_gone constraint_number slot before in
@@ -149,7 +149,7 @@ gone_by w slot o places joints true k go lt e still off ties rests =
     let same : before.ties ≡ ties_of now joints contacts = is.ties ∙ sym ties in
     record {
       acting = record {
-        settled = going_keeps before slot is.settled (is.awake slot (go.up e));
+        consistent = going_keeps before slot is.consistent (is.awake slot (go.up e));
         ties = gone_ties slot before
             ∙ filter_same (λ (m : Member Constraint). not (has_mover m.movers slot)) before.ties (λ m h. no_mover now joints contacts s.labels slot m tied off (subst (λ (ms : List (Member Constraint)). Contains ms m) same h))
             ∙ same;

@@ -44,7 +44,7 @@ linked_movers_stand w a b x y s linked at_x at_y =
     let labels = w.plain.islands in
     let tied = s.promises.tied in
     let told = s.promises.told in
-    let one = s.promises.settled.islands.together a b linked in
+    let one = s.promises.consistent.islands.together a b linked in
     standing_mover x (mover_with w.plain.bodies labels a x one.0 tied at_x one.1)
     ∙ ap sleeping_set (told a x at_x ∙ ap sleeping_name (one.1 ∙ sym one.2) ∙ sym (told b y at_y))
     ∙ sym (standing_mover y (mover_with w.plain.bodies labels b y one.0 tied at_y one.2))
@@ -94,7 +94,7 @@ sleeping_sets_are w name slot other s at =
     let tied = s.promises.tied in
     let told = s.promises.told in
     let own : SleepsUnder (label_at labels slot) name = label_of bodies labels name slot told at in
-    let members = (sleepers_are_one_component (acting_of w.plain) slot own.label s.promises.settled own.there own.asleep).1 other in (
+    let members = (sleepers_are_one_component (acting_of w.plain) slot own.label s.promises.consistent own.there own.asleep).1 other in (
       λ h. let l : SleepsUnder (label_at labels other) name = label_of bodies labels name other told h in members.0 (l.there ∙ ap Some (same_label l.label own.label l.asleep own.asleep (l.named ∙ sym own.named))),
       λ joined. body_of bodies labels name other own.label tied told (members.1 joined) own.asleep own.named,
     )
@@ -103,7 +103,7 @@ sleeping_sets_are w name slot other s at =
 
 pub colours_are_apart : ColoursAreApart
 unfolding acting_of
-colours_are_apart w s = (s.formed.moved, s.promises.settled.colouring.apart)
+colours_are_apart w s = (s.formed.moved, s.promises.consistent.colouring.apart)
 
 named_or_not : (t : Bool) (name : ℕ) → not t ≡ is_none (cond t (Some name) None)
 named_or_not true name = refl
@@ -134,6 +134,6 @@ movers_awake_same bodies labels m tied told =
 pub what_acts_has_a_colour : WhatActsHasAColour
 unfolding acting_of
 what_acts_has_a_colour w m s =
-    let acts = s.promises.settled.acting m in
+    let acts = s.promises.consistent.acting m in
     let same = movers_awake_same w.plain.bodies w.plain.islands m.movers s.promises.tied s.promises.told in
     (λ h. let p = acts.0 h in (p.0, sym same ∙ p.1), λ h. acts.1 (h.0, same ∙ h.1))

@@ -4,7 +4,8 @@ use Rattle.std.specs.Prelude.{Contains, slice_set}
 use Rattle.std.proofs.lemmas.Option.{none-some, same_Some}
 use Rattle.graph_colours.specs.declared.member.Movers.{Movers}
 use Rattle.graph_colours.specs.declared.member.Member.{Member}
-use Rattle.graph_colours.specs.Members.{AreRising, has_id, inserted, without_member}
+use Rattle.graph_colours.specs.Members.{AreRising, inserted, without_member}
+use Rattle.graph_colours.specs.FoundMembers.{has_id}
 use Rattle.contacts.specs.Constraints.{constraint_number}
 use Rattle.contacts.specs.declared.constraint.Constraint.{Constraint}
 use Rattle.islands.specs.Labels.{Labels}
@@ -48,14 +49,14 @@ pub record IsNext (u : Plain) (s new : Acting Constraint) : Type 0 where
 
 pub next_begun : (u : Plain) (s : Acting Constraint) (ms : List (Member Constraint)) → IsConsistent constraint_number s → AreTied u.bodies s.labels → length s.labels ≡ length u.bodies → CanBegin constraint_number ms s → ties_of u.bodies (joints_in_slots u) u.contacts ≡ each_inserted constraint_number ms s.ties
     → IsNext u s (each_begun constraint_number ms s)
-next_begun u s ms settled tied long can ties = record {
+next_begun u s ms consistent tied long can ties = record {
   acting = record {
-    settled = beginning_each_keeps s ms settled can;
+    consistent = beginning_each_keeps s ms consistent can;
     ties = each_begun_ties ms s ∙ sym ties;
     tied = λ k. movers_stay.begun s ms k ∙ tied k;
     long = each_begun_long constraint_number ms s ∙ long;
   };
-  awake = awake_stay_awake.begun s ms settled can;
+  awake = awake_stay_awake.begun s ms consistent can;
 }
 
 -- ---- several end
@@ -70,14 +71,14 @@ each_ended_ties (m ∷ ms) s = each_ended_ties ms (ended constraint_number m s) 
 
 pub next_ended : (u : Plain) (s : Acting Constraint) (ms : List (Member Constraint)) → IsConsistent constraint_number s → AreTied u.bodies s.labels → length s.labels ≡ length u.bodies → CanEnd constraint_number ms s → ties_of u.bodies (joints_in_slots u) u.contacts ≡ each_without constraint_number ms s.ties
     → IsNext u s (each_ended constraint_number ms s)
-next_ended u s ms settled tied long can ties = record {
+next_ended u s ms consistent tied long can ties = record {
   acting = record {
-    settled = ending_each_keeps s ms settled can;
+    consistent = ending_each_keeps s ms consistent can;
     ties = each_ended_ties ms s ∙ sym ties;
     tied = λ k. movers_stay.ended s ms k ∙ tied k;
     long = each_ended_long constraint_number ms s ∙ long;
   };
-  awake = awake_stay_awake.ended s ms settled can;
+  awake = awake_stay_awake.ended s ms consistent can;
 }
 
 -- ---- one begins or ends
@@ -114,18 +115,18 @@ AreUp labels o = (m : Movers) → o ≡ Some m → are_awake labels m ≡ true
 pub next_begun_with : (w : World) (joints : JointSlots) (id : Constraint) (o : Option Movers) → IsKept w → has_id constraint_number id (ties_of w.plain.bodies (joints_in_slots w.plain) w.plain.contacts) ≡ false → AreUp w.plain.islands o
     → ties_of w.plain.bodies joints w.plain.contacts ≡ with_tie id o (ties_of w.plain.bodies (joints_in_slots w.plain) w.plain.contacts) → IsNext (with_joints joints w.plain) (acting_of w.plain) (begun_with id o (acting_of w.plain))
 unfolding acting_of
-next_begun_with w joints id None k fresh up ties = record { acting = record { settled = k.settled; ties = sym ties; tied = k.tied; long = k.labels }; awake = λ j h. h }
+next_begun_with w joints id None k fresh up ties = record { acting = record { consistent = k.consistent; ties = sym ties; tied = k.tied; long = k.labels }; awake = λ j h. h }
 next_begun_with w joints id (Some m) k fresh up ties =
     let member : Member Constraint = record { id = id; movers = m } in
-    next_begun (with_joints joints w.plain) (acting_of w.plain) (member ∷ []) k.settled k.tied k.labels (one_can_begin member (acting_of w.plain) fresh (up m refl)) ties
+    next_begun (with_joints joints w.plain) (acting_of w.plain) (member ∷ []) k.consistent k.tied k.labels (one_can_begin member (acting_of w.plain) fresh (up m refl)) ties
 
 pub next_ended_with : (w : World) (joints : JointSlots) (id : Constraint) (o : Option Movers) → IsKept w → ((m : Movers) → o ≡ Some m → Contains (ties_of w.plain.bodies (joints_in_slots w.plain) w.plain.contacts) (record { id = id; movers = m })) → AreUp w.plain.islands o
     → ties_of w.plain.bodies joints w.plain.contacts ≡ without_tie id o (ties_of w.plain.bodies (joints_in_slots w.plain) w.plain.contacts) → IsNext (with_joints joints w.plain) (acting_of w.plain) (ended_with id o (acting_of w.plain))
 unfolding acting_of
-next_ended_with w joints id None k there up ties = record { acting = record { settled = k.settled; ties = sym ties; tied = k.tied; long = k.labels }; awake = λ j h. h }
+next_ended_with w joints id None k there up ties = record { acting = record { consistent = k.consistent; ties = sym ties; tied = k.tied; long = k.labels }; awake = λ j h. h }
 next_ended_with w joints id (Some m) k there up ties =
     let member : Member Constraint = record { id = id; movers = m } in
-    next_ended (with_joints joints w.plain) (acting_of w.plain) (member ∷ []) k.settled k.tied k.labels (one_can_end member (acting_of w.plain) (there m refl) (up m refl)) ties
+    next_ended (with_joints joints w.plain) (acting_of w.plain) (member ∷ []) k.consistent k.tied k.labels (one_can_end member (acting_of w.plain) (there m refl) (up m refl)) ties
 
 -- ---- the movers of two bodies that were woken
 
@@ -164,9 +165,9 @@ joints_put w joints s k slots are next =
       filters = l.filters;
       timers = l.timers;
       matched = l.matched;
-      places = l.places;
+      slot_entries = l.slot_entries;
       joint_slots = slots.matched;
-      joint_places = slots.places;
+      joint_entries = slots.slot_entries;
       joints = are;
       contacts = l.contacts;
       pairs = l.pairs;

@@ -8,8 +8,8 @@ use Rattle.std.proofs.lemmas.Option.{none-some, same_Some}
 use Rattle.fixed_geom.specs.Vectors.{IsWithin, opposite, zero_vector}
 use Rattle.fixed_geom.specs.declared.vectors.Vec2.{Vec2}
 use Rattle.body_handles.specs.declared.handle.Handle.{Handle}
-use Rattle.body_handles.specs.declared.places.Place.{Place}
-use Rattle.body_handles.specs.Places.{IsPlace, places_without}
+use Rattle.body_handles.specs.declared.slot_table.SlotEntry.{SlotEntry}
+use Rattle.body_handles.specs.SlotEntries.{IsSlotEntry, slot_entries_without}
 use Rattle.impulse_ledger.specs.declared.entry.Cause.TheVariants as causes
 use Rattle.islands.specs.declared.label.Label.{Label}
 use Rattle.islands.specs.Labels.{label_at}
@@ -55,7 +55,7 @@ use Rattle.world_rules.proofs.ToldLaws.{NobodyFallsAsleep, body_told, told_is, t
 -- nobody falls asleep where islands wake
 pub none_sleep_more : (w : World) (slots : List ℕ) → IsKept w → (slot : ℕ) → acting.is_mover_awake w.plain.islands slot ≡ true → acting.is_mover_awake (with_woken w.plain slots).islands slot ≡ true
 unfolding acting_of
-none_sleep_more w slots k = awake_stay_awake.waking (acting_of w.plain) (sleeping_names w.plain.islands slots) k.settled
+none_sleep_more w slots k = awake_stay_awake.waking (acting_of w.plain) (sleeping_names w.plain.islands slots) k.consistent
 
 -- the body once islands were woken
 pub record IsSeen (w : World) (slots : List ℕ) (slot : ℕ) (b : Body) : Type 0 where
@@ -93,10 +93,10 @@ opposite_le : (v : Vec2) (n : ℕ) → IsWithin n v → IsWithin n (opposite v)
 opposite_le v n h = record { x = omega (arith, ints, h.x); y = omega (arith, ints, h.y) }
 
 -- the body b has left, and its momentum with it
-out_lists : (w : World) (slot : ℕ) (b c : Body) (o : Option Body) (places : List Place) (joints : JointSlots) → IsKept w → w.plain.calls < 2 ^ 40 → body_at w.plain.bodies slot ≡ Some c → momentum_in (Some c) ≡ momentum_in (Some b) → IsBody b
-    → IsOut w.plain.steps o → AreMatched places (slice_set w.plain.bodies slot o) → All IsPlace places → AreJointSlots joints → AreJoints (slice_set w.plain.bodies slot o) joints.joints
-    → AreLists (record w { plain = beside slot o places joints w.plain; entries = w.entries ++ departed (w.plain.calls + 1) b })
-out_lists w slot b c o places joints k few at same body out matched generations slots are =
+out_lists : (w : World) (slot : ℕ) (b c : Body) (o : Option Body) (slot_entries : List SlotEntry) (joints : JointSlots) → IsKept w → w.plain.calls < 2 ^ 40 → body_at w.plain.bodies slot ≡ Some c → momentum_in (Some c) ≡ momentum_in (Some b) → IsBody b
+    → IsOut w.plain.steps o → AreMatched slot_entries (slice_set w.plain.bodies slot o) → All IsSlotEntry slot_entries → AreJointSlots joints → AreJoints (slice_set w.plain.bodies slot o) joints.joints
+    → AreLists (record w { plain = beside slot o slot_entries joints w.plain; entries = w.entries ++ departed (w.plain.calls + 1) b })
+out_lists w slot b c o slot_entries joints k few at same body out matched generations slots are =
     let bodies = w.plain.bodies in
     let call : ℕ = w.plain.calls + 1 in
     let lt : slot < length bodies = below_length bodies slot c at in
@@ -113,9 +113,9 @@ out_lists w slot b c o places joints k few at same body out matched generations 
       filters = filters_set bodies slot o out.filters k.filters;
       timers = timers_beside w.plain.steps bodies slot o lt out.timer k.timers;
       matched = matched;
-      places = generations;
+      slot_entries = generations;
       joint_slots = slots.matched;
-      joint_places = slots.places;
+      joint_entries = slots.slot_entries;
       joints = are;
       contacts = keys_beside slot w.plain.contacts k.contacts;
       pairs = contacts_beside bodies slot o w.plain.contacts k.pairs;
@@ -148,7 +148,7 @@ none_out steps = record { body = λ b e. absurd (none-some b e); filters = λ b 
 
 -- the world in which the body isn't there any more, before what acts is put into it
 abbrev pub destroyed_lists : World → Handle → Body → World
-destroyed_lists w h b = record w { plain = beside h.slot None (places_without w.plain.places h) (unjoined_all h.slot (joints_in_slots w.plain)) (stirred w.plain h.slot); entries = w.entries ++ departed (w.plain.calls + 1) b }
+destroyed_lists w h b = record w { plain = beside h.slot None (slot_entries_without w.plain.slot_entries h) (unjoined_all h.slot (joints_in_slots w.plain)) (stirred w.plain h.slot); entries = w.entries ++ departed (w.plain.calls + 1) b }
 
 pub destroy_put : (w : World) (h : Handle) (b : Body) → IsKept w → w.plain.calls < 2 ^ 40 → body_named w.plain h ≡ Some b → IsPut (destroyed_lists w h b) (body_gone h.slot (is_mover b) (stirred w.plain h.slot))
 destroy_put w h b k few named =
@@ -160,14 +160,14 @@ destroy_put w h b k few named =
     let now = seen w slots slot b k at in
     let lt : slot < length v.plain.bodies = below_length v.plain.bodies slot now.body now.at in
     let joints : JointSlots = unjoined_all slot (joints_in_slots v.plain) in
-    let places : List Place = places_without w.plain.places h in
+    let slot_entries : List SlotEntry = slot_entries_without w.plain.slot_entries h in
     let went = going_takes_ties slot v.plain.bodies (joints_in_slots v.plain) v.plain.contacts (joint_slots_of v wk.kept) wk.kept.contacts in
     let out : IsOut v.plain.steps None = none_out v.plain.steps in
-    let gone = gone_by v slot None places joints (is_mover b) wk.kept (stirred_can_go w slot k) lt (wk.alike.movers slot ∙ ap is_mover_in at) refl
+    let gone = gone_by v slot None slot_entries joints (is_mover b) wk.kept (stirred_can_go w slot k) lt (wk.alike.movers slot ∙ ap is_mover_in at) refl
     (ap is_mover_in (own_item v.plain.bodies slot None lt)) went.1 (out_rests v.plain.steps None out) in
-    let lists = out_lists v slot b now.body None places joints wk.kept few now.at now.momentum (k.bodies slot b (body_at-in w.plain.bodies slot b at)) out
-    (AreMatched-set w.plain.places v.plain.bodies slot _ None refl wk.kept.matched) (places_freed w.plain.places h k.places (live_body w.plain h b named)) went.0 (joints_beside v.plain.bodies slot None (joints_in_slots v.plain) wk.kept.joints) in
-    both_put (record v { plain = beside slot None places joints v.plain; entries = w.entries ++ departed (w.plain.calls + 1) b }) (body_gone slot (is_mover b) v.plain) lists gone.acting gone.awake
+    let lists = out_lists v slot b now.body None slot_entries joints wk.kept few now.at now.momentum (k.bodies slot b (body_at-in w.plain.bodies slot b at)) out
+    (AreMatched-set w.plain.slot_entries v.plain.bodies slot _ None refl wk.kept.matched) (places_freed w.plain.slot_entries h k.slot_entries (live_body w.plain h b named)) went.0 (joints_beside v.plain.bodies slot None (joints_in_slots v.plain) wk.kept.joints) in
+    both_put (record v { plain = beside slot None slot_entries joints v.plain; entries = w.entries ++ departed (w.plain.calls + 1) b }) (body_gone slot (is_mover b) v.plain) lists gone.acting gone.awake
 
 pub destroy_kept : (w : World) (h : Handle) (b : Body) → IsKept w → w.plain.calls < 2 ^ 40 → body_named w.plain h ≡ Some b → IsKept (world_with w (destroyed w.plain h b))
 destroy_kept w h b k few named = (destroy_put w h b k few named).kept
@@ -218,7 +218,7 @@ disabled_out steps b is filters short = record {
 
 -- the lists in which another body takes the place of one that is disabled
 abbrev pub part_lists : World → Handle → Body → Option Body → World
-part_lists w h b o = record w { plain = beside h.slot o w.plain.places (slots_of w.plain.joint_places (idle_joints h.slot w.plain.joints)) (stirred w.plain h.slot); entries = w.entries ++ departed (w.plain.calls + 1) b }
+part_lists w h b o = record w { plain = beside h.slot o w.plain.slot_entries (slots_of w.plain.joint_entries (idle_joints h.slot w.plain.joints)) (stirred w.plain h.slot); entries = w.entries ++ departed (w.plain.calls + 1) b }
 
 out_put : (w : World) (h : Handle) (b : Body) → IsKept w → w.plain.calls < 2 ^ 40 → (at : body_at w.plain.bodies h.slot ≡ Some b) → (now : IsSeen w (stirred_by w.plain.bodies w.plain.joints w.plain.contacts h.slot) h.slot b) → IsPut (part_lists w h b (Some (disabled_body now.body))) (body_gone h.slot (is_mover b) (stirred w.plain h.slot))
 out_put w h b k few at now =
@@ -228,18 +228,18 @@ out_put w h b k few at now =
     let v : World = record w { plain = stirred w.plain slot } in
     let o : Option Body = Some (disabled_body now.body) in
     let lt : slot < length v.plain.bodies = below_length v.plain.bodies slot now.body now.at in
-    let joints : JointSlots = slots_of w.plain.joint_places (idle_joints slot w.plain.joints) in
+    let joints : JointSlots = slots_of w.plain.joint_entries (idle_joints slot w.plain.joints) in
     let is : IsBody now.body = wk.kept.bodies slot now.body (body_at-in v.plain.bodies slot now.body now.at) in
     let out : IsOut v.plain.steps o = disabled_out v.plain.steps now.body is (wk.kept.filters slot now.body now.at) (wk.kept.timers slot now.body now.at) in
     let went = disabling_takes_ties slot v.plain.bodies (slice_set v.plain.bodies slot o) (joints_in_slots v.plain) (idle_joints slot v.plain.joints) v.plain.contacts (joint_slots_of v wk.kept) wk.kept.contacts
     (alike_beside v.plain.bodies slot o) (ap is_enabled_in (own_item v.plain.bodies slot o lt)) (idle_ends slot v.plain.joints) in
-    let gone = gone_by v slot o w.plain.places joints (is_mover b) wk.kept (stirred_can_go w slot k) lt (wk.alike.movers slot ∙ ap is_mover_in at) refl
+    let gone = gone_by v slot o w.plain.slot_entries joints (is_mover b) wk.kept (stirred_can_go w slot k) lt (wk.alike.movers slot ∙ ap is_mover_in at) refl
     (ap is_mover_in (own_item v.plain.bodies slot o lt)) went (out_rests v.plain.steps o out) in
-    let lists = out_lists v slot b now.body o w.plain.places joints wk.kept few now.at now.momentum (k.bodies slot b (body_at-in w.plain.bodies slot b at)) out
-    (matched_beside w.plain.places v.plain.bodies slot now.body (disabled_body now.body) now.at wk.kept.matched) k.places
-    (record { matched = idle_matched w.plain.joint_places slot w.plain.joints k.joint_slots; places = k.joint_places })
+    let lists = out_lists v slot b now.body o w.plain.slot_entries joints wk.kept few now.at now.momentum (k.bodies slot b (body_at-in w.plain.bodies slot b at)) out
+    (matched_beside w.plain.slot_entries v.plain.bodies slot now.body (disabled_body now.body) now.at wk.kept.matched) k.slot_entries
+    (record { matched = idle_matched w.plain.joint_entries slot w.plain.joints k.joint_slots; slot_entries = k.joint_entries })
     (joints_taken v.plain.bodies (slice_set v.plain.bodies slot o) (idle_joints slot v.plain.joints) (taken_beside v.plain.bodies slot now.body (disabled_body now.body) now.at) (joints_idle v.plain.bodies slot v.plain.joints wk.kept.joints)) in
-    both_put (record v { plain = beside slot o w.plain.places joints v.plain; entries = w.entries ++ departed (w.plain.calls + 1) b }) (body_gone slot (is_mover b) v.plain) lists gone.acting gone.awake
+    both_put (record v { plain = beside slot o w.plain.slot_entries joints v.plain; entries = w.entries ++ departed (w.plain.calls + 1) b }) (body_gone slot (is_mover b) v.plain) lists gone.acting gone.awake
 
 -- the body as it is once islands were woken
 abbrev pub woken_disabled : World → Handle → Option Body

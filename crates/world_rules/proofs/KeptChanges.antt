@@ -11,7 +11,7 @@ use Rattle.fixed_geom.specs.Vectors.{IsWithin, cross, is_within, plus, zero_vect
 use Rattle.fixed_geom.specs.declared.vectors.Vec2.{Vec2}
 use Rattle.fixed_geom.specs.declared.refusal.Refusal.TheVariants.{OutOfRange, NotAMover, NotKinematic, BodyDisabled, TooFast}
 use Rattle.body_handles.specs.declared.handle.Handle.{Handle}
-use Rattle.body_handles.specs.Places.{is_live}
+use Rattle.body_handles.specs.SlotEntries.{is_live}
 use Rattle.momenta.specs.Impulses.{turned_by}
 use Rattle.momenta.specs.declared.motion.Momenta.{Momenta}
 use Rattle.shapes.specs.Poses.{IsPose}
@@ -115,10 +115,10 @@ changed_lists w slot b c x y call why s few is =
       bodies = AreBodies-set bodies slot (Some c) s.bodies (λ d f. let same : c ≡ d = cc in subst IsBody same is.body);
       filters = filters_same bodies (slice_set bodies slot (Some c)) shapes s.filters;
       timers = timers_set bodies slot w.plain.steps c (omega (arith, old_timer, same_timer)) s.timers;
-      matched = AreMatched-same w.plain.places bodies _ slots s.matched;
-      places = s.places;
+      matched = AreMatched-same w.plain.slot_entries bodies _ slots s.matched;
+      slot_entries = s.slot_entries;
       joint_slots = s.joint_slots;
-      joint_places = s.joint_places;
+      joint_entries = s.joint_entries;
       joints = joints_same bodies (slice_set bodies slot (Some c)) w.plain.joints slots s.joints;
       contacts = s.contacts;
       pairs = contacts_of_same bodies (slice_set bodies slot (Some c)) w.plain.contacts moves s.pairs;
@@ -129,9 +129,9 @@ changed_lists w slot b c x y call why s few is =
     }
 
 -- what acts of a world doesn't depend on its gravity, and on its numbers of steps and calls
-pub settled_later : (w : Plain) (g : Vec2) (steps calls : ℕ) → IsConsistent constraint_number (acting_of w) → IsConsistent constraint_number (acting_of (record w { gravity = g; steps = steps; calls = calls }))
+pub consistent_later : (w : Plain) (g : Vec2) (steps calls : ℕ) → IsConsistent constraint_number (acting_of w) → IsConsistent constraint_number (acting_of (record w { gravity = g; steps = steps; calls = calls }))
 unfolding acting_of
-settled_later w g steps calls s = s
+consistent_later w g steps calls s = s
 
 pub changed_kept : (w : World) (slot : ℕ) (b c : Body) (x y : ℤ) (call : ℕ) (why : Cause) → IsKept w → w.plain.calls < 2 ^ 40 → IsChanged w.plain.bodies slot b c x y
     → IsKept (record w { plain = record w.plain { bodies = slice_set w.plain.bodies slot (Some c); calls = w.plain.calls + 1 }; entries = w.entries ++ booked call why x y })
@@ -141,7 +141,7 @@ changed_kept w slot b c x y call why s few is =
     let same = alike_acting w new s alike in
     kept_of (record w { plain = record w.plain { bodies = new; calls = w.plain.calls + 1 }; entries = w.entries ++ booked call why x y })
     (changed_lists w slot b c x y call why s few is)
-    (settled_later (record w.plain { bodies = new }) w.plain.gravity w.plain.steps (w.plain.calls + 1) (subst (IsConsistent constraint_number) (sym same) s.settled))
+    (consistent_later (record w.plain { bodies = new }) w.plain.gravity w.plain.steps (w.plain.calls + 1) (subst (IsConsistent constraint_number) (sym same) s.consistent))
     (tied_alike w.plain.bodies new w.plain.islands alike s.tied)
     (told_set w.plain.bodies slot b c w.plain.islands is.at is.asleep s.told)
     (s.labels ∙ sym (length-set w.plain.bodies slot (Some c)))
@@ -172,7 +172,7 @@ found_at false o b e = cc
 
 -- a body that is named is there
 pub named_at : (w : Plain) (h : Handle) (b : Body) → body_named w h ≡ Some b → body_at w.bodies h.slot ≡ Some b
-named_at w h b e = found_at (is_live w.places h) (body_at w.bodies h.slot) b e
+named_at w h b e = found_at (is_live w.slot_entries h) (body_at w.bodies h.slot) b e
 
 -- what is known of a body in a world in which some islands were woken first: it is the body that was there, but for its momenta and its sleep
 pub record IsThere (w : World) (movers : List ℕ) (slot : ℕ) (b : Body) : Type 0 where
@@ -249,8 +249,8 @@ pushed_from (Some b) j r m e =
     }
 
 -- a body that doesn't turn has no angular momentum after a push either
-still_turned : (inertia l moment : ℤ) → (inertia ≡ pos 0 → l ≡ pos 0) → inertia ≡ pos 0 → turned_by inertia l moment ≡ pos 0
-still_turned inertia l moment still e = rw e (still e)
+still_changed : (inertia l moment : ℤ) → (inertia ≡ pos 0 → l ≡ pos 0) → inertia ≡ pos 0 → turned_by inertia l moment ≡ pos 0
+still_changed inertia l moment still e = rw e (still e)
 
 -- an awake mover with other momenta is still a body
 IsBody-put : (b : Body) (j r : Vec2) (m : Momenta) → IsBody b → is_awake b ≡ true → m ≡ with_impulse j r b → IsWithin (2 ^ 60) m.p → unsigned_abs m.l ≤ 2 ^ 90 → IsBody (put_momenta m b)
@@ -259,7 +259,7 @@ IsBody-put b j r m is awake sum small turns = record {
   motion = record {
     p = small;
     l = turns;
-    still = λ e. ap (λ (n : Momenta). n.l) sum ∙ still_turned b.mass.inertia b.motion.l (cross r j) is.motion.still e;
+    still = λ e. ap (λ (n : Momenta). n.l) sum ∙ still_changed b.mass.inertia b.motion.l (cross r j) is.motion.still e;
     x = is.motion.x;
     facing = is.motion.facing;
   };
@@ -295,7 +295,7 @@ pushed_changed bodies slot b j r m at is mover awake sum push small turns = reco
 -- the island of a mover that was woken by name is awake
 named_awake : (w : World) (slot : ℕ) → IsKept w → is_some (label_at w.plain.islands slot) ≡ true → acting.is_mover_awake (with_woken w.plain (slot ∷ [])).islands slot ≡ true
 unfolding acting_of
-named_awake w slot k some = the_named_are_awake (acting_of w.plain) (slot ∷ []) slot k.settled (Contains-push [] slot) some
+named_awake w slot k some = the_named_are_awake (acting_of w.plain) (slot ∷ []) slot k.consistent (Contains-push [] slot) some
 
 awake_if : (m : Bool) (a : Option ℕ) → m ≡ true → a ≡ None → cond m (is_none a) false ≡ true
 awake_if true None e f = refl
@@ -492,9 +492,9 @@ lists_later w g l few small = record {
   filters = l.filters;
   timers = l.timers;
   matched = l.matched;
-  places = l.places;
+  slot_entries = l.slot_entries;
   joint_slots = l.joint_slots;
-  joint_places = l.joint_places;
+  joint_entries = l.joint_entries;
   joints = l.joints;
   contacts = l.contacts;
   pairs = l.pairs;
@@ -506,7 +506,7 @@ lists_later w g l few small = record {
 
 pub gravity_kept : (w : World) (g : Vec2) → IsKept w → w.plain.calls < 2 ^ 40 → IsWithin (2 ^ 16) g → IsKept (record w { plain = counted (record w.plain { gravity = g }) })
 gravity_kept w g k few small =
-    kept_of (record w { plain = counted (record w.plain { gravity = g }) }) (lists_later w g (lists_kept w k) few small) (settled_later w.plain g w.plain.steps (w.plain.calls + 1) k.settled) k.tied k.told k.labels k.moved
+    kept_of (record w { plain = counted (record w.plain { gravity = g }) }) (lists_later w g (lists_kept w k) few small) (consistent_later w.plain g w.plain.steps (w.plain.calls + 1) k.consistent) k.tied k.told k.labels k.moved
 
 -- one call more
 pub counted_kept : (w : World) → IsKept w → w.plain.calls < 2 ^ 40 → IsKept (record w { plain = counted w.plain })

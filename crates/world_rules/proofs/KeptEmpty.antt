@@ -4,7 +4,7 @@ use Rattle.std.proofs.lemmas.List.Elements.{All-nil, All-replicate}
 use Rattle.std.proofs.lemmas.Option.{none-some}
 use Rattle.fixed_geom.specs.Vectors.{IsWithin}
 use Rattle.fixed_geom.specs.declared.vectors.Vec2.{Vec2}
-use Rattle.body_handles.specs.Places.{IsPlace}
+use Rattle.body_handles.specs.SlotEntries.{IsSlotEntry}
 use Rattle.impulse_ledger.specs.declared.entry.Cause.{Cause}
 use Rattle.impulse_ledger.specs.declared.entry.Cause.TheVariants as causes
 use Rattle.impulse_ledger.specs.Sums.{total_of}
@@ -41,9 +41,9 @@ no_colours = record {
   once = λ n. omega arith;
 }
 
-empty_settled : (g : Vec2) → IsConsistent constraint_number (acting_of (empty_world g).plain)
+empty_consistent : (g : Vec2) → IsConsistent constraint_number (acting_of (empty_world g).plain)
 unfolding acting_of ties_of members_of
-empty_settled g = empty_is_consistent (replicate (COLOURS + 1) []) no_colours refl
+empty_consistent g = empty_is_consistent (replicate (COLOURS + 1) []) no_colours refl
 
 empty_moved : (g : Vec2) → ids_of (members_of (empty_world g).plain.bodies (joints_in_slots (empty_world g).plain) (empty_world g).plain.colours) ≡ (empty_world g).plain.colours
 unfolding members_of
@@ -58,14 +58,14 @@ empty_kept g h = record {
   filters = λ slot b e. absurd (none-some b e);
   timers = λ slot b e. absurd (none-some b e);
   matched = record { slots = refl; few = omega arith; taken = λ slot. refl };
-  places = All-nil IsPlace;
+  slot_entries = All-nil IsSlotEntry;
   joint_slots = record { slots = refl; few = omega arith; taken = λ slot. refl };
-  joint_places = All-nil IsPlace;
+  joint_entries = All-nil IsSlotEntry;
   joints = λ slot j at. absurd (none-some j at);
   contacts = search rules;
   pairs = All-nil (IsContactOf []);
   there = All-nil (HasBodies []);
-  settled = empty_settled g;
+  consistent = empty_consistent g;
   tied = λ slot. refl;
   told = λ slot b e. absurd (none-some b e);
   labels = refl;

@@ -4,7 +4,7 @@ use Rattle.std.specs.Prelude.{Contains, option_map, slice_set}
 use Rattle.std.specs.Option.{is_none}
 use Rattle.fixed_geom.specs.Vectors.{zero_vector}
 use Rattle.fixed_geom.specs.declared.vectors.Vec2.{Vec2}
-use Rattle.graph_colours.specs.Members.{has_id}
+use Rattle.graph_colours.specs.FoundMembers.{has_id}
 use Rattle.std.proofs.lemmas.Bool.{cases_eq, false≢true}
 use Rattle.std.proofs.lemmas.Int.{ints}
 use Rattle.std.proofs.lemmas.List.{length-set}
@@ -48,7 +48,7 @@ use Rattle.world_rules.proofs.BesideLaws.{alike_beside, joints_taken, matched_be
 use Rattle.world_rules.proofs.EnableLaws.{IsMoverOf, joints_among, joints_move}
 use Rattle.world_rules.proofs.JoinLaws.{IsNext, next_begun}
 use Rattle.world_rules.proofs.KeptChanges.{IsThere, counted_kept, named_at, still_there}
-use Rattle.world_rules.proofs.KeptMade.{come_beside, come_here, come_long, come_others, come_own, come_settled, come_ties, contacts_enabled}
+use Rattle.world_rules.proofs.KeptMade.{come_beside, come_here, come_long, come_others, come_own, come_consistent, come_ties, contacts_enabled}
 use Rattle.world_rules.proofs.ShapeLaws.{filters_set}
 use Rattle.solver_sets.proofs.SlotLemmas.{below_length, item_at-set_other, none_if}
 use Rattle.world_rules.proofs.SlotLemmas.{AreBodies-set, body_at-in, momentum-set}
@@ -164,10 +164,10 @@ part_lists w slot b k at off =
       bodies = AreBodies-set old slot (Some c) k.bodies (λ d e. subst IsBody (same_Some c d e) (enabled_is b is off));
       filters = filters_set old slot (Some c) (λ d e. subst (λ (a : Body). HaveFilters a.shapes) (same_Some c d e) (k.filters slot b at)) k.filters;
       timers = timers_beside w.plain.steps old slot (Some c) lt (λ d e. subst (λ (a : Body). a.timer ≤ 8 * w.plain.steps) (same_Some c d e) (timer_le (is_dynamic b.kind) b.timer (8 * w.plain.steps) (k.timers slot b at))) k.timers;
-      matched = matched_beside w.plain.places old slot b c at k.matched;
-      places = k.places;
+      matched = matched_beside w.plain.slot_entries old slot b c at k.matched;
+      slot_entries = k.slot_entries;
       joint_slots = k.joint_slots;
-      joint_places = k.joint_places;
+      joint_entries = k.joint_entries;
       joints = joints_taken old (slice_set old slot (Some c)) w.plain.joints (taken_beside old slot b c at) k.joints;
       contacts = k.contacts;
       pairs = all_of (IsBetweenEnabled old) (IsContactOf old) (IsContactOf (slice_set old slot (Some c))) w.plain.contacts (λ e on h. contact_stays old slot (Some c) e without on h) between k.pairs;
@@ -221,7 +221,7 @@ up_plain w slot o = record (with_woken w.plain (joined_to w.plain.bodies w.plain
 
 -- what is known of the joints of a body that is enabled, before they begin
 pub record CanStart (w : World) (slot : ℕ) (c : Body) : Type 0 where
-  pub settled : IsConsistent constraint_number (up_acting w slot c)
+  pub consistent : IsConsistent constraint_number (up_acting w slot c)
   pub tied : AreTied (up_bodies w slot (Some c)) (up_acting w slot c).labels
   pub long : length (up_acting w slot c).labels ≡ length (up_bodies w slot (Some c))
   pub can : CanBegin constraint_number (joint_ties_at slot (up_bodies w slot (Some c)) (joints_in_slots w.plain)) (up_acting w slot c)
@@ -245,7 +245,7 @@ can_start w slot b k at off =
     let up : IsUp v slot c s.labels = come_up v slot c in
     let ms : List (Member Constraint) = joint_ties_at slot new (joints_in_slots v.plain) in
     record {
-      settled = come_settled (is_mover c) slot (acting_of v.plain) wk.kept.settled none;
+      consistent = come_consistent (is_mover c) slot (acting_of v.plain) wk.kept.consistent none;
       tied = tied_beside old slot (Some c) v.plain.islands s.labels lt wk.kept.tied (come_here (is_mover c) slot (acting_of v.plain) none) (λ j far. come_beside (is_mover c) slot j (acting_of v.plain) far);
       long = come_long (is_mover c) slot (acting_of v.plain) (subst (λ (n : ℕ). slot < n) (sym wk.kept.labels) lt) ∙ wk.kept.labels ∙ sym (length-set old slot (Some c));
       can = record {
@@ -261,7 +261,7 @@ up_next : (w : World) (slot : ℕ) (b : Body) → IsKept w → body_at (with_wok
 up_next w slot b k at off =
     let c : Body = enabled_body b in
     let start : CanStart w slot c = can_start w slot b k at off in
-    next_begun (up_plain w slot (Some c)) (up_acting w slot c) (joint_ties_at slot (up_bodies w slot (Some c)) (joints_in_slots w.plain)) start.settled start.tied start.long start.can start.ties
+    next_begun (up_plain w slot (Some c)) (up_acting w slot c) (joint_ties_at slot (up_bodies w slot (Some c)) (joints_in_slots w.plain)) start.consistent start.tied start.long start.can start.ties
 
 -- ---- Enable
 

@@ -6,8 +6,8 @@ use Rattle.std.proofs.lemmas.Grind.{common_steps}
 use Rattle.std.proofs.lemmas.Int.{ints}
 use Rattle.std.proofs.lemmas.Option.{none-some}
 use Rattle.body_handles.specs.declared.handle.Handle.{Handle}
-use Rattle.body_handles.specs.declared.places.TheConstants.{MAX_SLOTS}
-use Rattle.body_handles.specs.Places.{IsLive, is_live, lowest}
+use Rattle.body_handles.specs.declared.slot_table.TheConstants.{MAX_SLOTS}
+use Rattle.body_handles.specs.SlotEntries.{IsLive, is_live, lowest}
 use Rattle.fixed_geom.specs.Vectors.{IsWithin, is_within}
 use Rattle.fixed_geom.specs.declared.vectors.Vec2.{Vec2}
 use Rattle.fixed_geom.specs.declared.refusal.Refusal.{Refusal}
@@ -48,28 +48,28 @@ still_joint w slots j k is = let wk : IsWoken w slots = waking_kept w slots k in
 
 -- ---- CreateJoint
 
-pub joint_come_put : (w : World) (j : BodyJoint) → IsKept w → lowest w.plain.joint_places < MAX_SLOTS → IsBodyJoint w.plain.bodies j
+pub joint_come_put : (w : World) (j : BodyJoint) → IsKept w → lowest w.plain.joint_entries < MAX_SLOTS → IsBodyJoint w.plain.bodies j
     → IsPut (record w { plain = with_joints (joined_with j (joints_in_slots w.plain)) (with_woken w.plain (j.a ∷ j.b ∷ [])) })
-    (begun_with (Joint (handle_at w.plain.joint_places (lowest w.plain.joint_places))) (joint_movers (with_woken w.plain (j.a ∷ j.b ∷ [])).bodies j) (acting_of (with_woken w.plain (j.a ∷ j.b ∷ []))))
+    (begun_with (Joint (handle_at w.plain.joint_entries (lowest w.plain.joint_entries))) (joint_movers (with_woken w.plain (j.a ∷ j.b ∷ [])).bodies j) (acting_of (with_woken w.plain (j.a ∷ j.b ∷ []))))
 unfolding acting_of
 joint_come_put w j k free is =
     let slots : List ℕ = j.a ∷ j.b ∷ [] in
     let wk : IsWoken w slots = waking_kept w slots k in
     let v : World = record w { plain = with_woken w.plain slots } in
-    let h : Handle = handle_at w.plain.joint_places (lowest w.plain.joint_places) in
+    let h : Handle = handle_at w.plain.joint_entries (lowest w.plain.joint_entries) in
     let joints : JointSlots = joined_with j (joints_in_slots v.plain) in
     let come = joining_adds_ties v.plain.bodies (joints_in_slots v.plain) v.plain.contacts j (joint_slots_of v wk.kept) wk.kept.contacts free in
     let next = next_begun_with v joints (Joint h) (joint_movers v.plain.bodies j) wk.kept come.fresh (joint_up w j k) come.ties in
     joints_put v joints (begun_with (Joint h) (joint_movers v.plain.bodies j) (acting_of v.plain)) wk.kept come.slots
-    (joints_with v.plain.bodies w.plain.joints (lowest w.plain.joint_places) j (still_joint w slots j k is) wk.kept.joints) next
+    (joints_with v.plain.bodies w.plain.joints (lowest w.plain.joint_entries) j (still_joint w slots j k is) wk.kept.joints) next
 
-pub joint_come_kept : (w : World) (j : BodyJoint) → IsKept w → lowest w.plain.joint_places < MAX_SLOTS → IsBodyJoint w.plain.bodies j
-    → IsKept (record w { plain = joint_come (handle_at w.plain.joint_places (lowest w.plain.joint_places)) j (with_woken w.plain (j.a ∷ j.b ∷ [])) })
+pub joint_come_kept : (w : World) (j : BodyJoint) → IsKept w → lowest w.plain.joint_entries < MAX_SLOTS → IsBodyJoint w.plain.bodies j
+    → IsKept (record w { plain = joint_come (handle_at w.plain.joint_entries (lowest w.plain.joint_entries)) j (with_woken w.plain (j.a ∷ j.b ∷ [])) })
 joint_come_kept w j k free is = (joint_come_put w j k free is).kept
 
-pub join_kept : (w : World) (j : BodyJoint) → IsKept w → w.plain.calls < 2 ^ 40 → lowest w.plain.joint_places < MAX_SLOTS → IsBodyJoint w.plain.bodies j
-    → IsKept (record w { plain = counted (joint_come (handle_at w.plain.joint_places (lowest w.plain.joint_places)) j (with_woken w.plain (j.a ∷ j.b ∷ []))) })
-join_kept w j k few free is = counted_kept (record w { plain = joint_come (handle_at w.plain.joint_places (lowest w.plain.joint_places)) j (with_woken w.plain (j.a ∷ j.b ∷ [])) }) (joint_come_kept w j k free is) few
+pub join_kept : (w : World) (j : BodyJoint) → IsKept w → w.plain.calls < 2 ^ 40 → lowest w.plain.joint_entries < MAX_SLOTS → IsBodyJoint w.plain.bodies j
+    → IsKept (record w { plain = counted (joint_come (handle_at w.plain.joint_entries (lowest w.plain.joint_entries)) j (with_woken w.plain (j.a ∷ j.b ∷ []))) })
+join_kept w j k few free is = counted_kept (record w { plain = joint_come (handle_at w.plain.joint_entries (lowest w.plain.joint_entries)) j (with_woken w.plain (j.a ∷ j.b ∷ [])) }) (joint_come_kept w j k free is) few
 
 -- what the tests of a joint say
 first_of : (a b : Bool) → (a && b) ≡ true → a ≡ true
@@ -130,10 +130,10 @@ named_joint true o j e = (refl, e)
 named_joint false o j e = absurd (none-some j e)
 
 -- a joint that is named is live, and there
-pub live_joint : (w : World) (h : Handle) (j : BodyJoint) → joint_of w.plain.joint_places w.plain.joints h ≡ Some j → IsLive w.plain.joint_places h × (joint_at w.plain.joints h.slot ≡ Some j)
-live_joint w h j named = let is = named_joint (is_live w.plain.joint_places h) (joint_at w.plain.joints h.slot) j named in (live_at (slice_get w.plain.joint_places h.slot) h.generation is.0, is.1)
+pub live_joint : (w : World) (h : Handle) (j : BodyJoint) → joint_of w.plain.joint_entries w.plain.joints h ≡ Some j → IsLive w.plain.joint_entries h × (joint_at w.plain.joints h.slot ≡ Some j)
+live_joint w h j named = let is = named_joint (is_live w.plain.joint_entries h) (joint_at w.plain.joints h.slot) j named in (live_at (slice_get w.plain.joint_entries h.slot) h.generation is.0, is.1)
 
-pub joint_gone_put : (w : World) (h : Handle) (j : BodyJoint) → IsKept w → joint_of w.plain.joint_places w.plain.joints h ≡ Some j → IsPut (record w { plain = with_joints (unjoined h (joints_in_slots w.plain)) (with_woken w.plain (j.a ∷ j.b ∷ [])) })
+pub joint_gone_put : (w : World) (h : Handle) (j : BodyJoint) → IsKept w → joint_of w.plain.joint_entries w.plain.joints h ≡ Some j → IsPut (record w { plain = with_joints (unjoined h (joints_in_slots w.plain)) (with_woken w.plain (j.a ∷ j.b ∷ [])) })
     (ended_with (Joint h) (joint_movers (with_woken w.plain (j.a ∷ j.b ∷ [])).bodies j) (acting_of (with_woken w.plain (j.a ∷ j.b ∷ []))))
 unfolding acting_of
 joint_gone_put w h j k named =
@@ -146,8 +146,8 @@ joint_gone_put w h j k named =
     let next = next_ended_with v joints (Joint h) (joint_movers v.plain.bodies j) wk.kept went.there (joint_up w j k) went.ties in
     joints_put v joints (ended_with (Joint h) (joint_movers v.plain.bodies j) (acting_of v.plain)) wk.kept went.slots (joints_gone v.plain.bodies w.plain.joints h.slot wk.kept.joints) next
 
-pub joint_gone_kept : (w : World) (h : Handle) (j : BodyJoint) → IsKept w → joint_of w.plain.joint_places w.plain.joints h ≡ Some j → IsKept (record w { plain = joint_gone h j (with_woken w.plain (j.a ∷ j.b ∷ [])) })
+pub joint_gone_kept : (w : World) (h : Handle) (j : BodyJoint) → IsKept w → joint_of w.plain.joint_entries w.plain.joints h ≡ Some j → IsKept (record w { plain = joint_gone h j (with_woken w.plain (j.a ∷ j.b ∷ [])) })
 joint_gone_kept w h j k named = (joint_gone_put w h j k named).kept
 
-pub unjoin_kept : (w : World) (h : Handle) (j : BodyJoint) → IsKept w → w.plain.calls < 2 ^ 40 → joint_of w.plain.joint_places w.plain.joints h ≡ Some j → IsKept (record w { plain = counted (joint_gone h j (with_woken w.plain (j.a ∷ j.b ∷ []))) })
+pub unjoin_kept : (w : World) (h : Handle) (j : BodyJoint) → IsKept w → w.plain.calls < 2 ^ 40 → joint_of w.plain.joint_entries w.plain.joints h ≡ Some j → IsKept (record w { plain = counted (joint_gone h j (with_woken w.plain (j.a ∷ j.b ∷ []))) })
 unjoin_kept w h j k few named = counted_kept (record w { plain = joint_gone h j (with_woken w.plain (j.a ∷ j.b ∷ [])) }) (joint_gone_kept w h j k named) few

@@ -8,11 +8,11 @@ use Rattle.std.proofs.lemmas.Grind.{common_steps}
 use Rattle.std.proofs.lemmas.List.Elements.{All-push, All-set, All-weaker}
 use Rattle.std.proofs.lemmas.Option.{same_Some}
 use Rattle.fixed_geom.specs.Vectors.{zero_vector}
-use Rattle.body_handles.specs.declared.places.Place.{Place}
-use Rattle.body_handles.specs.declared.places.TheConstants.{MAX_SLOTS}
-use Rattle.body_handles.specs.Places.{IsPlace, generation_at, lowest}
+use Rattle.body_handles.specs.declared.slot_table.SlotEntry.{SlotEntry}
+use Rattle.body_handles.specs.declared.slot_table.TheConstants.{MAX_SLOTS}
+use Rattle.body_handles.specs.SlotEntries.{IsSlotEntry, generation_at, lowest}
 use Rattle.body_handles.proofs.LowestLemmas.{lowest-le-length}
-use Rattle.body_handles.proofs.TableLemmas.{IsPlace-given}
+use Rattle.body_handles.proofs.TableLemmas.{IsSlotEntry-given}
 use Rattle.contacts_base.specs.declared.contact.ContactEntry.{ContactEntry}
 use Rattle.contacts.specs.Constraints.{constraint_number}
 use Rattle.contacts.specs.declared.constraint.Constraint.{Constraint}
@@ -35,7 +35,7 @@ use Rattle.sleep_wake.specs.Acting as acting
 use Rattle.sleep_wake.specs.Bodies.{mover_made}
 use Rattle.sleep_wake.specs.Widened.{widened}
 use Rattle.islands.proofs.WideLemmas.{wide_at}
-use Rattle.sleep_wake.proofs.LengthLemmas.{made_long, wide_long, wide_settled}
+use Rattle.sleep_wake.proofs.LengthLemmas.{made_long, wide_long, wide_consistent}
 use Rattle.solver_sets.specs.Tied.{AreTied}
 use Rattle.solver_sets.specs.Alike.{IsBetweenEnabled}
 use Rattle.solver_sets.specs.Ties.{is_enabled_in, is_mover_in, members_of, moves}
@@ -57,12 +57,12 @@ use Rattle.world_rules.proofs.SoundLaws.{IsKept}
 use Rattle.world_rules.proofs.ToldLaws.{NobodyFallsAsleep, told_stays}
 
 -- the slot that a new body comes into is free
-pub free_slot : (w : World) → IsKept w → body_at w.plain.bodies (lowest w.plain.places) ≡ None
-free_slot w k = none_if (body_at w.plain.bodies (lowest w.plain.places)) (k.matched.taken (lowest w.plain.places) ∙ lowest-free w.plain.places)
+pub free_slot : (w : World) → IsKept w → body_at w.plain.bodies (lowest w.plain.slot_entries) ≡ None
+free_slot w k = none_if (body_at w.plain.bodies (lowest w.plain.slot_entries)) (k.matched.taken (lowest w.plain.slot_entries) ∙ lowest-free w.plain.slot_entries)
 
 -- it is one of those that there are, or the next one
-free_below : (w : World) → IsKept w → lowest w.plain.places ≤ length w.plain.bodies
-free_below w k = let same = k.matched.slots in let le = lowest-le-length w.plain.places in omega (arith, same, le)
+free_below : (w : World) → IsKept w → lowest w.plain.slot_entries ≤ length w.plain.bodies
+free_below w k = let same = k.matched.slots in let le = lowest-le-length w.plain.slot_entries in omega (arith, same, le)
 
 -- ---- the lists with one body more
 
@@ -109,9 +109,9 @@ pub record IsNew (b : Body) : Type 0 where
   pub timer : b.timer ≡ 0
   pub filters : HaveFilters b.shapes
 
-lists_by : (t : Bool) (w : World) (slot : ℕ) (place : Place) (b : Body) → IsKept w → (t ≡ true → slot < length w.plain.bodies) → (t ≡ false → length w.plain.bodies < MAX_SLOTS) → place.live ≡ true → IsPlace place → IsNew b → body_at w.plain.bodies slot ≡ None
+lists_by : (t : Bool) (w : World) (slot : ℕ) (place : SlotEntry) (b : Body) → IsKept w → (t ≡ true → slot < length w.plain.bodies) → (t ≡ false → length w.plain.bodies < MAX_SLOTS) → place.live ≡ true → IsSlotEntry place → IsNew b → body_at w.plain.bodies slot ≡ None
     → AreTimers w.plain.steps (cond t (slice_set w.plain.bodies slot (Some b)) (w.plain.bodies ++ Some b ∷ [])) → AreOf (cond t (slice_set w.plain.bodies slot (Some b)) (w.plain.bodies ++ Some b ∷ [])) w.plain.joints w.plain.contacts
-    → AreLists (record w { plain = record w.plain { places = (if t then slice_set w.plain.places slot place else w.plain.places ++ place ∷ []); bodies = cond t (slice_set w.plain.bodies slot (Some b)) (w.plain.bodies ++ Some b ∷ []) } })
+    → AreLists (record w { plain = record w.plain { slot_entries = (if t then slice_set w.plain.slot_entries slot place else w.plain.slot_entries ++ place ∷ []); bodies = cond t (slice_set w.plain.bodies slot (Some b)) (w.plain.bodies ++ Some b ∷ []) } })
 lists_by true w slot place b s below past live given is none timers of =
     let set = momentum-set w.plain.bodies slot (Some b) (below refl) in
     let old : momentum_in (body_at w.plain.bodies slot) ≡ zero_vector = ap momentum_in none in
@@ -122,10 +122,10 @@ lists_by true w slot place b s below past live given is none timers of =
       bodies = AreBodies-set w.plain.bodies slot (Some b) s.bodies (λ c f. let same : b ≡ c = cc in subst IsBody same is.body);
       filters = filters_set w.plain.bodies slot (Some b) (λ c f. subst (λ (x : Body). HaveFilters x.shapes) (same_Some b c f) is.filters) s.filters;
       timers = timers;
-      matched = AreMatched-set w.plain.places w.plain.bodies slot place (Some b) (sym live) s.matched;
-      places = All-set IsPlace w.plain.places slot place given s.places;
+      matched = AreMatched-set w.plain.slot_entries w.plain.bodies slot place (Some b) (sym live) s.matched;
+      slot_entries = All-set IsSlotEntry w.plain.slot_entries slot place given s.slot_entries;
       joint_slots = s.joint_slots;
-      joint_places = s.joint_places;
+      joint_entries = s.joint_entries;
       joints = of.joints_there;
       contacts = s.contacts;
       pairs = of.pairs;
@@ -143,10 +143,10 @@ lists_by false w slot place b s below past live given is none timers of =
       bodies = AreBodies-push w.plain.bodies (Some b) s.bodies (λ c f. let same : b ≡ c = cc in subst IsBody same is.body);
       filters = filters_push w.plain.bodies (Some b) (λ c f. subst (λ (x : Body). HaveFilters x.shapes) (same_Some b c f) is.filters) s.filters;
       timers = timers;
-      matched = AreMatched-push w.plain.places w.plain.bodies place (Some b) (sym live) (past refl) s.matched;
-      places = All-push IsPlace w.plain.places place s.places given;
+      matched = AreMatched-push w.plain.slot_entries w.plain.bodies place (Some b) (sym live) (past refl) s.matched;
+      slot_entries = All-push IsSlotEntry w.plain.slot_entries place s.slot_entries given;
       joint_slots = s.joint_slots;
-      joint_places = s.joint_places;
+      joint_entries = s.joint_entries;
       joints = of.joints_there;
       contacts = s.contacts;
       pairs = of.pairs;
@@ -156,14 +156,14 @@ lists_by false w slot place b s below past live given is none timers of =
       calls = s.calls;
     }
 
-made_lists : (w : World) (b : Body) → IsKept w → lowest w.plain.places < MAX_SLOTS → IsNew b → AreLists (record w { plain = with_made (lowest w.plain.places) b w.plain })
+made_lists : (w : World) (b : Body) → IsKept w → lowest w.plain.slot_entries < MAX_SLOTS → IsNew b → AreLists (record w { plain = with_made (lowest w.plain.slot_entries) b w.plain })
 made_lists w b k free is =
-    let slot = lowest w.plain.places in
+    let slot = lowest w.plain.slot_entries in
     let none = free_slot w k in
     let le = free_below w k in
     let same = k.matched.slots in
-    rw same (lists_by (nat_lt slot (length w.plain.bodies)) w slot (record { generation = generation_at w.plain.places slot; live = true }) b k
-    (λ e. grind (arith, common_steps)) (λ e. let past : slot ≡ length w.plain.bodies = past_is slot (length w.plain.bodies) le e in omega arith) refl (IsPlace-given w.plain.places k.places) is none
+    rw same (lists_by (nat_lt slot (length w.plain.bodies)) w slot (record { generation = generation_at w.plain.slot_entries slot; live = true }) b k
+    (λ e. grind (arith, common_steps)) (λ e. let past : slot ≡ length w.plain.bodies = past_is slot (length w.plain.bodies) le e in omega arith) refl (IsSlotEntry-given w.plain.slot_entries k.slot_entries) is none
     (timers_with w.plain.bodies slot w.plain.steps b le is.timer k.timers) (are_of w slot b k none))
 
 -- ---- the constraints, the islands and the colours
@@ -194,9 +194,9 @@ unfolding mover_made
 come_ties true slot s = refl
 come_ties false slot s = refl
 
-pub come_settled : (m : Bool) (slot : ℕ) (s : Acting Constraint) → IsConsistent constraint_number s → label_at s.labels slot ≡ None → IsConsistent constraint_number (cond m (mover_made slot s) s)
-come_settled true slot s settled none = making_keeps s slot settled none
-come_settled false slot s settled none = settled
+pub come_consistent : (m : Bool) (slot : ℕ) (s : Acting Constraint) → IsConsistent constraint_number s → label_at s.labels slot ≡ None → IsConsistent constraint_number (cond m (mover_made slot s) s)
+come_consistent true slot s consistent none = making_keeps s slot consistent none
+come_consistent false slot s consistent none = consistent
 
 pub come_long : (m : Bool) (slot : ℕ) (s : Acting Constraint) → slot < length s.labels → length (cond m (mover_made slot s) s).labels ≡ length s.labels
 come_long true slot s lt = made_long slot s lt
@@ -215,8 +215,8 @@ no_label : (o : Option Body) (l : Option Label) → o ≡ None → is_some l ≡
 no_label o l none e = none_if l (e ∙ ap is_mover_in none)
 
 -- nobody has the label of a free slot
-free_label : (w : World) → IsKept w → label_at w.plain.islands (lowest w.plain.places) ≡ None
-free_label w k = no_label (body_at w.plain.bodies (lowest w.plain.places)) (label_at w.plain.islands (lowest w.plain.places)) (free_slot w k) (k.tied (lowest w.plain.places))
+free_label : (w : World) → IsKept w → label_at w.plain.islands (lowest w.plain.slot_entries) ≡ None
+free_label w k = no_label (body_at w.plain.bodies (lowest w.plain.slot_entries)) (label_at w.plain.islands (lowest w.plain.slot_entries)) (free_slot w k) (k.tied (lowest w.plain.slot_entries))
 
 come_tied : (bodies : List (Option Body)) (slot : ℕ) (b : Body) (s : Acting Constraint) → slot ≤ length bodies → label_at s.labels slot ≡ None → AreTied bodies s.labels → AreTied (with_body bodies slot b) (body_come slot b s).labels
 come_tied bodies slot b s le none tied k = elim (cases_eq k slot) [
@@ -234,13 +234,13 @@ with_long : (t : Bool) (bodies : List (Option Body)) (slot : ℕ) (o : Option Bo
 with_long true bodies slot o e le = grind (arith, common_steps)
 with_long false bodies slot o e le = grind (arith, common_steps)
 
-come_acting : (w : World) (b : Body) → IsKept w → IsActing (with_made (lowest w.plain.places) b w.plain) (widened (lowest w.plain.places) (body_come (lowest w.plain.places) b (acting_of w.plain)))
+come_acting : (w : World) (b : Body) → IsKept w → IsActing (with_made (lowest w.plain.slot_entries) b w.plain) (widened (lowest w.plain.slot_entries) (body_come (lowest w.plain.slot_entries) b (acting_of w.plain)))
 unfolding acting_of
 come_acting w b k =
-    let slot = lowest w.plain.places in
+    let slot = lowest w.plain.slot_entries in
     let s = acting_of w.plain in
     record {
-      settled = wide_settled constraint_number slot (body_come slot b s) (come_settled (is_mover b) slot s k.settled (free_label w k));
+      consistent = wide_consistent constraint_number slot (body_come slot b s) (come_consistent (is_mover b) slot s k.consistent (free_label w k));
       ties = come_ties (is_mover b) slot s
           ∙ sym (coming_keeps_ties w.plain.bodies (joints_in_slots w.plain) w.plain.contacts slot b (free_slot w k) (free_below w k) k.joints (contacts_enabled w.plain.bodies w.plain.contacts k.there));
       tied = λ n. ap (λ (o : Option Label). is_some o) (wide_at (body_come slot b s).labels (slot + 1) n) ∙ come_tied w.plain.bodies slot b s (free_below w k) (free_label w k) k.tied n;
@@ -263,10 +263,10 @@ mover_of : (m : Bool) (a : Bool) → cond m a false ≡ true → m ≡ true
 mover_of true a e = refl
 mover_of false a e = cc
 
-come_awake : (w : World) (b : Body) → IsKept w → NobodyFallsAsleep (with_body w.plain.bodies (lowest w.plain.places) b) (body_come (lowest w.plain.places) b (acting_of w.plain)).labels
+come_awake : (w : World) (b : Body) → IsKept w → NobodyFallsAsleep (with_body w.plain.bodies (lowest w.plain.slot_entries) b) (body_come (lowest w.plain.slot_entries) b (acting_of w.plain)).labels
 unfolding acting_of
 come_awake w b k n d at up =
-    let slot = lowest w.plain.places in
+    let slot = lowest w.plain.slot_entries in
     let s = acting_of w.plain in
     awake_name (label_at (body_come slot b s).labels n) (elim (with_case w.plain.bodies slot b n d (free_below w k) at) [
       | inl p ↦ subst (λ (j : ℕ). acting.is_mover_awake (body_come slot b s).labels j ≡ true) (sym p.0) (come_own (is_mover b) slot s (mover_of (is_mover b) (is_none b.asleep) (ap is_awake p.1 ∙ up)))
@@ -276,17 +276,17 @@ come_awake w b k n d at up =
     ])
 
 -- the same with the slot
-wide_awake : (w : World) (b : Body) → IsKept w → NobodyFallsAsleep (with_body w.plain.bodies (lowest w.plain.places) b) (widened (lowest w.plain.places) (body_come (lowest w.plain.places) b (acting_of w.plain))).labels
+wide_awake : (w : World) (b : Body) → IsKept w → NobodyFallsAsleep (with_body w.plain.bodies (lowest w.plain.slot_entries) b) (widened (lowest w.plain.slot_entries) (body_come (lowest w.plain.slot_entries) b (acting_of w.plain))).labels
 wide_awake w b k n d at up =
-    ap (λ (o : Option Label). sleeping_name o) (wide_at (body_come (lowest w.plain.places) b (acting_of w.plain)).labels (lowest w.plain.places + 1) n) ∙ come_awake w b k n d at up
+    ap (λ (o : Option Label). sleeping_name o) (wide_at (body_come (lowest w.plain.slot_entries) b (acting_of w.plain)).labels (lowest w.plain.slot_entries + 1) n) ∙ come_awake w b k n d at up
 
 -- ---- CreateBody
 
 -- a new body comes
-pub body_made_put : (w : World) (b : Body) → IsKept w → lowest w.plain.places < MAX_SLOTS → IsNew b → IsPut (record w { plain = with_made (lowest w.plain.places) b w.plain }) (widened (lowest w.plain.places) (body_come (lowest w.plain.places) b (acting_of w.plain)))
-body_made_put w b k free is = both_put (record w { plain = with_made (lowest w.plain.places) b w.plain }) (widened (lowest w.plain.places) (body_come (lowest w.plain.places) b (acting_of w.plain))) (made_lists w b k free is) (come_acting w b k) (wide_awake w b k)
+pub body_made_put : (w : World) (b : Body) → IsKept w → lowest w.plain.slot_entries < MAX_SLOTS → IsNew b → IsPut (record w { plain = with_made (lowest w.plain.slot_entries) b w.plain }) (widened (lowest w.plain.slot_entries) (body_come (lowest w.plain.slot_entries) b (acting_of w.plain)))
+body_made_put w b k free is = both_put (record w { plain = with_made (lowest w.plain.slot_entries) b w.plain }) (widened (lowest w.plain.slot_entries) (body_come (lowest w.plain.slot_entries) b (acting_of w.plain))) (made_lists w b k free is) (come_acting w b k) (wide_awake w b k)
 
-pub body_made_kept : (w : World) (b : Body) → IsKept w → lowest w.plain.places < MAX_SLOTS → IsNew b → IsKept (record w { plain = body_made (lowest w.plain.places) b w.plain })
+pub body_made_kept : (w : World) (b : Body) → IsKept w → lowest w.plain.slot_entries < MAX_SLOTS → IsNew b → IsKept (record w { plain = body_made (lowest w.plain.slot_entries) b w.plain })
 body_made_kept w b k free is = (body_made_put w b k free is).kept
 
 resting_part : (m : Bool) → cond m zero_vector zero_vector ≡ zero_vector
@@ -296,32 +296,32 @@ resting_part false = refl
 pub made_new : (d : BodyDef) → IsBody (made d) → HaveFilters d.shapes → IsNew (made d)
 made_new d is filters = record { body = is; none = resting_part (is_mover (made d)); timer = refl; filters = filters }
 
-pub create_kept : (w : World) (d : BodyDef) → IsKept w → w.plain.calls < 2 ^ 40 → lowest w.plain.places < MAX_SLOTS → IsBody (made d) → HaveFilters d.shapes
-    → IsKept (record w { plain = counted (body_made (lowest w.plain.places) (made d) w.plain) })
-create_kept w d k few free is filters = counted_kept (record w { plain = body_made (lowest w.plain.places) (made d) w.plain }) (body_made_kept w (made d) k free (made_new d is filters)) few
+pub create_kept : (w : World) (d : BodyDef) → IsKept w → w.plain.calls < 2 ^ 40 → lowest w.plain.slot_entries < MAX_SLOTS → IsBody (made d) → HaveFilters d.shapes
+    → IsKept (record w { plain = counted (body_made (lowest w.plain.slot_entries) (made d) w.plain) })
+create_kept w d k few free is filters = counted_kept (record w { plain = body_made (lowest w.plain.slot_entries) (made d) w.plain }) (body_made_kept w (made d) k free (made_new d is filters)) few
 
 -- ---- the bodies are told already
 
-come_name : (w : World) (b : Body) (n : ℕ) → n ≢ lowest w.plain.places → label_at (body_come (lowest w.plain.places) b (acting_of w.plain)).labels n ≡ label_at w.plain.islands n
+come_name : (w : World) (b : Body) (n : ℕ) → n ≢ lowest w.plain.slot_entries → label_at (body_come (lowest w.plain.slot_entries) b (acting_of w.plain)).labels n ≡ label_at w.plain.islands n
 unfolding acting_of mover_made
 come_name w b n ne = by (is_mover b)
   where
-    by : (m : Bool) → label_at (cond m (mover_made (lowest w.plain.places) (acting_of w.plain)) (acting_of w.plain)).labels n ≡ label_at w.plain.islands n
-    by true = added_other w.plain.islands (lowest w.plain.places) n ne
+    by : (m : Bool) → label_at (cond m (mover_made (lowest w.plain.slot_entries) (acting_of w.plain)) (acting_of w.plain)).labels n ≡ label_at w.plain.islands n
+    by true = added_other w.plain.islands (lowest w.plain.slot_entries) n ne
     by false = refl
 
-own_name : (w : World) (b : Body) → IsKept w → sleeping_name (label_at (body_come (lowest w.plain.places) b (acting_of w.plain)).labels (lowest w.plain.places)) ≡ None
+own_name : (w : World) (b : Body) → IsKept w → sleeping_name (label_at (body_come (lowest w.plain.slot_entries) b (acting_of w.plain)).labels (lowest w.plain.slot_entries)) ≡ None
 unfolding acting_of mover_made
 own_name w b k = by (is_mover b)
   where
-    by : (m : Bool) → sleeping_name (label_at (cond m (mover_made (lowest w.plain.places) (acting_of w.plain)) (acting_of w.plain)).labels (lowest w.plain.places)) ≡ None
-    by true = ap sleeping_name (added_here w.plain.islands (lowest w.plain.places))
+    by : (m : Bool) → sleeping_name (label_at (cond m (mover_made (lowest w.plain.slot_entries) (acting_of w.plain)) (acting_of w.plain)).labels (lowest w.plain.slot_entries)) ≡ None
+    by true = ap sleeping_name (added_here w.plain.islands (lowest w.plain.slot_entries))
     by false = ap sleeping_name (free_label w k)
 
 -- all with a new one that is awake
-come_told : (w : World) (b : Body) → IsKept w → b.asleep ≡ None → AreTold (with_body w.plain.bodies (lowest w.plain.places) b) (body_come (lowest w.plain.places) b (acting_of w.plain)).labels
+come_told : (w : World) (b : Body) → IsKept w → b.asleep ≡ None → AreTold (with_body w.plain.bodies (lowest w.plain.slot_entries) b) (body_come (lowest w.plain.slot_entries) b (acting_of w.plain)).labels
 come_told w b k up n d at =
-    let slot = lowest w.plain.places in
+    let slot = lowest w.plain.slot_entries in
     let labels = (body_come slot b (acting_of w.plain)).labels in
     elim (with_case w.plain.bodies slot b n d (free_below w k) at) [
       | inl p ↦ sym (ap (λ (x : Body). x.asleep) p.1) ∙ up ∙ sym (own_name w b k) ∙ ap (λ (j : ℕ). sleeping_name (label_at labels j)) (sym p.0)
@@ -330,23 +330,23 @@ come_told w b k up n d at =
           k.told n d there ∙ ap sleeping_name (sym (come_name w b n apart))
     ]
 
-come_lists : (w : World) (b : Body) → IsKept w → (body_come (lowest w.plain.places) b (acting_of w.plain)).lists ≡ members_of w.plain.bodies (joints_in_slots w.plain) w.plain.colours
+come_lists : (w : World) (b : Body) → IsKept w → (body_come (lowest w.plain.slot_entries) b (acting_of w.plain)).lists ≡ members_of w.plain.bodies (joints_in_slots w.plain) w.plain.colours
 unfolding acting_of mover_made
 come_lists w b k = by (is_mover b)
   where
-    by : (m : Bool) → (cond m (mover_made (lowest w.plain.places) (acting_of w.plain)) (acting_of w.plain)).lists ≡ members_of w.plain.bodies (joints_in_slots w.plain) w.plain.colours
+    by : (m : Bool) → (cond m (mover_made (lowest w.plain.slot_entries) (acting_of w.plain)) (acting_of w.plain)).lists ≡ members_of w.plain.bodies (joints_in_slots w.plain) w.plain.colours
     by true = refl
     by false = refl
 
-wide_told : (w : World) (b : Body) → IsKept w → b.asleep ≡ None → AreTold (with_body w.plain.bodies (lowest w.plain.places) b) (widened (lowest w.plain.places) (body_come (lowest w.plain.places) b (acting_of w.plain))).labels
+wide_told : (w : World) (b : Body) → IsKept w → b.asleep ≡ None → AreTold (with_body w.plain.bodies (lowest w.plain.slot_entries) b) (widened (lowest w.plain.slot_entries) (body_come (lowest w.plain.slot_entries) b (acting_of w.plain))).labels
 wide_told w b k up n d at =
-    come_told w b k up n d at ∙ ap (λ (o : Option Label). sleeping_name o) (sym (wide_at (body_come (lowest w.plain.places) b (acting_of w.plain)).labels (lowest w.plain.places + 1) n))
+    come_told w b k up n d at ∙ ap (λ (o : Option Label). sleeping_name o) (sym (wide_at (body_come (lowest w.plain.slot_entries) b (acting_of w.plain)).labels (lowest w.plain.slot_entries + 1) n))
 
 -- A new body that is awake leaves the other bodies and the colours as they are.
-pub body_made_is : (w : World) (b : Body) → IsKept w → lowest w.plain.places < MAX_SLOTS → IsNew b → b.asleep ≡ None
-    → body_made (lowest w.plain.places) b w.plain ≡ record (with_made (lowest w.plain.places) b w.plain) { islands = (widened (lowest w.plain.places) (body_come (lowest w.plain.places) b (acting_of w.plain))).labels }
+pub body_made_is : (w : World) (b : Body) → IsKept w → lowest w.plain.slot_entries < MAX_SLOTS → IsNew b → b.asleep ≡ None
+    → body_made (lowest w.plain.slot_entries) b w.plain ≡ record (with_made (lowest w.plain.slot_entries) b w.plain) { islands = (widened (lowest w.plain.slot_entries) (body_come (lowest w.plain.slot_entries) b (acting_of w.plain))).labels }
 body_made_is w b k free is up =
-    let slot = lowest w.plain.places in
+    let slot = lowest w.plain.slot_entries in
     let s = widened slot (body_come slot b (acting_of w.plain)) in
     let bodies : told s.labels (with_body w.plain.bodies slot b) ≡ with_body w.plain.bodies slot b = told_stays s.labels (with_body w.plain.bodies slot b) (made_lists w b k free is).bodies (wide_told w b k up) in
     let colours : ids_of s.lists ≡ w.plain.colours = ap ids_of (come_lists w b k) ∙ k.moved in

@@ -2,7 +2,7 @@
 use Rattle.std.proofs.Common.{◌≡◌, ℕ, ◌+◌, ◌*◌, ◌<◌, ◌≤◌, ◌^◌, List, ◌++◌, length, Option, Some, None, Bool, true, false, cond, ℤ, ◌+ℤ◌, unsigned_abs, arith, refl, ◌∙◌}
 use Rattle.std.specs.Prelude.{◌-ℤ◌}
 use Rattle.std.proofs.lemmas.Int.{ints}
-use Rattle.body_handles.specs.declared.places.TheConstants.{MAX_SLOTS}
+use Rattle.body_handles.specs.declared.slot_table.TheConstants.{MAX_SLOTS}
 use Rattle.impulse_ledger.specs.declared.entry.Cause.TheVariants as causes
 use Rattle.contacts.specs.Constraints.{constraint_number}
 use Rattle.contacts.specs.declared.constraint.Constraint.{Constraint}
@@ -23,7 +23,7 @@ use Rattle.world_rules.specs.World.{World}
 use Rattle.world_rules.proofs.ActingLaws.{AreLists, IsActing, acted, kept_of, lists_kept}
 use Rattle.world_rules.proofs.LowerLaws.{movers_stay, sleep_keeps}
 use Rattle.world_rules.proofs.BookLemmas.{AreSmall-booked, AreSmall-weaker, summed-booked}
-use Rattle.world_rules.proofs.KeptChanges.{settled_later}
+use Rattle.world_rules.proofs.KeptChanges.{consistent_later}
 use Rattle.world_rules.proofs.KeptContacts.{contacts_of_same, has_bodies_same, joints_same, moves_alike}
 use Rattle.world_rules.proofs.ShapeLaws.{filters_same}
 use Rattle.world_rules.proofs.SlotLemmas.{AreMatched-same, momentum_le}
@@ -78,10 +78,10 @@ lists_rested w s l few =
       bodies = told_are_bodies s.labels old l.bodies;
       filters = filters_same old new shapes l.filters;
       timers = told_timers s.labels old w.plain.steps l.timers;
-      matched = AreMatched-same w.plain.places old new slots l.matched;
-      places = l.places;
+      matched = AreMatched-same w.plain.slot_entries old new slots l.matched;
+      slot_entries = l.slot_entries;
       joint_slots = l.joint_slots;
-      joint_places = l.joint_places;
+      joint_entries = l.joint_entries;
       joints = joints_same old new w.plain.joints slots l.joints;
       contacts = l.contacts;
       pairs = contacts_of_same old new w.plain.contacts moves l.pairs;
@@ -96,7 +96,7 @@ pub rest_put : (w : World) (s : Acting Constraint) → AreLists w → IsActing w
 rest_put w s l is few =
     let a = acted w.plain s l.bodies is in
     kept_of (record w { plain = counted (with_acting s w.plain); entries = w.entries ++ rest_entries (w.plain.calls + 1) s.labels w.plain.bodies })
-    (lists_rested w s l few) (settled_later (with_acting s w.plain) w.plain.gravity w.plain.steps (w.plain.calls + 1) a.settled) a.tied a.told a.labels a.moved
+    (lists_rested w s l few) (consistent_later (with_acting s w.plain) w.plain.gravity w.plain.steps (w.plain.calls + 1) a.consistent) a.tied a.told a.labels a.moved
 
 -- ---- Sleep
 
@@ -132,9 +132,9 @@ unfolding acting_of
 slept_acting w slot k =
     let s = acting_of w.plain in
     record {
-      settled = sleep_keeps s slot k.settled;
+      consistent = sleep_keeps s slot k.consistent;
       ties = slept_ties slot s;
-      tied = λ other. movers_stay.slept s slot k.settled other ∙ k.tied other;
+      tied = λ other. movers_stay.slept s slot k.consistent other ∙ k.tied other;
       long = slept_long constraint_number slot s ∙ k.labels;
     }
 

@@ -4,7 +4,7 @@ use Rattle.std.specs.Prelude.{◌-ℤ◌}
 use Rattle.std.proofs.lemmas.Int.{ints}
 use Rattle.std.proofs.lemmas.List.Elements.{All-weaker}
 use Rattle.fixed_geom.specs.Vectors.{plus}
-use Rattle.body_handles.specs.declared.places.Place.{Place}
+use Rattle.body_handles.specs.declared.slot_table.SlotEntry.{SlotEntry}
 use Rattle.contacts_base.specs.declared.contact.ContactEntry.{ContactEntry}
 use Rattle.contacts_base.specs.Contacts.{AreKeysRising}
 use Rattle.contacts.specs.Constraints.{constraint_number}
@@ -22,25 +22,25 @@ use Rattle.plain_world.specs.Plain.{Plain}
 use Rattle.plain_world.specs.Sleep.{timed_bodies, told}
 use Rattle.plain_world.specs.Slots.{AreMatched, item_at}
 use Rattle.plain_world.specs.InSlots.{HaveSameSlots}
-use Rattle.sleep_wake.proofs.LengthLemmas.{phase_long, turned_long}
+use Rattle.sleep_wake.proofs.LengthLemmas.{phase_long, after_changes_long}
 use Rattle.sleep_wake.specs.Acting.{Acting, IsConsistent}
-use Rattle.sleep_wake.specs.Changes.{turned}
+use Rattle.sleep_wake.specs.Changes.{after_changes}
 use Rattle.sleep_wake.specs.SleepPhase.{all_put_to_rest, picked_to_split, ready, sleep_phase, split_at, split_picked}
 use Rattle.sleep_wake.specs.Waking.{put_to_rest}
 use Rattle.sleep_wake.specs.declared.change.Change.{Change}
 use Rattle.solver_sets.specs.Beside.{timers_of}
 use Rattle.solver_sets.specs.Alike.{AreAlike, AreJointSlots, HaveSameEnds, ends_in}
-use Rattle.solver_sets.specs.Ties.{IsNamed, JointSlots, key_changes, slots_of, ties_of, touching_keys}
+use Rattle.solver_sets.specs.Ties.{IsKeyWithin, JointSlots, key_changes, slots_of, ties_of, touching_keys}
 use Rattle.world_core_base.specs.ContactBodies.{AreContactsOf}
 use Rattle.world_core_base.specs.Renewal.{renewed_bodies}
 use Rattle.world_core_base.specs.Solving.{Solving, bodies_of}
-use Rattle.world_rules.specs.Apply.{bodies_ticked, events_of, gained, rest_entries, rested_acting, step_entries, step_solved, turned_acting, world_with}
+use Rattle.world_rules.specs.Apply.{bodies_ticked, events_of, gained, rest_entries, rested_acting, step_entries, step_solved, acting_after_changes, world_with}
 use Rattle.world_rules.specs.Collide.{Collided, collided}
 use Rattle.world_rules.specs.Sets.{acting_of, with_acting}
 use Rattle.world_rules.specs.Sound.{AreTimers, HasBodies}
 use Rattle.world_rules.specs.World.{World, joints_in_slots}
 use Rattle.world_rules.proofs.ActingLaws.{AreLists, IsActing, acted, awake_put, kept_of, stay_awake}
-use Rattle.world_rules.proofs.LowerLaws.{alike_bodies_keep_ties, awake_stay_awake, impulses_keep_ties, keys_can_turn, keys_turn, movers_stay, same_names_same_ties, same_touching_keep_ties, sleep_phase_keeps, ties_have_labels, ties_rise, turns_into}
+use Rattle.world_rules.proofs.LowerLaws.{alike_bodies_keep_ties, awake_stay_awake, impulses_keep_ties, keys_can_change, keys_change, movers_stay, same_ids_same_ties, same_touching_keep_ties, sleep_phase_keeps, ties_have_labels, ties_rise, changes_lead_to}
 use Rattle.world_rules.proofs.BookLemmas.{AreSmall-weaker}
 use Rattle.world_rules.proofs.ChangeLemmas.{tied_alike}
 use Rattle.world_rules.proofs.KeptContacts.{contacts_of_same, has_bodies_same, joints_same, moves_alike}
@@ -60,8 +60,8 @@ abbrev pub collided_in : World → Collided
 collided_in w = collided w.plain.bodies w.plain.joints w.plain.contacts
 
 -- the constraints, islands and colours once all that begins and ends had its turn
-abbrev pub turned_in : World → Acting Constraint
-turned_in w = turned_acting w.plain (collided_in w)
+abbrev pub changed_in : World → Acting Constraint
+changed_in w = acting_after_changes w.plain (collided_in w)
 
 -- the world with the contacts that the collide finds
 abbrev pub with_contacts : World → World
@@ -69,53 +69,53 @@ with_contacts w = record w { plain = record w.plain { contacts = (collided_in w)
 
 -- the world as the ticks find it
 abbrev pub collided_world : World → World
-collided_world w = record w { plain = with_acting (turned_in w) (with_contacts w).plain }
+collided_world w = record w { plain = with_acting (changed_in w) (with_contacts w).plain }
 
 joint_slots : (w : World) → IsKept w → AreJointSlots (joints_in_slots w.plain)
-joint_slots w k = record { matched = k.joint_slots; places = k.joint_places }
+joint_slots w k = record { matched = k.joint_slots; slot_entries = k.joint_entries }
 
-named : (bodies : List (Option Body)) (contacts : List ContactEntry) → All (HasBodies bodies) contacts → All (λ (e : ContactEntry). IsNamed e.key) contacts
-named bodies contacts there = All-weaker (HasBodies bodies) (λ e. IsNamed e.key) (λ e h. h.named) contacts there
+named : (bodies : List (Option Body)) (contacts : List ContactEntry) → All (HasBodies bodies) contacts → All (λ (e : ContactEntry). IsKeyWithin e.key) contacts
+named bodies contacts there = All-weaker (HasBodies bodies) (λ e. IsKeyWithin e.key) (λ e h. h.named) contacts there
 
 new_contacts : (w : World) → IsKept w → All (HasBodies w.plain.bodies) (collided_in w).now
 new_contacts w k = has_bodies_after w.plain.bodies w.plain.joints w.plain.contacts k.bodies k.matched.few k.there
 
--- they are settled, and the constraints are those of the new contacts
-abbrev IsTurned : World → Acting Constraint → Type 0
-IsTurned w s = IsConsistent constraint_number s × (s.ties ≡ ties_of w.plain.bodies (joints_in_slots w.plain) (collided_in w).now)
+-- they are consistent, and the constraints are those of the new contacts
+abbrev IsAfterChanges : World → Acting Constraint → Type 0
+IsAfterChanges w s = IsConsistent constraint_number s × (s.ties ≡ ties_of w.plain.bodies (joints_in_slots w.plain) (collided_in w).now)
 
-turned_into : (w : World) → IsKept w → AreKeysRising (collided_in w).now → IsTurned w (turned_in w)
+changed_into : (w : World) → IsKept w → AreKeysRising (collided_in w).now → IsAfterChanges w (changed_in w)
 unfolding acting_of
-turned_into w k rises =
+changed_into w k rises =
     let bodies : List (Option Body) = w.plain.bodies in
     let js : JointSlots = joints_in_slots w.plain in
     let old : List ContactEntry = w.plain.contacts in
     let now : List ContactEntry = (collided_in w).now in
     let s : Acting Constraint = acting_of w.plain in
     let slots : AreJointSlots js = joint_slots w k in
-    let are = keys_turn bodies js old now slots k.contacts rises (named bodies old k.there) (named bodies now (new_contacts w k)) in
-    let into = turns_into s (ties_of bodies js now) k.settled (ties_rise bodies js now slots rises)
-    (λ x y. same_names_same_ties bodies js old now x y slots (named bodies old k.there) (named bodies now (new_contacts w k)))
+    let are = keys_change bodies js old now slots k.contacts rises (named bodies old k.there) (named bodies now (new_contacts w k)) in
+    let into = changes_lead_to s (ties_of bodies js now) k.consistent (ties_rise bodies js now slots rises)
+    (λ x y. same_ids_same_ties bodies js old now x y slots (named bodies old k.there) (named bodies now (new_contacts w k)))
     (λ m h. ties_have_labels bodies js now w.plain.islands m k.tied h) in
-    subst (λ (changes : List (Change Constraint)). IsTurned w (turned constraint_number changes s)) (sym are) into
+    subst (λ (changes : List (Change Constraint)). IsAfterChanges w (after_changes constraint_number changes s)) (sym are) into
 
-turned_acting_is : (w : World) → IsKept w → AreKeysRising (collided_in w).now → IsActing (with_contacts w).plain (turned_in w)
+acting_after_changes_is : (w : World) → IsKept w → AreKeysRising (collided_in w).now → IsActing (with_contacts w).plain (changed_in w)
 unfolding acting_of
-turned_acting_is w k rises =
-    let into = turned_into w k rises in
+acting_after_changes_is w k rises =
+    let into = changed_into w k rises in
     record {
-      settled = into.0;
+      consistent = into.0;
       ties = into.1;
-      tied = λ slot. movers_stay.turned (acting_of w.plain) (key_changes w.plain.bodies (collided_in w).begin (collided_in w).end) slot ∙ k.tied slot;
-      long = turned_long constraint_number (key_changes w.plain.bodies (collided_in w).begin (collided_in w).end) (acting_of w.plain) ∙ k.labels;
+      tied = λ slot. movers_stay.after_changes (acting_of w.plain) (key_changes w.plain.bodies (collided_in w).begin (collided_in w).end) slot ∙ k.tied slot;
+      long = after_changes_long constraint_number (key_changes w.plain.bodies (collided_in w).begin (collided_in w).end) (acting_of w.plain) ∙ k.labels;
     }
 
-turned_awake : (w : World) → IsKept w → AreKeysRising (collided_in w).now → NobodyFallsAsleep w.plain.bodies (turned_in w).labels
+changed_awake : (w : World) → IsKept w → AreKeysRising (collided_in w).now → NobodyFallsAsleep w.plain.bodies (changed_in w).labels
 unfolding acting_of
-turned_awake w k rises =
+changed_awake w k rises =
     let changes = key_changes w.plain.bodies (collided_in w).begin (collided_in w).end in
-    let can = keys_can_turn w.plain.bodies (joints_in_slots w.plain) w.plain.contacts (collided_in w).now w.plain.islands (joint_slots w k) k.contacts rises (named w.plain.bodies w.plain.contacts k.there) (named w.plain.bodies (collided_in w).now (new_contacts w k)) k.tied in
-    stay_awake w.plain.bodies w.plain.islands (turned_in w).labels k.tied k.told (awake_stay_awake.turned (acting_of w.plain) changes k.settled can)
+    let can = keys_can_change w.plain.bodies (joints_in_slots w.plain) w.plain.contacts (collided_in w).now w.plain.islands (joint_slots w k) k.contacts rises (named w.plain.bodies w.plain.contacts k.there) (named w.plain.bodies (collided_in w).now (new_contacts w k)) k.tied in
+    stay_awake w.plain.bodies w.plain.islands (changed_in w).labels k.tied k.told (awake_stay_awake.after_changes (acting_of w.plain) changes k.consistent can)
 
 lists_collided : (w : World) → IsKept w → AreKeysRising (collided_in w).now → AreLists (with_contacts w)
 lists_collided w k rises = record {
@@ -126,9 +126,9 @@ lists_collided w k rises = record {
   filters = k.filters;
   timers = k.timers;
   matched = k.matched;
-  places = k.places;
+  slot_entries = k.slot_entries;
   joint_slots = k.joint_slots;
-  joint_places = k.joint_places;
+  joint_entries = k.joint_entries;
   joints = k.joints;
   contacts = rises;
   pairs = contacts_of_after w.plain.bodies w.plain.joints w.plain.contacts k.bodies k.pairs;
@@ -141,14 +141,14 @@ lists_collided w k rises = record {
 -- what is known of the world as the ticks find it
 pub record IsCollided (w : World) : Type 0 where
   pub kept : IsKept (collided_world w)
-  pub acting : acting_of (collided_world w).plain ≡ turned_in w
+  pub acting : acting_of (collided_world w).plain ≡ changed_in w
 
 pub collide_kept : (w : World) → IsKept w → AreKeysRising (collided_in w).now → IsCollided w
 collide_kept w k rises =
-    let is = turned_acting_is w k rises in
+    let is = acting_after_changes_is w k rises in
     record {
-      kept = awake_put (with_contacts w) (turned_in w) (lists_collided w k rises) is (turned_awake w k rises);
-      acting = (acted (with_contacts w).plain (turned_in w) k.bodies is).acting;
+      kept = awake_put (with_contacts w) (changed_in w) (lists_collided w k rises) is (changed_awake w k rises);
+      acting = (acted (with_contacts w).plain (changed_in w) k.bodies is).acting;
     }
 
 -- ---- the ticks
@@ -183,8 +183,8 @@ length-ends : (joints : List (Option BodyJoint)) → length (map ends_in joints)
 length-ends [] = refl
 length-ends (o ∷ os) = ap suc (length-ends os)
 
-matched_ends : (places : List Place) (old new : List (Option BodyJoint)) → HaveSameEnds old new → AreMatched places old → AreMatched places new
-matched_ends places old new same m =
+matched_ends : (slot_entries : List SlotEntry) (old new : List (Option BodyJoint)) → HaveSameEnds old new → AreMatched slot_entries old → AreMatched slot_entries new
+matched_ends slot_entries old new same m =
     let long : length new ≡ length old = sym (length-ends new) ∙ ap length same ∙ length-ends old in
     record {
       slots = m.slots ∙ sym long;
@@ -194,10 +194,10 @@ matched_ends places old new same m =
 
 -- no tie sees what the ticks have changed
 ticked_ties : (w : Plain) (new bodies : List (Option Body)) (joints : List (Option BodyJoint)) (contacts : List ContactEntry) (sums : StepSums) → AreAlike w.bodies new → IsTicked w bodies joints contacts sums
-    → ties_of new (slots_of w.joint_places joints) contacts ≡ ties_of w.bodies (joints_in_slots w) w.contacts
+    → ties_of new (slots_of w.joint_entries joints) contacts ≡ ties_of w.bodies (joints_in_slots w) w.contacts
 ticked_ties w new bodies joints contacts sums alike t =
-    alike_bodies_keep_ties w.bodies new (slots_of w.joint_places joints) contacts alike
-    ∙ impulses_keep_ties w.bodies (joints_in_slots w) (slots_of w.joint_places joints) contacts refl t.ends
+    alike_bodies_keep_ties w.bodies new (slots_of w.joint_entries joints) contacts alike
+    ∙ impulses_keep_ties w.bodies (joints_in_slots w) (slots_of w.joint_entries joints) contacts refl t.ends
     ∙ same_touching_keep_ties w.bodies (joints_in_slots w) w.contacts contacts t.touching
 
 -- ---- the sleep phase
@@ -242,9 +242,9 @@ rested_is w n bodies joints contacts sums k t =
     let timers : List ℕ = timers_of (timed_bodies n bodies) joints contacts in
     let alike = ticked_alike w.plain n bodies joints contacts sums t in
     record {
-      settled = sleep_phase_keeps s timers k.settled;
+      consistent = sleep_phase_keeps s timers k.consistent;
       ties = phase_ties timers s ∙ sym (ticked_ties w.plain (timed_bodies n bodies) bodies joints contacts sums alike t);
-      tied = λ slot. movers_stay.phase s timers k.settled slot ∙ tied_alike w.plain.bodies (timed_bodies n bodies) w.plain.islands alike k.tied slot;
+      tied = λ slot. movers_stay.phase s timers k.consistent slot ∙ tied_alike w.plain.bodies (timed_bodies n bodies) w.plain.islands alike k.tied slot;
       long = phase_long constraint_number timers s ∙ k.labels ∙ sym (slots_then w.plain.bodies bodies (timed_bodies n bodies) t.slots (timed_same_slots n bodies)).slots;
     }
 
@@ -279,10 +279,10 @@ lists_stepped w n bodies joints contacts sums s events k few ticks t =
       bodies = told_are_bodies s.labels timed are;
       filters = filters_same old new shapes k.filters;
       timers = told_timers s.labels timed (w.plain.steps + 1) (timed_timers n bodies w.plain.steps ticks t.timers);
-      matched = AreMatched-same w.plain.places old new slots k.matched;
-      places = k.places;
-      joint_slots = matched_ends w.plain.joint_places w.plain.joints joints t.ends k.joint_slots;
-      joint_places = k.joint_places;
+      matched = AreMatched-same w.plain.slot_entries old new slots k.matched;
+      slot_entries = k.slot_entries;
+      joint_slots = matched_ends w.plain.joint_entries w.plain.joints joints t.ends k.joint_slots;
+      joint_entries = k.joint_entries;
       joints = joints_same old new joints slots t.joints;
       contacts = t.rising;
       pairs = contacts_of_same old new contacts moves t.pairs;
@@ -301,23 +301,23 @@ ticked_kept w n bodies joints contacts sums s events k few ticks t e =
     let is : IsActing after s = subst (IsActing after) (sym e) (rested_is w n bodies joints contacts sums k t) in
     let a = acted after s (timed_are_bodies n bodies t.bodies) is in
     kept_of (record w { plain = with_acting s after; entries = w.entries ++ (step_entries (w.plain.calls + 1) sums ++ rest_entries (w.plain.calls + 1) s.labels (timed_bodies n bodies)); events = events })
-    (lists_stepped w n bodies joints contacts sums s events k few ticks t) a.settled a.tied a.told a.labels a.moved
+    (lists_stepped w n bodies joints contacts sums s events k few ticks t) a.consistent a.tied a.told a.labels a.moved
 
 -- ---- the whole step
 
 -- The collide, the ticks, of which the bodies, the joints, the contacts and the sums are known, and the sleep phase.
 pub step_kept : (w : World) (n : ℕ) (bodies : List (Option Body)) (joints : List (Option BodyJoint)) (contacts : List ContactEntry) (sums : StepSums) (events : EventLists) → IsKept w → w.plain.calls < 2 ^ 40 → n ≤ 8
     → AreKeysRising (collided_in w).now → IsTicked (collided_world w).plain bodies joints contacts sums
-    → let s : Acting Constraint = rested_acting (timed_bodies n bodies) joints contacts (turned_in w) in
+    → let s : Acting Constraint = rested_acting (timed_bodies n bodies) joints contacts (changed_in w) in
     IsKept (record w { plain = with_acting s (ticked (collided_world w).plain n bodies joints contacts); entries = w.entries ++ (step_entries (w.plain.calls + 1) sums ++ rest_entries (w.plain.calls + 1) s.labels (timed_bodies n bodies)); events = events })
 step_kept w n bodies joints contacts sums events k few ticks rises t =
     let is = collide_kept w k rises in
-    let same : rested_acting (timed_bodies n bodies) joints contacts (turned_in w) ≡ rested_after (collided_world w).plain n bodies joints contacts = ap (rested_acting (timed_bodies n bodies) joints contacts) (sym is.acting) in
-    ticked_kept (collided_world w) n bodies joints contacts sums (rested_acting (timed_bodies n bodies) joints contacts (turned_in w)) events is.kept few ticks t same
+    let same : rested_acting (timed_bodies n bodies) joints contacts (changed_in w) ≡ rested_after (collided_world w).plain n bodies joints contacts = ap (rested_acting (timed_bodies n bodies) joints contacts) (sym is.acting) in
+    ticked_kept (collided_world w) n bodies joints contacts sums (rested_acting (timed_bodies n bodies) joints contacts (changed_in w)) events is.kept few ticks t same
 
 -- the same as the rules say it, of whatever the ticks have left
 pub step_solved_kept : (w : World) (n : ℕ) (s : Solving) → IsKept w → w.plain.calls < 2 ^ 40 → n ≤ 8 → AreKeysRising (collided_in w).now
-    → IsTicked (collided_world w).plain (renewed_bodies (bodies_of s)) s.joints s.contacts s.sums → IsKept (world_with w (step_solved w.plain n (collided_in w) (turned_in w) s))
+    → IsTicked (collided_world w).plain (renewed_bodies (bodies_of s)) s.joints s.contacts s.sums → IsKept (world_with w (step_solved w.plain n (collided_in w) (changed_in w) s))
 step_solved_kept w n s k few ticks rises t =
-    let rested : Acting Constraint = rested_acting (bodies_ticked n s) s.joints s.contacts (turned_in w) in
-    step_kept w n (renewed_bodies (bodies_of s)) s.joints s.contacts s.sums (events_of w.plain (collided_in w) (turned_in w).labels rested.labels) k few ticks rises t
+    let rested : Acting Constraint = rested_acting (bodies_ticked n s) s.joints s.contacts (changed_in w) in
+    step_kept w n (renewed_bodies (bodies_of s)) s.joints s.contacts s.sums (events_of w.plain (collided_in w) (changed_in w).labels rested.labels) k few ticks rises t

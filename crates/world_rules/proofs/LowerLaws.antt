@@ -14,8 +14,8 @@ use Rattle.solver_sets.proofs.TieLaws as set_tie_laws
 pub ties_rise : ties.TiesRise
 ties_rise = set_tie_laws.ties_rise
 
-pub ties_are_named : ties.TiesAreNamed
-ties_are_named = set_tie_laws.ties_named
+pub ties_are_within : ties.TiesAreWithin
+ties_are_within = set_tie_laws.ties_named
 
 pub movers_have_labels : ties.MoversHaveLabels
 movers_have_labels = set_tie_laws.movers_have_labels
@@ -65,11 +65,11 @@ ties_of_no_mover = set_body_laws.of_no_mover
 pub no_ties_of_disabled : ties.NoTiesOfDisabled
 no_ties_of_disabled = set_body_laws.none_of_disabled
 
-pub keys_turn : ties.KeysTurn
-keys_turn = set_collide_laws.keys_turn
+pub keys_change : ties.KeysChange
+keys_change = set_collide_laws.keys_change
 
-pub keys_can_turn : ties.KeysCanTurn
-keys_can_turn = set_collide_laws.keys_can_turn
+pub keys_can_change : ties.KeysCanChange
+keys_can_change = set_collide_laws.keys_can_change
 
 pub few_begin : ties.FewBegin
 few_begin = set_collide_laws.few_begin
@@ -86,11 +86,11 @@ ending_keeps = wake_kept_lemmas.ending_keeps constraint_number
 pub beginning_keeps : sleeping.BeginningKeeps constraint_number
 beginning_keeps = wake_kept_lemmas.beginning_keeps constraint_number
 
-pub turning_keeps : sleeping.TurningKeeps constraint_number
-turning_keeps = wake_kept_lemmas.turning_keeps constraint_number
+pub changing_keeps : sleeping.ChangingKeeps constraint_number
+changing_keeps = wake_kept_lemmas.changing_keeps constraint_number
 
-pub turns_into : sleeping.TurnsInto constraint_number
-turns_into = wake_between_lemmas.turns_into constraint_number
+pub changes_lead_to : sleeping.ChangesLeadTo constraint_number
+changes_lead_to = wake_between_lemmas.changes_lead_to constraint_number
 
 pub going_keeps : sleeping.GoingKeeps constraint_number
 going_keeps = wake_phase_lemmas.going_keeps constraint_number
@@ -126,7 +126,7 @@ pub waking_leaves_the_awake : sleeping.WakingLeavesTheAwake constraint_number
 waking_leaves_the_awake = wake_law_lemmas.waking_leaves_the_awake constraint_number
 
 pub empty_is_consistent : sleeping.EmptyIsConsistent constraint_number
-empty_is_consistent = wake_phase_lemmas.empty_settled constraint_number
+empty_is_consistent = wake_phase_lemmas.empty_consistent constraint_number
 
 pub linked_stand_together : sleeping.LinkedStandTogether constraint_number
 linked_stand_together = wake_kept_lemmas.linked_stand constraint_number
@@ -137,8 +137,8 @@ beginning_each_keeps = wake_law_lemmas.beginning_each_keeps constraint_number
 pub ending_each_keeps : sleeping.EndingEachKeeps constraint_number
 ending_each_keeps = wake_law_lemmas.ending_each_keeps constraint_number
 
-pub same_names_same_ties : ties.SameNamesSameTies
-same_names_same_ties = set_collide_laws.same_names
+pub same_ids_same_ties : ties.SameIdsSameTies
+same_ids_same_ties = set_collide_laws.same_names
 
 pub sleepers_are_one_component : sleeping.SleepersAreOneComponent constraint_number
 sleepers_are_one_component = wake_kept_lemmas.sleepers_are constraint_number

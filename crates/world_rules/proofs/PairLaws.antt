@@ -18,7 +18,8 @@ use Rattle.shapes.specs.declared.shape.ShapeDef.{ShapeDef}
 use Rattle.shapes.specs.Shapes.{IsShape, IsShapeDef, are_forms_allowed, is_form_allowed, is_in_range, shapes_refusal}
 use Rattle.shapes.specs.Filters.{should_collide}
 use Rattle.shapes.specs.Poses.{IsPose}
-use Rattle.shapes.specs.Manifolds.{manifold_of, IsPointWithin, IsSecond}
+use Rattle.shapes.specs.Manifolds.{manifold_of}
+use Rattle.shapes.specs.PointsWithin.{IsPointWithin, IsSecond}
 use Rattle.shapes.proofs.SecondLemmas.{manifold_has_second}
 use Rattle.shapes.proofs.TouchLemmas.{has_touching}
 use Rattle.contacts_base.specs.declared.key.ContactKey.{ContactKey}
@@ -36,19 +37,18 @@ use Rattle.contacts_base.specs.Evaluate.{apart, impulses_at, first_impulses, kep
 use Rattle.contacts_base.specs.Limits.{IsContactPoint, IsContact}
 use Rattle.contacts_base.specs.Near.{is_near, one_stirs}
 use Rattle.contacts.specs.ByPairs.{contact_of_pair, contacts_between, may_collide, near_pairs, pairs_with}
-use Rattle.contacts.specs.Pairs.{key_of}
-use Rattle.contacts.specs.Changes.{entry_with, entry_of, kept_contact, surface_with}
+use Rattle.contacts.specs.Changes.{entry_with, entry_of, kept_contact, surface_with, key_of}
 use Rattle.contacts.proofs.Members.{Each, each_in, each_from, each_append, all_from_each}
 use Rattle.graph_colours.proofs.PlaceLemmas.{same_from}
-use Rattle.body_handles.specs.declared.places.TheConstants.{MAX_SLOTS}
+use Rattle.body_handles.specs.declared.slot_table.TheConstants.{MAX_SLOTS}
 use Rattle.plain_world.specs.declared.body.Body.{Body}
 use Rattle.plain_world.specs.declared.joint.BodyJoint.{BodyJoint}
 use Rattle.plain_world.specs.Joints.{forbidden_pairs}
 use Rattle.plain_world.specs.Bodies.{is_mover, pose_of, stirs, IsBody, AreBodies}
 use Rattle.plain_world.specs.Kinds.{is_dynamic}
-use Rattle.plain_world.specs.Formed.{HasPoints, IsShapeOf, is_surface, mixed_of, mixed_surface, no_surface, shape_named, shape_of_body, surface_of}
+use Rattle.plain_world.specs.Formed.{HasPoints, IsShapeOf, is_surface, mixed_of, mixed_surface, no_surface, shape_with_id, shape_of_body, surface_of}
 use Rattle.plain_world.specs.Slots.{body_at, shapes_in}
-use Rattle.solver_sets.specs.Ties.{IsNamed}
+use Rattle.solver_sets.specs.Ties.{IsKeyWithin}
 use Rattle.solver_sets.proofs.CollideLaws.{same_key}
 use Rattle.world_core_base.specs.ContactBodies.{moves_in, moves, IsContactOf, AreContactsOf}
 use Rattle.world_rules.specs.Collide.{shape_proxies, body_proxies, entry_proxies, proxies_from, proxies_of, contacts_after}
@@ -386,7 +386,7 @@ shape_of bodies p h = subst (λ (o : Option Body). p.id.index < shapes_in o) (sy
 on_body : (b : Body) (index : ℕ) → b.enabled ≡ true → shape_of_body (Some b) index ≡ slice_get b.shapes index
 on_body b index on = ap (λ (t : Bool). cond t (slice_get b.shapes index) None) on
 
-named_shape : (bodies : List (Option Body)) (p : Proxy) (h : IsProxyIn 0 bodies p) → shape_named bodies p.id ≡ Some h.is.form
+named_shape : (bodies : List (Option Body)) (p : Proxy) (h : IsProxyIn 0 bodies p) → shape_with_id bodies p.id ≡ Some h.is.form
 named_shape bodies p h = ap (λ (o : Option Body). shape_of_body o p.id.index) (body_there bodies p h) ∙ on_body h.body p.id.index h.is.enabled ∙ h.is.formed
 
 both_pass : (s t u v : Bool) → s ≡ true → t ≡ true → u ≡ true → v ≡ true → ((s && t) && (u && v)) ≡ true
@@ -408,7 +408,7 @@ good_mixed : (a b : Surface) → is_surface a ≡ true → is_surface b ≡ true
 good_mixed a b e f = ap₂ (λ (s t : Bool). cond (s && t) (mixed a b) no_surface) e f
 
 -- a new contact has what the surfaces of its two shapes mix to
-new_surface : (bodies : List (Option Body)) (p q : Proxy) → IsProxyIn 0 bodies p → IsProxyIn 0 bodies q → mixed p.surface q.surface ≡ mixed_of (shape_named bodies p.id) (shape_named bodies q.id)
+new_surface : (bodies : List (Option Body)) (p q : Proxy) → IsProxyIn 0 bodies p → IsProxyIn 0 bodies q → mixed p.surface q.surface ≡ mixed_of (shape_with_id bodies p.id) (shape_with_id bodies q.id)
 new_surface bodies p q hp hq =
     ap₂ (λ (s t : Surface). mixed s t) hp.is.surface hq.is.surface
     ∙ sym (good_mixed (surface_of hp.is.form) (surface_of hq.is.form) (good_surface hp.is.form hp.is.allowed) (good_surface hq.is.form hq.is.allowed))
@@ -424,11 +424,11 @@ number_looked_up [] key = λ x h. cc
 number_looked_up (e ∷ es) key = number_if (number_of e == key_number key) e (lookup es key) key refl (number_looked_up es key)
 
 -- and so it is that of the two shapes
-old_surface : (bodies : List (Option Body)) (old : List ContactEntry) (p q : Proxy) → All (HasBodies bodies) old → IsNamed (key_of p q) → (e : ContactEntry) → lookup old (key_of p q) ≡ Some e → e.surface ≡ mixed_of (shape_named bodies p.id) (shape_named bodies q.id)
+old_surface : (bodies : List (Option Body)) (old : List ContactEntry) (p q : Proxy) → All (HasBodies bodies) old → IsKeyWithin (key_of p q) → (e : ContactEntry) → lookup old (key_of p q) ≡ Some e → e.surface ≡ mixed_of (shape_with_id bodies p.id) (shape_with_id bodies q.id)
 old_surface bodies old p q all named e at =
     let has : HasBodies bodies e = looked_up (HasBodies bodies) old (key_of p q) all e at in
     let same : e.key ≡ key_of p q = same_key e.key (key_of p q) has.named named (number_looked_up old (key_of p q) e at) in
-    has.surface ∙ ap (λ (k : ContactKey). mixed_of (shape_named bodies k.first) (shape_named bodies k.second)) same
+    has.surface ∙ ap (λ (k : ContactKey). mixed_of (shape_with_id bodies k.first) (shape_with_id bodies k.second)) same
 
 either_surface : (o : Option ContactEntry) (p q : Proxy) (s : Surface) → mixed p.surface q.surface ≡ s → ((e : ContactEntry) → o ≡ Some e → e.surface ≡ s) → surface_with o p q ≡ s
 either_surface None p q s new kept = new
@@ -442,14 +442,14 @@ entry_has_bodies bodies old p q few all hp hq order =
     let a = hp.is.index in
     let b = hq.is.index in
     let slot = below_length bodies q.id.slot hq.body (body_there bodies q hq) in
-    let named : IsNamed (key_of p q) = record { first = omega (arith, a); second = omega (arith, b); slot = omega (arith, slot, few) } in
+    let named : IsKeyWithin (key_of p q) = record { first = omega (arith, a); second = omega (arith, b); slot = omega (arith, slot, few) } in
     record {
       first = ap is_some (body_there bodies p hp);
       second = ap is_some (body_there bodies q hq);
       first_shape = shape_of bodies p hp;
       second_shape = shape_of bodies q hq;
       order = order;
-      surface = either_surface (lookup old (key_of p q)) p q (mixed_of (shape_named bodies p.id) (shape_named bodies q.id)) (new_surface bodies p q hp hq) (old_surface bodies old p q all named);
+      surface = either_surface (lookup old (key_of p q)) p q (mixed_of (shape_with_id bodies p.id) (shape_with_id bodies q.id)) (new_surface bodies p q hp hq) (old_surface bodies old p q all named);
       named = named;
       points = either_points (one_stirs p q) (evaluated (lookup old (key_of p q)) (manifold_of p.shape p.pose q.shape q.pose)) (kept_contact (lookup old (key_of p q)))
           (evaluated_points (lookup old (key_of p q)) (manifold_of p.shape p.pose q.shape q.pose) touching.first touching.second (manifold_has_second p.shape p.pose q.shape q.pose (manifold_of p.shape p.pose q.shape q.pose) refl))

@@ -3,8 +3,8 @@ use Rattle.std.proofs.Common.{◌≡◌, ℕ, ◌+◌, ◌<◌, ◌^◌, ◌++�
 use Rattle.std.specs.Prelude.{option_map, slice_set, filter, filter_map}
 use Rattle.std.proofs.lemmas.List.{append-nil}
 use Rattle.body_handles.specs.declared.handle.Handle.{Handle}
-use Rattle.body_handles.specs.declared.places.TheConstants.{MAX_SLOTS}
-use Rattle.body_handles.specs.Places.{lowest, places_without}
+use Rattle.body_handles.specs.declared.slot_table.TheConstants.{MAX_SLOTS}
+use Rattle.body_handles.specs.SlotEntries.{lowest, slot_entries_without}
 use Rattle.contacts.specs.Constraints.{constraint_number}
 use Rattle.contacts.specs.declared.constraint.Constraint.{Constraint}
 use Rattle.contacts.specs.declared.constraint.Constraint.TheVariants.{Joint}
@@ -118,9 +118,9 @@ gone_is w slot mover k = ap (gone_from slot mover) (ended_is w slot k)
 abbrev pub destroyed_now : World → Acting Constraint → Acting Constraint → Handle → Body → World
 destroyed_now w woke s h b = record w {
   plain = record w.plain {
-    places = places_without w.plain.places h;
+    slot_entries = slot_entries_without w.plain.slot_entries h;
     bodies = told s.labels (slice_set (told woke.labels w.plain.bodies) h.slot None);
-    joint_places = (unjoined_all h.slot (joints_in_slots w.plain)).places;
+    joint_entries = (unjoined_all h.slot (joints_in_slots w.plain)).slot_entries;
     joints = (unjoined_all h.slot (joints_in_slots w.plain)).joints;
     contacts = contacts_without h.slot w.plain.contacts;
     islands = s.labels;
@@ -183,12 +183,12 @@ abbrev pub made_from : ℕ → Bool → Acting Constraint → Acting Constraint
 made_from slot mover s = widened slot (come_from slot mover s)
 
 abbrev pub created_now : World → Acting Constraint → BodyDef → World
-created_now w s d = record w { plain = counted (record (with_made (lowest w.plain.places) (made d) w.plain) { islands = s.labels; colours = ids_of s.lists }) }
+created_now w s d = record w { plain = counted (record (with_made (lowest w.plain.slot_entries) (made d) w.plain) { islands = s.labels; colours = ids_of s.lists }) }
 
-created_at : (w : World) (d : BodyDef) → IsKept w → w.plain.calls < 2 ^ 40 → lowest w.plain.places < MAX_SLOTS → IsBody (made d) → HaveFilters d.shapes
-    → IsLeft w (created w.plain d) (created_now w (made_from (lowest w.plain.places) (is_mover (made d)) (acting_of w.plain)) d) (made_from (lowest w.plain.places) (is_mover (made d)) (acting_of w.plain))
+created_at : (w : World) (d : BodyDef) → IsKept w → w.plain.calls < 2 ^ 40 → lowest w.plain.slot_entries < MAX_SLOTS → IsBody (made d) → HaveFilters d.shapes
+    → IsLeft w (created w.plain d) (created_now w (made_from (lowest w.plain.slot_entries) (is_mover (made d)) (acting_of w.plain)) d) (made_from (lowest w.plain.slot_entries) (is_mover (made d)) (acting_of w.plain))
 created_at w d k few free is filters =
-    let slot : ℕ = lowest w.plain.places in
+    let slot : ℕ = lowest w.plain.slot_entries in
     let s : Acting Constraint = made_from slot (is_mover (made d)) (acting_of w.plain) in
     let put = body_made_put w (made d) k free (made_new d is filters) in
     let told_is = body_made_is w (made d) k free (made_new d is filters) refl in
@@ -199,10 +199,10 @@ created_at w d k few free is filters =
       acting = sym (acting_counted (with_acting s (with_made slot (made d) w.plain)) ∙ put.acting);
     }
 
-pub create_left : (w : World) (s : Acting Constraint) (d : BodyDef) → IsKept w → s ≡ acting_of w.plain → w.plain.calls < 2 ^ 40 → lowest w.plain.places < MAX_SLOTS → IsBody (made d) → HaveFilters d.shapes
-    → IsLeft w (created w.plain d) (created_now w (made_from (lowest w.plain.places) (is_mover (made d)) s) d) (made_from (lowest w.plain.places) (is_mover (made d)) s)
+pub create_left : (w : World) (s : Acting Constraint) (d : BodyDef) → IsKept w → s ≡ acting_of w.plain → w.plain.calls < 2 ^ 40 → lowest w.plain.slot_entries < MAX_SLOTS → IsBody (made d) → HaveFilters d.shapes
+    → IsLeft w (created w.plain d) (created_now w (made_from (lowest w.plain.slot_entries) (is_mover (made d)) s) d) (made_from (lowest w.plain.slot_entries) (is_mover (made d)) s)
 create_left w s d k e few free is filters =
-    subst (λ (a : Acting Constraint). IsLeft w (created w.plain d) (created_now w (made_from (lowest w.plain.places) (is_mover (made d)) a) d) (made_from (lowest w.plain.places) (is_mover (made d)) a)) (sym e) (created_at w d k few free is filters)
+    subst (λ (a : Acting Constraint). IsLeft w (created w.plain d) (created_now w (made_from (lowest w.plain.slot_entries) (is_mover (made d)) a) d) (made_from (lowest w.plain.slot_entries) (is_mover (made d)) a)) (sym e) (created_at w d k few free is filters)
 
 -- ---- CreateJoint and DestroyJoint
 
@@ -210,11 +210,11 @@ abbrev pub ends_of : BodyJoint → List ℕ
 ends_of j = j.a ∷ j.b ∷ []
 
 abbrev pub joints_now : World → List (Option Body) → Acting Constraint → JointSlots → World
-joints_now w bodies s joints = record w { plain = counted (record w.plain { bodies = bodies; joint_places = joints.places; joints = joints.joints; islands = s.labels; colours = ids_of s.lists }) }
+joints_now w bodies s joints = record w { plain = counted (record w.plain { bodies = bodies; joint_entries = joints.slot_entries; joints = joints.joints; islands = s.labels; colours = ids_of s.lists }) }
 
 -- the handle that a joint gets
 abbrev pub next_joint : Plain → Handle
-next_joint w = handle_at w.joint_places (lowest w.joint_places)
+next_joint w = handle_at w.joint_entries (lowest w.joint_entries)
 
 abbrev pub begun_from : Plain → Acting Constraint → BodyJoint → Acting Constraint
 begun_from w s j = begun_with (Joint (next_joint w)) (joint_movers (woken_bodies w s (ends_of j)) j) (woken_from w s (ends_of j))
@@ -222,7 +222,7 @@ begun_from w s j = begun_with (Joint (next_joint w)) (joint_movers (woken_bodies
 abbrev pub unjoined_from : Plain → Acting Constraint → Handle → BodyJoint → Acting Constraint
 unjoined_from w s h j = ended_with (Joint h) (joint_movers (woken_bodies w s (ends_of j)) j) (woken_from w s (ends_of j))
 
-joined_at : (w : World) (d : JointDef) → IsKept w → w.plain.calls < 2 ^ 40 → lowest w.plain.joint_places < MAX_SLOTS → IsBodyJoint w.plain.bodies (joint_made d)
+joined_at : (w : World) (d : JointDef) → IsKept w → w.plain.calls < 2 ^ 40 → lowest w.plain.joint_entries < MAX_SLOTS → IsBodyJoint w.plain.bodies (joint_made d)
     → IsLeft w (joined w.plain d (next_joint w.plain)) (joints_now w (woken_bodies w.plain (acting_of w.plain) (ends_of (joint_made d))) (begun_from w.plain (acting_of w.plain) (joint_made d)) (joined_with (joint_made d) (joints_in_slots w.plain))) (begun_from w.plain (acting_of w.plain) (joint_made d))
 unfolding acting_of
 joined_at w d k few free is =
@@ -241,7 +241,7 @@ joined_at w d k few free is =
       acting = begun ∙ sym put.acting;
     }
 
-pub join_left : (w : World) (s : Acting Constraint) (d : JointDef) → IsKept w → s ≡ acting_of w.plain → w.plain.calls < 2 ^ 40 → lowest w.plain.joint_places < MAX_SLOTS → IsBodyJoint w.plain.bodies (joint_made d)
+pub join_left : (w : World) (s : Acting Constraint) (d : JointDef) → IsKept w → s ≡ acting_of w.plain → w.plain.calls < 2 ^ 40 → lowest w.plain.joint_entries < MAX_SLOTS → IsBodyJoint w.plain.bodies (joint_made d)
     → IsLeft w (joined w.plain d (next_joint w.plain)) (joints_now w (woken_bodies w.plain s (ends_of (joint_made d))) (begun_from w.plain s (joint_made d)) (joined_with (joint_made d) (joints_in_slots w.plain))) (begun_from w.plain s (joint_made d))
 join_left w s d k e few free is =
     subst (λ (a : Acting Constraint). IsLeft w (joined w.plain d (next_joint w.plain)) (joints_now w (woken_bodies w.plain a (ends_of (joint_made d))) (begun_from w.plain a (joint_made d)) (joined_with (joint_made d) (joints_in_slots w.plain))) (begun_from w.plain a (joint_made d)))
@@ -251,7 +251,7 @@ join_left w s d k e few free is =
 abbrev pub unjoined_of : Plain → Handle → BodyJoint → Applied
 unjoined_of w h j = quietly (joint_gone h j (with_woken w (ends_of j)))
 
-unjoined_at : (w : World) (h : Handle) (j : BodyJoint) → IsKept w → w.plain.calls < 2 ^ 40 → joint_of w.plain.joint_places w.plain.joints h ≡ Some j
+unjoined_at : (w : World) (h : Handle) (j : BodyJoint) → IsKept w → w.plain.calls < 2 ^ 40 → joint_of w.plain.joint_entries w.plain.joints h ≡ Some j
     → IsLeft w (unjoined_of w.plain h j) (joints_now w (woken_bodies w.plain (acting_of w.plain) (ends_of j)) (unjoined_from w.plain (acting_of w.plain) h j) (unjoined h (joints_in_slots w.plain))) (unjoined_from w.plain (acting_of w.plain) h j)
 unfolding acting_of
 unjoined_at w h j k few named =
@@ -268,7 +268,7 @@ unjoined_at w h j k few named =
       acting = ended ∙ sym put.acting;
     }
 
-pub unjoin_left : (w : World) (s : Acting Constraint) (h : Handle) (j : BodyJoint) → IsKept w → s ≡ acting_of w.plain → w.plain.calls < 2 ^ 40 → joint_of w.plain.joint_places w.plain.joints h ≡ Some j
+pub unjoin_left : (w : World) (s : Acting Constraint) (h : Handle) (j : BodyJoint) → IsKept w → s ≡ acting_of w.plain → w.plain.calls < 2 ^ 40 → joint_of w.plain.joint_entries w.plain.joints h ≡ Some j
     → IsLeft w (unjoined_of w.plain h j) (joints_now w (woken_bodies w.plain s (ends_of j)) (unjoined_from w.plain s h j) (unjoined h (joints_in_slots w.plain))) (unjoined_from w.plain s h j)
 unjoin_left w s h j k e few named =
     subst (λ (a : Acting Constraint). IsLeft w (unjoined_of w.plain h j) (joints_now w (woken_bodies w.plain a (ends_of j)) (unjoined_from w.plain a h j) (unjoined h (joints_in_slots w.plain))) (unjoined_from w.plain a h j))

@@ -174,8 +174,8 @@ ended_with_alike id (Some m) s p h k = ended_alike (record { id = id; movers = m
 
 pub begun_told : (w : World) (id : Constraint) (o : Option Movers) → IsKept w → ((m : Movers) → o ≡ Some m → are_awake w.plain.islands m ≡ true) → told (begun_with id o (acting_of w.plain)).labels w.plain.bodies ≡ w.plain.bodies
 unfolding acting_of
-begun_told w id o k up = told_quietly w (begun_with id o (acting_of w.plain)).labels k (begun_with_alike id o (acting_of w.plain) k.settled.islands.partition up)
+begun_told w id o k up = told_quietly w (begun_with id o (acting_of w.plain)).labels k (begun_with_alike id o (acting_of w.plain) k.consistent.islands.partition up)
 
 pub ended_told : (w : World) (id : Constraint) (o : Option Movers) → IsKept w → ((m : Movers) → o ≡ Some m → are_awake w.plain.islands m ≡ true) → told (ended_with id o (acting_of w.plain)).labels w.plain.bodies ≡ w.plain.bodies
 unfolding acting_of
-ended_told w id o k up = told_quietly w (ended_with id o (acting_of w.plain)).labels k (ended_with_alike id o (acting_of w.plain) k.settled.islands.partition up)
+ended_told w id o k up = told_quietly w (ended_with id o (acting_of w.plain)).labels k (ended_with_alike id o (acting_of w.plain) k.consistent.islands.partition up)

@@ -8,11 +8,12 @@ use Rattle.contacts_base.specs.declared.contact.ContactEntry.{ContactEntry}
 use Rattle.contacts_base.specs.declared.contact.ContactPoint.{ContactPoint}
 use Rattle.contacts_base.specs.declared.evaluation.Impulses.{Impulses}
 use Rattle.contacts_base.specs.declared.key.ContactKey.{ContactKey}
-use Rattle.contacts_base.specs.Contacts.{AreKeysRising, with_impulses, with_second}
+use Rattle.contacts_base.specs.Contacts.{AreKeysRising}
+use Rattle.contacts_base.specs.ContactLists.{with_impulses, with_second}
 use Rattle.contacts_base.specs.Evaluate.{touches}
 use Rattle.colour_solver.specs.declared.constraint_row.ConstraintRow.{ConstraintRow}
 use Rattle.colour_solver.specs.declared.ticks.StepSums.{StepSums}
-use Rattle.colour_solver.specs.ConstraintTurns.{contacts_among, joints_among}
+use Rattle.colour_solver.specs.ConstraintVisits.{contacts_among, joints_among}
 use Rattle.colour_solver.specs.Ticks.{AreSums, added}
 use Rattle.colour_solver_base.specs.declared.row.ContactRow.{ContactRow}
 use Rattle.joint_rows.specs.declared.row.JointRow.{JointRow}

@@ -7,7 +7,7 @@ use Rattle.world_rules.specs.declared.command.Reply.{Reply}
 use Rattle.world_rules.specs.World.{World}
 use Rattle.world_rules.specs.Apply.{Applied, apply}
 use Rattle.world_rules.specs.Replay.{answer_of, after_one, after, replay, answers_to}
-use Rattle.world_rules.specs.Laws.{PlainListsTellAll}
+use Rattle.world_rules.specs.Laws.{PlainListsDetermineAll}
 
 -- after the same outcome
 one_same : (v w : World) (outcome : Result Applied Refusal) → v.plain ≡ w.plain → (after_one v outcome).plain ≡ (after_one w outcome).plain
@@ -26,8 +26,8 @@ answers_same v w [] e = refl
 answers_same v w (c ∷ cs) e =
     ap₂ (λ (a : Result Reply Refusal) (rest : List (Result Reply Refusal)). a ∷ rest) (ap (λ (p : Plain). answer_of (apply p c)) e) (answers_same (after v c) (after w c) cs (after_same v w c e))
 
-pub plain_lists_tell_all : PlainListsTellAll
-plain_lists_tell_all v w e = record {
+pub plain_lists_determine_all : PlainListsDetermineAll
+plain_lists_determine_all v w e = record {
   answers = λ (cs : List Command). answers_same v w cs e;
   plains = λ (cs : List Command). plains_same v w cs e;
 }

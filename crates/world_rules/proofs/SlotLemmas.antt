@@ -5,7 +5,7 @@ use Rattle.std.proofs.lemmas.Int.{ints}
 use Rattle.std.proofs.lemmas.Grind.{common_steps}
 use Rattle.fixed_geom.specs.Vectors.{IsWithin, plus, zero_vector}
 use Rattle.fixed_geom.specs.declared.vectors.Vec2.{Vec2}
-use Rattle.body_handles.specs.declared.places.Place.{Place}
+use Rattle.body_handles.specs.declared.slot_table.SlotEntry.{SlotEntry}
 use Rattle.colour_solver.proofs.VectorLaws.{plus_assoc, plus_zero, same_vector, zero_plus}
 use Rattle.plain_world.specs.declared.body.Body.{Body}
 use Rattle.plain_world.specs.Bodies.{is_mover, IsBody, AreBodies}
@@ -87,8 +87,8 @@ same_shapes (a ∷ bs) (suc slot) o e (suc k) = same_shapes bs slot o e k
 pub HaveSameSlots-set : (bodies : List (Option Body)) (slot : ℕ) (o : Option Body) → is_some o ≡ is_some (body_at bodies slot) → shapes_in o ≡ shapes_in (body_at bodies slot) → HaveSameSlots bodies (slice_set bodies slot o)
 HaveSameSlots-set bodies slot o e shapes = record { slots = grind (arith, common_steps); taken = same_set bodies slot o e; shapes = same_shapes bodies slot o shapes }
 
-pub AreMatched-same : (places : List Place) (old new : List (Option Body)) → HaveSameSlots old new → AreMatched places old → AreMatched places new
-AreMatched-same places old new same m = record {
+pub AreMatched-same : (slot_entries : List SlotEntry) (old new : List (Option Body)) → HaveSameSlots old new → AreMatched slot_entries old → AreMatched slot_entries new
+AreMatched-same slot_entries old new same m = record {
   slots = m.slots ∙ sym same.slots;
   few = rw same.slots m.few;
   taken = λ k. same.taken k ∙ m.taken k;

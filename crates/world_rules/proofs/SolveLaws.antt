@@ -8,7 +8,7 @@ use Rattle.std.proofs.lemmas.List.Kept.{AllPairs-cons}
 use Rattle.std.proofs.lemmas.List.Sums.{sum_by-cons}
 use Rattle.std.proofs.lemmas.Option.{same_Some}
 use Rattle.body_handles.specs.declared.handle.Handle.{Handle}
-use Rattle.body_handles.specs.declared.places.Place.{Place}
+use Rattle.body_handles.specs.declared.slot_table.SlotEntry.{SlotEntry}
 use Rattle.contacts.specs.declared.constraint.Constraint.{Constraint}
 use Rattle.contacts.specs.declared.constraint.Constraint.TheVariants.{Contact, Joint}
 use Rattle.contacts.specs.Constraints.{constraint_number}
@@ -65,100 +65,100 @@ ids_apart (m ∷ ms) once =
 
 -- ---- what is known of a tie
 
-abbrev generation_in : Option Place → Option ℕ
-generation_in o = option_map (λ (p : Place). p.generation) o
+abbrev generation_in : Option SlotEntry → Option ℕ
+generation_in o = option_map (λ (p : SlotEntry). p.generation) o
 
 -- a joint has the generation of its slot, and both bodies of a contact are there
-abbrev IsGood : List (Option Body) → List Place → Constraint → Type 0
-IsGood bodies places (Joint h) = generation_in (slice_get places h.slot) ≡ Some h.generation
-IsGood bodies places (Contact key) = AreThere bodies key.first.slot key.second.slot
+abbrev IsGood : List (Option Body) → List SlotEntry → Constraint → Type 0
+IsGood bodies slot_entries (Joint h) = generation_in (slice_get slot_entries h.slot) ≡ Some h.generation
+IsGood bodies slot_entries (Contact key) = AreThere bodies key.first.slot key.second.slot
 
 -- the same of a joint where the places begin with a slot
-record IsOwn (slot : ℕ) (places : List Place) (bond : Bond) : Type 0 where
+record IsOwn (slot : ℕ) (slot_entries : List SlotEntry) (bond : Bond) : Type 0 where
   handle : Handle
   id : bond.id ≡ Joint handle
   place : ℕ
   there : handle.slot ≡ slot + place
-  generation : generation_in (slice_get places place) ≡ Some handle.generation
+  generation : generation_in (slice_get slot_entries place) ≡ Some handle.generation
 
-later : (slot : ℕ) (p : Place) (places : List Place) (bond : Bond) → IsOwn (suc slot) places bond → IsOwn slot (p ∷ places) bond
-later slot p places bond h = let t = h.there in record { handle = h.handle; id = h.id; place = suc h.place; there = omega (arith, t); generation = h.generation }
+later : (slot : ℕ) (p : SlotEntry) (slot_entries : List SlotEntry) (bond : Bond) → IsOwn (suc slot) slot_entries bond → IsOwn slot (p ∷ slot_entries) bond
+later slot p slot_entries bond h = let t = h.there in record { handle = h.handle; id = h.id; place = suc h.place; there = omega (arith, t); generation = h.generation }
 
-first_own : (slot : ℕ) (p : Place) (places : List Place) (o : Option BodyJoint) (bonds : List Bond) → All (IsOwn slot (p ∷ places)) bonds → All (IsOwn slot (p ∷ places)) (bond_before (record { slot = slot; generation = p.generation }) o bonds)
-first_own slot p places None bonds all = all
-first_own slot p places (Some j) bonds all =
+first_own : (slot : ℕ) (p : SlotEntry) (slot_entries : List SlotEntry) (o : Option BodyJoint) (bonds : List Bond) → All (IsOwn slot (p ∷ slot_entries)) bonds → All (IsOwn slot (p ∷ slot_entries)) (bond_before (record { slot = slot; generation = p.generation }) o bonds)
+first_own slot p slot_entries None bonds all = all
+first_own slot p slot_entries (Some j) bonds all =
     let h : Handle = record { slot = slot; generation = p.generation } in
-    All-cons (IsOwn slot (p ∷ places)) (joint_bond h j) bonds (record { handle = h; id = refl; place = 0; there = omega arith; generation = refl }) all
+    All-cons (IsOwn slot (p ∷ slot_entries)) (joint_bond h j) bonds (record { handle = h; id = refl; place = 0; there = omega arith; generation = refl }) all
 
-joints_own : (slot : ℕ) (places : List Place) (joints : List (Option BodyJoint)) → All (IsOwn slot places) (joint_bonds_from slot places joints)
+joints_own : (slot : ℕ) (slot_entries : List SlotEntry) (joints : List (Option BodyJoint)) → All (IsOwn slot slot_entries) (joint_bonds_from slot slot_entries joints)
 joints_own slot [] joints = All-nil (IsOwn slot [])
-joints_own slot (p ∷ places) [] = All-nil (IsOwn slot (p ∷ places))
-joints_own slot (p ∷ places) (o ∷ joints) =
-    first_own slot p places o (joint_bonds_from (suc slot) places joints)
-    (All-weaker (IsOwn (suc slot) places) (IsOwn slot (p ∷ places)) (λ bond h. later slot p places bond h) (joint_bonds_from (suc slot) places joints) (joints_own (suc slot) places joints))
+joints_own slot (p ∷ slot_entries) [] = All-nil (IsOwn slot (p ∷ slot_entries))
+joints_own slot (p ∷ slot_entries) (o ∷ joints) =
+    first_own slot p slot_entries o (joint_bonds_from (suc slot) slot_entries joints)
+    (All-weaker (IsOwn (suc slot) slot_entries) (IsOwn slot (p ∷ slot_entries)) (λ bond h. later slot p slot_entries bond h) (joint_bonds_from (suc slot) slot_entries joints) (joints_own (suc slot) slot_entries joints))
 
-own_good : (bodies : List (Option Body)) (places : List Place) (bond : Bond) → IsOwn 0 places bond → IsGood bodies places bond.id
-own_good bodies places bond h =
+own_good : (bodies : List (Option Body)) (slot_entries : List SlotEntry) (bond : Bond) → IsOwn 0 slot_entries bond → IsGood bodies slot_entries bond.id
+own_good bodies slot_entries bond h =
     let t = h.there in
     let same : h.place ≡ h.handle.slot = omega (arith, t) in
-    subst (IsGood bodies places) (sym h.id) (ap (λ (n : ℕ). generation_in (slice_get places n)) (sym same) ∙ h.generation)
+    subst (IsGood bodies slot_entries) (sym h.id) (ap (λ (n : ℕ). generation_in (slice_get slot_entries n)) (sym same) ∙ h.generation)
 
-abbrev BondIsGood : List (Option Body) → List Place → Bond → Type 0
-BondIsGood bodies places bond = IsGood bodies places bond.id
+abbrev BondIsGood : List (Option Body) → List SlotEntry → Bond → Type 0
+BondIsGood bodies slot_entries bond = IsGood bodies slot_entries bond.id
 
-bonds_good : (bodies : List (Option Body)) (js : JointSlots) (contacts : List ContactEntry) → All (HasBodies bodies) contacts → All (BondIsGood bodies js.places) (bonds_of js contacts)
+bonds_good : (bodies : List (Option Body)) (js : JointSlots) (contacts : List ContactEntry) → All (HasBodies bodies) contacts → All (BondIsGood bodies js.slot_entries) (bonds_of js contacts)
 bonds_good bodies js contacts there =
     let touching : List ContactEntry = filter (λ (e : ContactEntry). touches e.contact) contacts in
     let keys : All (λ (k : ContactKey). AreThere bodies k.first.slot k.second.slot) (touching_keys contacts) =
     All-map (λ (k : ContactKey). AreThere bodies k.first.slot k.second.slot) (λ (e : ContactEntry). e.key) touching
     (All-weaker (HasBodies bodies) (λ (e : ContactEntry). AreThere bodies e.key.first.slot e.key.second.slot) (λ e h. (h.first, h.second)) touching (All-filter (λ (e : ContactEntry). touches e.contact) (HasBodies bodies) contacts there)) in
-    All-append (BondIsGood bodies js.places) (joint_bonds js) (map contact_bond (touching_keys contacts))
-    (All-weaker (IsOwn 0 js.places) (BondIsGood bodies js.places) (λ bond h. own_good bodies js.places bond h) (joint_bonds js) (joints_own 0 js.places js.joints))
-    (All-map (BondIsGood bodies js.places) contact_bond (touching_keys contacts) keys)
+    All-append (BondIsGood bodies js.slot_entries) (joint_bonds js) (map contact_bond (touching_keys contacts))
+    (All-weaker (IsOwn 0 js.slot_entries) (BondIsGood bodies js.slot_entries) (λ bond h. own_good bodies js.slot_entries bond h) (joint_bonds js) (joints_own 0 js.slot_entries js.joints))
+    (All-map (BondIsGood bodies js.slot_entries) contact_bond (touching_keys contacts) keys)
 
-abbrev TieIsGood : List (Option Body) → List Place → Member Constraint → Type 0
-TieIsGood bodies places m = IsGood bodies places m.id
+abbrev TieIsGood : List (Option Body) → List SlotEntry → Member Constraint → Type 0
+TieIsGood bodies slot_entries m = IsGood bodies slot_entries m.id
 
-one_good : (bodies : List (Option Body)) (places : List Place) (id : Constraint) (o : Option Movers) (ms : List (Member Constraint)) → IsGood bodies places id → All (TieIsGood bodies places) ms → All (TieIsGood bodies places) (cons_option (tie_with id o) ms)
-one_good bodies places id None ms is all = all
-one_good bodies places id (Some m) ms is all = All-cons (TieIsGood bodies places) (record { id = id; movers = m }) ms is all
+one_good : (bodies : List (Option Body)) (slot_entries : List SlotEntry) (id : Constraint) (o : Option Movers) (ms : List (Member Constraint)) → IsGood bodies slot_entries id → All (TieIsGood bodies slot_entries) ms → All (TieIsGood bodies slot_entries) (cons_option (tie_with id o) ms)
+one_good bodies slot_entries id None ms is all = all
+one_good bodies slot_entries id (Some m) ms is all = All-cons (TieIsGood bodies slot_entries) (record { id = id; movers = m }) ms is all
 
-in_good : (bodies : List (Option Body)) (places : List Place) (bonds : List Bond) → All (BondIsGood bodies places) bonds → All (TieIsGood bodies places) (ties_in bodies bonds)
-in_good bodies places [] all = All-nil (TieIsGood bodies places)
-in_good bodies places (bond ∷ bonds) all =
-    one_good bodies places bond.id (movers_with bodies bond.a bond.b) (ties_in bodies bonds) (All-head (BondIsGood bodies places) bond bonds all) (in_good bodies places bonds (All-tail (BondIsGood bodies places) bond bonds all))
+in_good : (bodies : List (Option Body)) (slot_entries : List SlotEntry) (bonds : List Bond) → All (BondIsGood bodies slot_entries) bonds → All (TieIsGood bodies slot_entries) (ties_in bodies bonds)
+in_good bodies slot_entries [] all = All-nil (TieIsGood bodies slot_entries)
+in_good bodies slot_entries (bond ∷ bonds) all =
+    one_good bodies slot_entries bond.id (movers_with bodies bond.a bond.b) (ties_in bodies bonds) (All-head (BondIsGood bodies slot_entries) bond bonds all) (in_good bodies slot_entries bonds (All-tail (BondIsGood bodies slot_entries) bond bonds all))
 
-ties_good : (bodies : List (Option Body)) (js : JointSlots) (contacts : List ContactEntry) → All (HasBodies bodies) contacts → All (TieIsGood bodies js.places) (ties_of bodies js contacts)
+ties_good : (bodies : List (Option Body)) (js : JointSlots) (contacts : List ContactEntry) → All (HasBodies bodies) contacts → All (TieIsGood bodies js.slot_entries) (ties_of bodies js contacts)
 unfolding ties_of
-ties_good bodies js contacts there = in_good bodies js.places (bonds_of js contacts) (bonds_good bodies js contacts there)
+ties_good bodies js contacts there = in_good bodies js.slot_entries (bonds_of js contacts) (bonds_good bodies js contacts there)
 
 -- ---- the constraints that have a colour
 
 abbrev pub coloured : World → List (List (Member Constraint))
 coloured w = members_of w.plain.bodies (joints_in_slots w.plain) w.plain.colours
 
-coloured_good : (w : World) → IsKept w → All (TieIsGood w.plain.bodies w.plain.joint_places) (all_members (coloured w))
+coloured_good : (w : World) → IsKept w → All (TieIsGood w.plain.bodies w.plain.joint_entries) (all_members (coloured w))
 unfolding acting_of
 coloured_good w k i d lt =
     let m : Member Constraint = get_or (all_members (coloured w)) i d in
-    let tie : Contains (ties_of w.plain.bodies (joints_in_slots w.plain) w.plain.contacts) m = ((k.settled.acting m).0 (Contains-get_or (all_members (coloured w)) i d lt)).0 in
-    All-contains (TieIsGood w.plain.bodies w.plain.joint_places) (ties_of w.plain.bodies (joints_in_slots w.plain) w.plain.contacts) m (ties_good w.plain.bodies (joints_in_slots w.plain) w.plain.contacts k.there) tie
+    let tie : Contains (ties_of w.plain.bodies (joints_in_slots w.plain) w.plain.contacts) m = ((k.consistent.acting m).0 (Contains-get_or (all_members (coloured w)) i d lt)).0 in
+    All-contains (TieIsGood w.plain.bodies w.plain.joint_entries) (ties_of w.plain.bodies (joints_in_slots w.plain) w.plain.contacts) m (ties_good w.plain.bodies (joints_in_slots w.plain) w.plain.contacts k.there) tie
 
 -- joints of different numbers are in different slots
-joints_apart : (places : List Place) (g h : Handle) → generation_in (slice_get places g.slot) ≡ Some g.generation → generation_in (slice_get places h.slot) ≡ Some h.generation → constraint_number (Joint g) ≢ constraint_number (Joint h) → g.slot ≢ h.slot
-joints_apart places g h own_g own_h ne = λ same.
-    let both : Some g.generation ≡ Some h.generation = sym own_g ∙ ap (λ (n : ℕ). generation_in (slice_get places n)) same ∙ own_h in
+joints_apart : (slot_entries : List SlotEntry) (g h : Handle) → generation_in (slice_get slot_entries g.slot) ≡ Some g.generation → generation_in (slice_get slot_entries h.slot) ≡ Some h.generation → constraint_number (Joint g) ≢ constraint_number (Joint h) → g.slot ≢ h.slot
+joints_apart slot_entries g h own_g own_h ne = λ same.
+    let both : Some g.generation ≡ Some h.generation = sym own_g ∙ ap (λ (n : ℕ). generation_in (slice_get slot_entries n)) same ∙ own_h in
     let generation : g.generation ≡ h.generation = same_Some g.generation h.generation both in
     ne (λ i. constraint_number (Joint (record { slot = same i; generation = generation i })))
 
-other_of : (bodies : List (Option Body)) (places : List Place) (a b : Constraint) → IsGood bodies places a → IsGood bodies places b → constraint_number a ≢ constraint_number b → AreOther a b
-other_of bodies places (Joint g) (Joint h) own_g own_h ne = joints_apart places g h own_g own_h ne
-other_of bodies places (Joint g) (Contact l) own_g own_h ne = tt
-other_of bodies places (Contact key) (Joint h) own_g own_h ne = tt
-other_of bodies places (Contact key) (Contact l) own_g own_h ne = λ e. ne (ap (λ (n : ℕ). 2 ^ 80 + n) e)
+other_of : (bodies : List (Option Body)) (slot_entries : List SlotEntry) (a b : Constraint) → IsGood bodies slot_entries a → IsGood bodies slot_entries b → constraint_number a ≢ constraint_number b → AreOther a b
+other_of bodies slot_entries (Joint g) (Joint h) own_g own_h ne = joints_apart slot_entries g h own_g own_h ne
+other_of bodies slot_entries (Joint g) (Contact l) own_g own_h ne = tt
+other_of bodies slot_entries (Contact key) (Joint h) own_g own_h ne = tt
+other_of bodies slot_entries (Contact key) (Contact l) own_g own_h ne = λ e. ne (ap (λ (n : ℕ). 2 ^ 80 + n) e)
 
-all_other : (bodies : List (Option Body)) (places : List Place) (ids : List Constraint) → All (IsGood bodies places) ids → AllPairs (λ a b. constraint_number a ≢ constraint_number b) ids → AllPairs AreOther ids
-all_other bodies places ids good apart = λ i j d lt long. other_of bodies places (get_or ids i d) (get_or ids j d) (good i d (omega (arith, lt, long))) (good j d long) (apart i j d lt long)
+all_other : (bodies : List (Option Body)) (slot_entries : List SlotEntry) (ids : List Constraint) → All (IsGood bodies slot_entries) ids → AllPairs (λ a b. constraint_number a ≢ constraint_number b) ids → AllPairs AreOther ids
+all_other bodies slot_entries ids good apart = λ i j d lt long. other_of bodies slot_entries (get_or ids i d) (get_or ids j d) (good i d (omega (arith, lt, long))) (good j d long) (apart i j d lt long)
 
 -- ---- both bodies are there
 
@@ -166,9 +166,9 @@ joint_ends : (bodies : List (Option Body)) (joints : List (Option BodyJoint)) (s
 joint_ends bodies joints slot None are e = tt
 joint_ends bodies joints slot (Some j) are e = let is : IsBodyJoint bodies j = are slot j e in (is.first, is.second)
 
-has_ends : (bodies : List (Option Body)) (places : List Place) (joints : List (Option BodyJoint)) (id : Constraint) → AreJoints bodies joints → IsGood bodies places id → HasEnds bodies joints id
-has_ends bodies places joints (Joint h) are good = joint_ends bodies joints h.slot (joint_at joints h.slot) are refl
-has_ends bodies places joints (Contact key) are good = good
+has_ends : (bodies : List (Option Body)) (slot_entries : List SlotEntry) (joints : List (Option BodyJoint)) (id : Constraint) → AreJoints bodies joints → IsGood bodies slot_entries id → HasEnds bodies joints id
+has_ends bodies slot_entries joints (Joint h) are good = joint_ends bodies joints h.slot (joint_at joints h.slot) are refl
+has_ends bodies slot_entries joints (Contact key) are good = good
 
 -- ---- the solve order
 
@@ -182,9 +182,9 @@ unfolding acting_of
 can_solve w k =
     let bodies : List (Option Body) = w.plain.bodies in
     let ids : List Constraint = map id_of (all_members (coloured w)) in
-    let good : All (IsGood bodies w.plain.joint_places) ids = All-map (IsGood bodies w.plain.joint_places) id_of (all_members (coloured w)) (coloured_good w k) in
+    let good : All (IsGood bodies w.plain.joint_entries) ids = All-map (IsGood bodies w.plain.joint_entries) id_of (all_members (coloured w)) (coloured_good w k) in
     let can : CanSolve bodies w.plain.joints ids = record {
-      once = all_other bodies w.plain.joint_places ids good (ids_apart (all_members (coloured w)) k.settled.colouring.once);
-      there = All-weaker (IsGood bodies w.plain.joint_places) (HasEnds bodies w.plain.joints) (λ id h. has_ends bodies w.plain.joint_places w.plain.joints id k.joints h) ids good;
+      once = all_other bodies w.plain.joint_entries ids good (ids_apart (all_members (coloured w)) k.consistent.colouring.once);
+      there = All-weaker (IsGood bodies w.plain.joint_entries) (HasEnds bodies w.plain.joints) (λ id h. has_ends bodies w.plain.joint_entries w.plain.joints id k.joints h) ids good;
     } in
     subst (CanSolve bodies w.plain.joints) (sym (order_ids (coloured w)) ∙ ap solve_order k.moved) can

@@ -5,7 +5,7 @@ use Rattle.impulse_ledger.specs.Sums.{total}
 use Rattle.contacts_base.specs.Contacts.{AreKeysRising}
 use Rattle.contacts.specs.Constraints.{constraint_number}
 use Rattle.graph_colours.specs.Colours.{ids_of}
-use Rattle.body_handles.specs.Places.{IsPlace}
+use Rattle.body_handles.specs.SlotEntries.{IsSlotEntry}
 use Rattle.plain_world.specs.Bodies.{AreBodies}
 use Rattle.plain_world.specs.Momentum.{momentum}
 use Rattle.plain_world.specs.Formed.{AreFiltered}
@@ -28,15 +28,15 @@ pub record IsKept (w : World) : Type 0 where
   pub bodies : AreBodies w.plain.bodies
   pub filters : AreFiltered w.plain.bodies
   pub timers : AreTimers w.plain.steps w.plain.bodies
-  pub matched : AreMatched w.plain.places w.plain.bodies
-  pub places : All IsPlace w.plain.places
-  pub joint_slots : AreMatched w.plain.joint_places w.plain.joints
-  pub joint_places : All IsPlace w.plain.joint_places
+  pub matched : AreMatched w.plain.slot_entries w.plain.bodies
+  pub slot_entries : All IsSlotEntry w.plain.slot_entries
+  pub joint_slots : AreMatched w.plain.joint_entries w.plain.joints
+  pub joint_entries : All IsSlotEntry w.plain.joint_entries
   pub joints : AreJoints w.plain.bodies w.plain.joints
   pub contacts : AreKeysRising w.plain.contacts
   pub pairs : AreContactsOf w.plain.bodies w.plain.contacts
   pub there : All (HasBodies w.plain.bodies) w.plain.contacts
-  pub settled : IsConsistent constraint_number (acting_of w.plain)
+  pub consistent : IsConsistent constraint_number (acting_of w.plain)
   pub tied : AreTied w.plain.bodies w.plain.islands
   pub told : AreTold w.plain.bodies w.plain.islands
   pub labels : length w.plain.islands ≡ length w.plain.bodies
@@ -54,14 +54,14 @@ kept_sound w s = record {
   filters = s.formed.filters;
   timers = s.formed.timers;
   matched = s.formed.matched;
-  places = s.formed.places;
+  slot_entries = s.formed.slot_entries;
   joint_slots = s.formed.joint_slots;
-  joint_places = s.formed.joint_places;
+  joint_entries = s.formed.joint_entries;
   joints = s.formed.joints;
   contacts = s.formed.contacts;
   pairs = s.formed.pairs;
   there = s.formed.there;
-  settled = s.promises.settled;
+  consistent = s.promises.consistent;
   tied = s.promises.tied;
   told = s.promises.told;
   labels = s.formed.labels;
@@ -74,7 +74,7 @@ kept_sound w s = record {
 pub sound_kept : (w : World) → IsKept w → IsSound w
 sound_kept w k = record {
   promises = record {
-    settled = k.settled;
+    consistent = k.consistent;
     tied = k.tied;
     told = k.told;
     total_x = k.total_x;
@@ -83,12 +83,12 @@ sound_kept w k = record {
   };
   formed = record {
     matched = k.matched;
-    places = k.places;
+    slot_entries = k.slot_entries;
     bodies = k.bodies;
     filters = k.filters;
     timers = k.timers;
     joint_slots = k.joint_slots;
-    joint_places = k.joint_places;
+    joint_entries = k.joint_entries;
     joints = k.joints;
     contacts = k.contacts;
     pairs = k.pairs;

@@ -14,4 +14,4 @@ only_movers_sleep : (w : World) → IsSound w → OnlyMoversSleep w.plain.bodies
 only_movers_sleep w s slot b there still = (s.formed.bodies slot b (body_at-in w.plain.bodies slot b there)).asleep still
 
 pub each_stands_in_one_set : EachStandsInOneSet
-each_stands_in_one_set w s = census_lists_each_once w.plain.places w.plain.bodies (joints_in_slots w.plain) w.plain.contacts s.formed.matched s.formed.joint_slots s.formed.contacts (only_movers_sleep w s)
+each_stands_in_one_set w s = census_lists_each_once w.plain.slot_entries w.plain.bodies (joints_in_slots w.plain) w.plain.contacts s.formed.matched s.formed.joint_slots s.formed.contacts (only_movers_sleep w s)

@@ -5,7 +5,7 @@ use Rattle.std.proofs.lemmas.Int.{ints}
 use Rattle.std.specs.List.Sorted.{IsStrictlyIncreasing}
 use Rattle.fixed_geom.specs.Vectors.{plus}
 use Rattle.body_handles.specs.declared.handle.Handle.{Handle}
-use Rattle.body_handles.specs.declared.places.Place.{Place}
+use Rattle.body_handles.specs.declared.slot_table.SlotEntry.{SlotEntry}
 use Rattle.contacts.specs.Constraints.{constraint_number}
 use Rattle.contacts.specs.declared.constraint.Constraint.{Constraint}
 use Rattle.contacts.proofs.Members.{Each}
@@ -17,7 +17,7 @@ use Rattle.contacts_base.specs.Contacts.{AreKeysRising}
 use Rattle.contacts_base.specs.declared.contact.ContactEntry.{ContactEntry}
 use Rattle.colour_solver.specs.declared.constraint_row.ConstraintRow.{ConstraintRow}
 use Rattle.colour_solver.specs.declared.ticks.StepSums.{StepSums}
-use Rattle.colour_solver.specs.ConstraintTurns.{contacts_among, joints_among}
+use Rattle.colour_solver.specs.ConstraintVisits.{contacts_among, joints_among}
 use Rattle.colour_solver.specs.Ticks.{AreSums, Run, added, ran, run_of, start}
 use Rattle.graph_colours.specs.Colours.{all_members, ids_of}
 use Rattle.impulse_ledger.specs.declared.entry.Entry.{Entry}
@@ -32,7 +32,7 @@ use Rattle.plain_world.specs.Plain.{Plain}
 use Rattle.plain_world.specs.Sleep.{timed_bodies, told}
 use Rattle.plain_world.specs.InSlots.{HaveSameSlots}
 use Rattle.sleep_wake.specs.Acting.{Acting, IsConsistent}
-use Rattle.sleep_wake.specs.Changes.{after_change, turned}
+use Rattle.sleep_wake.specs.Changes.{after_change, after_changes}
 use Rattle.sleep_wake.specs.ChangeLists.{begin_count}
 use Rattle.sleep_wake.specs.declared.change.Change.{Change}
 use Rattle.sleep_wake.proofs.FoldLemmas.{count_next}
@@ -57,7 +57,7 @@ use Rattle.world_rules.proofs.ActingLaws.{IsActing, acted}
 use Rattle.world_rules.proofs.BookLemmas.{AreSmall-step, near, summed-step}
 use Rattle.world_rules.proofs.AcceptedAll.{solved_in}
 use Rattle.world_rules.proofs.GatherLaws.{can_gather_collided}
-use Rattle.world_rules.proofs.KeptStep.{IsTicked, collide_kept, collided_in, collided_world, rested_after, rested_is, ticked, turned_in}
+use Rattle.world_rules.proofs.KeptStep.{IsTicked, collide_kept, collided_in, collided_world, rested_after, rested_is, ticked, changed_in}
 use Rattle.world_rules.proofs.RowLaws.{ticked_of}
 use Rattle.world_rules.proofs.SoundLaws.{IsKept}
 use Rattle.world_rules.proofs.TickedLaws.{timed_are_bodies}
@@ -65,14 +65,14 @@ use Rattle.world_rules.proofs.TickedLaws.{timed_are_bodies}
 -- ---- room for what acts
 
 -- no more constraints than there were, and those that began
-turned_few : (changes : List (Change Constraint)) (s : Acting Constraint) (room : ℕ) → length s.ties + begin_count changes ≤ room → length (turned constraint_number changes s).ties ≤ room
-turned_few [] s room h = omega (arith, h)
-turned_few (c ∷ changes) s room h = turned_few changes (after_change constraint_number c s) room (count_next constraint_number s room c changes h)
+changed_few : (changes : List (Change Constraint)) (s : Acting Constraint) (room : ℕ) → length s.ties + begin_count changes ≤ room → length (after_changes constraint_number changes s).ties ≤ room
+changed_few [] s room h = omega (arith, h)
+changed_few (c ∷ changes) s room h = changed_few changes (after_change constraint_number c s) room (count_next constraint_number s room c changes h)
 
-pub few_act : (changes : List (Change Constraint)) (s : Acting Constraint) (room : ℕ) → IsConsistent constraint_number (turned constraint_number changes s) → length s.ties + begin_count changes ≤ room → length (all_members (turned constraint_number changes s).lists) ≤ room
-few_act changes s room settled h =
-    let ties = turned_few changes s room h in
-    let fewer = fewer_coloured constraint_number (turned constraint_number changes s) settled in
+pub few_act : (changes : List (Change Constraint)) (s : Acting Constraint) (room : ℕ) → IsConsistent constraint_number (after_changes constraint_number changes s) → length s.ties + begin_count changes ≤ room → length (all_members (after_changes constraint_number changes s).lists) ≤ room
+few_act changes s room consistent h =
+    let ties = changed_few changes s room h in
+    let fewer = fewer_coloured constraint_number (after_changes constraint_number changes s) consistent in
     omega (arith, ties, fewer)
 
 -- ---- what the ticks leave
@@ -105,8 +105,8 @@ ticked_in w n bodies js es sums k rises is_bodies is_joints is_contacts is_sums 
     let now : World = collided_world w in
     let s : Solving = solved_in w n in
     let can = can_gather_collided w k rises in
-    let run = arrays_are_solving n w.plain.gravity now.plain.bodies now.plain.joints now.plain.contacts (turned_in w).lists can.rising can.once in
-    let r : Run = ran n w.plain.gravity (start (states_of now.plain.bodies) (rows_of (states_of now.plain.bodies) now.plain.joints now.plain.contacts (turned_in w).lists)) in
+    let run = arrays_are_solving n w.plain.gravity now.plain.bodies now.plain.joints now.plain.contacts (changed_in w).lists can.rising can.once in
+    let r : Run = ran n w.plain.gravity (start (states_of now.plain.bodies) (rows_of (states_of now.plain.bodies) now.plain.joints now.plain.contacts (changed_in w).lists)) in
     ticked_with now r.states r.rows (bodies_of s) s.joints s.contacts s.sums (collide_kept w k rises).kept run.bodies_left run.joints_left run.contacts_left
     (subst AreBodies is_bodies are) (subst (HaveSameSlots now.plain.bodies) is_bodies slots) (subst (AreSums (2 ^ 83)) is_sums small)
     (sym (ap momentum is_bodies) ∙ gain ∙ ap (λ (t : StepSums). plus (momentum now.plain.bodies) (added t)) is_sums)
@@ -130,11 +130,11 @@ Fits-rest b new e call s r small entries settled ex ey =
 
 -- the constraints, the islands and the colours that the sleep phase leaves are those of the lists
 pub step_acting : (w : World) (n : ℕ) (s : Solving) → IsKept w → AreKeysRising (collided_in w).now → IsTicked (collided_world w).plain (renewed_bodies (bodies_of s)) s.joints s.contacts s.sums
-    → acting_of (step_solved w.plain n (collided_in w) (turned_in w) s).plain ≡ rested_acting (bodies_ticked n s) s.joints s.contacts (turned_in w)
+    → acting_of (step_solved w.plain n (collided_in w) (changed_in w) s).plain ≡ rested_acting (bodies_ticked n s) s.joints s.contacts (changed_in w)
 step_acting w n s k rises t =
     let is = collide_kept w k rises in
     let bodies : List (Option Body) = renewed_bodies (bodies_of s) in
-    let rested : Acting Constraint = rested_acting (timed_bodies n bodies) s.joints s.contacts (turned_in w) in
+    let rested : Acting Constraint = rested_acting (timed_bodies n bodies) s.joints s.contacts (changed_in w) in
     let same : rested ≡ rested_after (collided_world w).plain n bodies s.joints s.contacts = ap (rested_acting (timed_bodies n bodies) s.joints s.contacts) (sym is.acting) in
     let after : Plain = ticked (collided_world w).plain n bodies s.joints s.contacts in
     let acts : IsActing after rested = subst (IsActing after) (sym same) (rested_is (collided_world w) n bodies s.joints s.contacts s.sums is.kept t) in
@@ -146,21 +146,21 @@ below_head : (t : Bool) (n : ℕ) (h : Handle) (hs : List Handle) → n < h.slot
 below_head true n h hs lt rest = (lt, rest)
 below_head false n h hs lt rest = rest
 
-above : (test : ℕ → Bool) (n slot : ℕ) (places : List Place) → n < slot → Each (λ s. n < s) (map slot_of (handles_where test slot places))
+above : (test : ℕ → Bool) (n slot : ℕ) (slot_entries : List SlotEntry) → n < slot → Each (λ s. n < s) (map slot_of (handles_where test slot slot_entries))
 above test n slot [] lt = tt
-above test n slot (p ∷ places) lt = below_head (test slot) n (record { slot = slot; generation = p.generation }) (handles_where test (suc slot) places) lt (above test n (suc slot) places (omega (arith, lt)))
+above test n slot (p ∷ slot_entries) lt = below_head (test slot) n (record { slot = slot; generation = p.generation }) (handles_where test (suc slot) slot_entries) lt (above test n (suc slot) slot_entries (omega (arith, lt)))
 
 rise_head : (t : Bool) (h : Handle) (hs : List Handle) → Each (λ s. h.slot < s) (map slot_of hs) → IsRising (map slot_of hs) → IsRising (map slot_of (cond t (h ∷ hs) hs))
 rise_head true h hs lt rest = (lt, rest)
 rise_head false h hs lt rest = rest
 
-handles_rise : (test : ℕ → Bool) (slot : ℕ) (places : List Place) → IsRising (map slot_of (handles_where test slot places))
+handles_rise : (test : ℕ → Bool) (slot : ℕ) (slot_entries : List SlotEntry) → IsRising (map slot_of (handles_where test slot slot_entries))
 handles_rise test slot [] = tt
-handles_rise test slot (p ∷ places) = rise_head (test slot) (record { slot = slot; generation = p.generation }) (handles_where test (suc slot) places) (above test slot (suc slot) places (omega arith)) (handles_rise test (suc slot) places)
+handles_rise test slot (p ∷ slot_entries) = rise_head (test slot) (record { slot = slot; generation = p.generation }) (handles_where test (suc slot) slot_entries) (above test slot (suc slot) slot_entries (omega arith)) (handles_rise test (suc slot) slot_entries)
 
-pub asleep_rise : (places : List Place) (others labels : Labels) → IsStrictlyIncreasing (map slot_of (asleep_only_in places others labels))
+pub asleep_rise : (slot_entries : List SlotEntry) (others labels : Labels) → IsStrictlyIncreasing (map slot_of (asleep_only_in slot_entries others labels))
 unfolding asleep_only_in
-asleep_rise places others labels = increasing_from_rising (map slot_of (asleep_only_in places others labels)) (handles_rise (λ slot. sleeps labels slot && not (sleeps others slot)) 0 places)
+asleep_rise slot_entries others labels = increasing_from_rising (map slot_of (asleep_only_in slot_entries others labels)) (handles_rise (λ slot. sleeps labels slot && not (sleeps others slot)) 0 slot_entries)
 
 -- ---- the arrays of a step
 

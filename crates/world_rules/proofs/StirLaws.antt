@@ -24,7 +24,7 @@ use Rattle.world_rules.proofs.AwakeLaws.{first_wakes, named_awake, one_wakes}
 use Rattle.world_rules.proofs.SoundLaws.{IsKept}
 
 pub joint_slots_of : (w : World) → IsKept w → AreJointSlots (joints_in_slots w.plain)
-joint_slots_of w k = record { matched = k.joint_slots; places = k.joint_places }
+joint_slots_of w k = record { matched = k.joint_slots; slot_entries = k.joint_entries }
 
 -- ---- bodies that are alike have the same ties
 

@@ -7,8 +7,8 @@ use Rattle.fixed_geom.specs.declared.vectors.Vec2.{Vec2}
 use Rattle.fixed_geom.specs.declared.refusal.Refusal.{Refusal}
 use Rattle.fixed_geom.specs.declared.refusal.Refusal.TheVariants.{NoMemory, StaleHandle, TooMany, OutOfRange, SameBody, NotAMover, NotKinematic, BodyDisabled, TooFast, WornOut}
 use Rattle.body_handles.specs.declared.handle.Handle.{Handle}
-use Rattle.body_handles.specs.declared.places.TheConstants.{MAX_SLOTS}
-use Rattle.body_handles.specs.Places.{lowest, generation_at, places_with, places_without}
+use Rattle.body_handles.specs.declared.slot_table.TheConstants.{MAX_SLOTS}
+use Rattle.body_handles.specs.SlotEntries.{lowest, generation_at, slot_entries_with, slot_entries_without}
 use Rattle.momenta.specs.Impulses.{turned_by}
 use Rattle.momenta.specs.declared.limits.TheConstants.{MAX_ANGULAR_MOMENTUM, MAX_MOMENTUM}
 use Rattle.momenta.specs.declared.motion.Momenta.{Momenta}
@@ -28,7 +28,7 @@ use Rattle.contacts.specs.declared.constraint.Constraint.TheVariants.{Joint}
 use Rattle.islands.specs.Labels.{Labels}
 use Rattle.sleep_wake.specs.Widened.{widened}
 use Rattle.sleep_wake.specs.Acting.{Acting}
-use Rattle.sleep_wake.specs.Changes.{turned, each_begun}
+use Rattle.sleep_wake.specs.Changes.{after_changes, each_begun}
 use Rattle.sleep_wake.specs.SleepPhase.{sleep_phase}
 use Rattle.sleep_wake.specs.Sleeping.{slept_at}
 use Rattle.solver_sets.specs.Beside.{joined_to, timers_of}
@@ -84,7 +84,7 @@ quietly w = record { plain = counted w; reply = replies.Done; entries = []; even
 
 -- the lists with the body in its slot
 abbrev pub with_made : ℕ → Body → Plain → Plain
-with_made slot b w = record w { places = places_with w.places slot; bodies = with_body w.bodies slot b }
+with_made slot b w = record w { slot_entries = slot_entries_with w.slot_entries slot; bodies = with_body w.bodies slot b }
 
 -- the body comes, and with it a label of its island, or none, for its slot
 abbrev pub body_made : ℕ → Body → Plain → Plain
@@ -92,17 +92,17 @@ body_made slot b w = with_acting (widened slot (body_come slot b (acting_of w)))
 
 abbrev pub created : Plain → BodyDef → Applied
 created w d =
-    let slot = lowest w.places in
+    let slot = lowest w.slot_entries in
     record {
       plain = counted (body_made slot (made d) w);
-      reply = replies.Body (record { slot = slot; generation = generation_at w.places slot });
+      reply = replies.Body (record { slot = slot; generation = generation_at w.slot_entries slot });
       entries = [];
       events = None;
     }
 
 abbrev pub create_due : Plain → BodyDef → Option Refusal → Result Applied Refusal
 create_due w d (Some e) = Err e
-create_due w d None = need (nat_lt (lowest w.places) MAX_SLOTS) TooMany (Ok (created w d))
+create_due w d None = need (nat_lt (lowest w.slot_entries) MAX_SLOTS) TooMany (Ok (created w d))
 
 abbrev pub apply_create : Plain → BodyDef → Result Applied Refusal
 apply_create w d = create_due w d (def_refusal d)
@@ -112,9 +112,9 @@ apply_create w d = create_due w d (def_refusal d)
 -- the lists without a body, its joints and its contacts
 abbrev pub without_body : Handle → JointSlots → Plain → Plain
 without_body h joints w = record w {
-  places = places_without w.places h;
+  slot_entries = slot_entries_without w.slot_entries h;
   bodies = slice_set w.bodies h.slot None;
-  joint_places = joints.places;
+  joint_entries = joints.slot_entries;
   joints = joints.joints;
   contacts = contacts_without h.slot w.contacts;
 }
@@ -145,7 +145,7 @@ apply_destroy w h = destroy_due w h (body_named w h)
 -- ---- CreateJoint and DestroyJoint
 
 abbrev pub with_joints : JointSlots → Plain → Plain
-with_joints joints w = record w { joint_places = joints.places; joints = joints.joints }
+with_joints joints w = record w { joint_entries = joints.slot_entries; joints = joints.joints }
 
 -- the first reason why two bodies can't be joined
 abbrev pub join_refusal : Option Body → Option Body → JointDef → Option Refusal
@@ -172,7 +172,7 @@ joined w d h = record {
 
 abbrev pub join_due : Plain → JointDef → Option Refusal → Result Applied Refusal
 join_due w d (Some e) = Err e
-join_due w d None = need (nat_lt (lowest w.joint_places) MAX_SLOTS) TooMany (Ok (joined w d (handle_at w.joint_places (lowest w.joint_places))))
+join_due w d None = need (nat_lt (lowest w.joint_entries) MAX_SLOTS) TooMany (Ok (joined w d (handle_at w.joint_entries (lowest w.joint_entries))))
 
 abbrev pub apply_join : Plain → JointDef → Result Applied Refusal
 apply_join w d = join_due w d (join_refusal (body_named w d.a) (body_named w d.b) d)
@@ -187,7 +187,7 @@ unjoin_due w h None = Err StaleHandle
 unjoin_due w h (Some j) = Ok (quietly (joint_gone h j (with_woken w (j.a ∷ j.b ∷ []))))
 
 abbrev pub apply_unjoin : Plain → Handle → Result Applied Refusal
-apply_unjoin w h = unjoin_due w h (joint_of w.joint_places w.joints h)
+apply_unjoin w h = unjoin_due w h (joint_of w.joint_entries w.joints h)
 
 -- ---- Push and PushAt
 
@@ -368,8 +368,8 @@ apply_sleep w h = sleep_due w h (mover_refusal (body_named w h))
 -- ---- Step
 
 -- the contacts that began and that ended, each in its turn: sleepers wake, islands merge and get loose, colours are taken and given up
-abbrev pub turned_acting : Plain → Collided → Acting Constraint
-turned_acting w c = turned constraint_number (key_changes w.bodies c.begin c.end) (acting_of w)
+abbrev pub acting_after_changes : Plain → Collided → Acting Constraint
+acting_after_changes w c = after_changes constraint_number (key_changes w.bodies c.begin c.end) (acting_of w)
 
 -- the bodies as the ticks find them: those awake that the collide has woken
 abbrev pub bodies_woken : Plain → Acting Constraint → List (Option Body)
@@ -399,8 +399,8 @@ abbrev pub events_of : Plain → Collided → Labels → Labels → EventLists
 events_of w c awake rested = record {
   begin = c.begin;
   end = c.end;
-  slept = asleep_only_in w.places awake rested;
-  woke = asleep_only_in w.places awake w.islands;
+  slept = asleep_only_in w.slot_entries awake rested;
+  woke = asleep_only_in w.slot_entries awake w.islands;
 }
 
 -- the bodies, joints and contacts that the ticks have left, and then the sleep phase
@@ -424,7 +424,7 @@ step_solved w n c awake s = stepped w n c awake s (rested_acting (bodies_ticked 
 
 -- first the collide, then the ticks, then the sleep phase
 abbrev pub step_done : Plain → ℕ → Collided → Applied
-step_done w n c = step_solved w n c (turned_acting w c) (solved_after w n c (turned_acting w c))
+step_done w n c = step_solved w n c (acting_after_changes w c) (solved_after w n c (acting_after_changes w c))
 
 abbrev pub apply_step : Plain → ℤ → Result Applied Refusal
 apply_step w n = need (is_between (pos 1) (pos 8) n) OutOfRange (Ok (step_done w (unsigned_abs n) (collided w.bodies w.joints w.contacts)))
@@ -437,9 +437,9 @@ gravity_refusal g = refused_unless (is_within (2 ^ 16) g) OutOfRange None
 abbrev pub empty_world : Vec2 → World
 empty_world g = record {
   plain = record {
-    places = [];
+    slot_entries = [];
     bodies = [];
-    joint_places = [];
+    joint_entries = [];
     joints = [];
     contacts = [];
     islands = [];

@@ -100,7 +100,7 @@ WhatActsHasAColour = (w : World) (m : Member Constraint) → IsSound w → Conta
 
 -- Each body, joint and contact stands in exactly one solver set, and the census of the world lists it there, once.
 abbrev pub EachStandsInOneSet : Type 0
-EachStandsInOneSet = (w : World) → IsSound w → ListsEachOnce w.plain.places w.plain.bodies (joints_in_slots w.plain) w.plain.contacts (census_of w.plain.places w.plain.bodies (joints_in_slots w.plain) w.plain.contacts)
+EachStandsInOneSet = (w : World) → IsSound w → ListsEachOnce w.plain.slot_entries w.plain.bodies (joints_in_slots w.plain) w.plain.contacts (census_of w.plain.slot_entries w.plain.bodies (joints_in_slots w.plain) w.plain.contacts)
 
 -- ---- and for worlds that were put away and taken up again
 
@@ -110,5 +110,5 @@ pub record GoOnTheSame (v w : World) : Type 0 where
   pub plains : (commands : List Command) → (replay v commands).plain ≡ (replay w commands).plain
 
 -- What becomes of a world, and what is answered, rests on its plain lists alone: not on its ledger, and not on its events.
-abbrev pub PlainListsTellAll : Type 0
-PlainListsTellAll = (v w : World) → v.plain ≡ w.plain → GoOnTheSame v w
+abbrev pub PlainListsDetermineAll : Type 0
+PlainListsDetermineAll = (v w : World) → v.plain ≡ w.plain → GoOnTheSame v w

@@ -3,7 +3,7 @@ use Rattle.std.specs.Prelude.{◌≡◌, ℕ, ◌+◌, ◌*◌, ◌<◌, ◌≤�
 use Rattle.fixed_geom.specs.Vectors.{IsWithin}
 use Rattle.impulse_ledger.specs.declared.entry.Cause.{Cause}
 use Rattle.impulse_ledger.specs.Sums.{Book, total, total_of}
-use Rattle.body_handles.specs.Places.{IsPlace}
+use Rattle.body_handles.specs.SlotEntries.{IsSlotEntry}
 use Rattle.contacts_base.specs.declared.contact.ContactEntry.{ContactEntry}
 use Rattle.contacts_base.specs.Contacts.{AreKeysRising}
 use Rattle.contacts.specs.Constraints.{constraint_number}
@@ -11,11 +11,11 @@ use Rattle.graph_colours.specs.Colours.{ids_of}
 use Rattle.plain_world.specs.declared.body.Body.{Body}
 use Rattle.plain_world.specs.Bodies.{AreBodies, IsAtRest, is_awake}
 use Rattle.plain_world.specs.Momentum.{momentum}
-use Rattle.plain_world.specs.Formed.{AreFiltered, HasPoints, IsShapeOf, mixed_of, shape_named}
+use Rattle.plain_world.specs.Formed.{AreFiltered, HasPoints, IsShapeOf, mixed_of, shape_with_id}
 use Rattle.plain_world.specs.Joints.{AreJoints}
 use Rattle.plain_world.specs.Slots.{AreMatched, body_at}
 use Rattle.sleep_wake.specs.Acting.{IsConsistent}
-use Rattle.solver_sets.specs.Ties.{IsNamed, members_of}
+use Rattle.solver_sets.specs.Ties.{IsKeyWithin, members_of}
 use Rattle.solver_sets.specs.Tied.{AreTied}
 use Rattle.islands.specs.Labels.{Labels, label_at, sleeping_name}
 use Rattle.world_core_base.specs.ContactBodies.{AreContactsOf}
@@ -35,8 +35,8 @@ pub record HasBodies (bodies : List (Option Body)) (e : ContactEntry) : Type 0 w
   pub first_shape : IsShapeOf bodies e.key.first
   pub second_shape : IsShapeOf bodies e.key.second
   pub order : e.key.first.slot < e.key.second.slot
-  pub surface : e.surface ≡ mixed_of (shape_named bodies e.key.first) (shape_named bodies e.key.second)
-  pub named : IsNamed e.key
+  pub surface : e.surface ≡ mixed_of (shape_with_id bodies e.key.first) (shape_with_id bodies e.key.second)
+  pub named : IsKeyWithin e.key
   pub points : HasPoints e.contact
 
 -- ---- what a world promises
@@ -52,7 +52,7 @@ AreTold bodies labels = (slot : ℕ) (b : Body) → body_at bodies slot ≡ Some
 -- The islands of the movers are those that its constraints' links make, and the constraints that have a colour are just those whose movers are awake,
 -- no two of one colour with a mover in common. A mover sleeps just if its island does. The movers' momentum is the ledger's total. What isn't an awake mover is at rest.
 pub record KeepsPromises (w : World) : Type 0 where
-  pub settled : IsConsistent constraint_number (acting_of w.plain)
+  pub consistent : IsConsistent constraint_number (acting_of w.plain)
   pub tied : AreTied w.plain.bodies w.plain.islands
   pub told : AreTold w.plain.bodies w.plain.islands
   pub total_x : (momentum w.plain.bodies).x ≡ (total (book_of w)).x
@@ -70,13 +70,13 @@ AreTimers steps bodies = (slot : ℕ) (b : Body) → body_at bodies slot ≡ Som
 -- The contacts' keys ascend; each is of two bodies that are there, one of them a mover, and of shapes of theirs, with the surface that these mix to. There is a label of an
 -- island, or none, for each slot of a body. Each constraint with a colour has movers. All sums have room.
 pub record IsWellFormed (w : World) : Type 0 where
-  pub matched : AreMatched w.plain.places w.plain.bodies
-  pub places : All IsPlace w.plain.places
+  pub matched : AreMatched w.plain.slot_entries w.plain.bodies
+  pub slot_entries : All IsSlotEntry w.plain.slot_entries
   pub bodies : AreBodies w.plain.bodies
   pub filters : AreFiltered w.plain.bodies
   pub timers : AreTimers w.plain.steps w.plain.bodies
-  pub joint_slots : AreMatched w.plain.joint_places w.plain.joints
-  pub joint_places : All IsPlace w.plain.joint_places
+  pub joint_slots : AreMatched w.plain.joint_entries w.plain.joints
+  pub joint_entries : All IsSlotEntry w.plain.joint_entries
   pub joints : AreJoints w.plain.bodies w.plain.joints
   pub contacts : AreKeysRising w.plain.contacts
   pub pairs : AreContactsOf w.plain.bodies w.plain.contacts

@@ -19,11 +19,11 @@ pub record World : Type 0 where
 
 -- the slots of its joints, and the joints in them
 abbrev pub joints_in_slots : Plain → JointSlots
-joints_in_slots w = record { places = w.joint_places; joints = w.joints }
+joints_in_slots w = record { slot_entries = w.joint_entries; joints = w.joints }
 
 -- the body that a handle names
 abbrev pub body_named : Plain → Handle → Option Body
-body_named w h = slots.body_of w.places w.bodies h
+body_named w h = slots.body_of w.slot_entries w.bodies h
 
 -- its ledger's book, of which no room is known
 abbrev pub book_of : World → Book

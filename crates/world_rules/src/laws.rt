@@ -1,6 +1,6 @@
 //! Laws of the definitions, for crates above. These functions do nothing; their contracts are the laws.
 
-ghost use Rattle.world_rules.specs.Laws.{ColoursAreApart, EachCallCounts, EachStandsInOneSet, LinkedMoversStandTogether, PlainListsTellAll, PushesAreSmall, SleepingSetsAreComponents, WhatActsHasAColour};
+ghost use Rattle.world_rules.specs.Laws.{ColoursAreApart, EachCallCounts, EachStandsInOneSet, LinkedMoversStandTogether, PlainListsDetermineAll, PushesAreSmall, SleepingSetsAreComponents, WhatActsHasAColour};
 
 /// An accepted command counts one call more, and the impulse that it gives a body is at most 2^40 in each component.
 pub fn each_call_counts()
@@ -34,6 +34,6 @@ pub fn each_stands_in_one_set()
 {}
 
 /// Two worlds with the same plain lists answer all commands the same, and have the same plain lists after them.
-pub fn plain_lists_tell_all()
-    ensures { PlainListsTellAll }
+pub fn plain_lists_determine_all()
+    ensures { PlainListsDetermineAll }
 {}

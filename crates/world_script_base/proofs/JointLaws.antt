@@ -11,7 +11,7 @@ use Rattle.plain_world.specs.Slots.{body_at, item_in}
 use Rattle.plain_world.specs.Joints.{AreJoints, joint_at}
 use Rattle.plain_world.specs.declared.body.Body.{Body}
 use Rattle.plain_world.specs.declared.joint.BodyJoint.{BodyJoint}
-use Rattle.shapes.specs.Poses.{placed}
+use Rattle.shapes.specs.Poses.{transformed}
 use Rattle.world_script_base.specs.JointViews.{IsStretchOfTheRow}
 
 -- what a slot contains
@@ -35,5 +35,5 @@ same_stretch : (j : Joint) (a b m n : Motion) → m ≡ a → n ≡ b → stretc
 same_stretch j a b m n e f = subst (λ (x : Motion). stretch_of j x b ≡ stretch_of j m n) e (subst (λ (y : Motion). stretch_of j m y ≡ stretch_of j m n) f refl)
 
 pub stretch_of_the_row : IsStretchOfTheRow
-unfolding placed
+unfolding transformed
 stretch_of_the_row a b j set start e f = same_stretch j.joint a.motion b.motion start.a.motion start.b.motion e f

@@ -9,16 +9,16 @@ use Rattle.plain_world.specs.declared.body.SetName.{SetName}
 use Rattle.plain_world.specs.declared.joint.BodyJoint.{BodyJoint}
 use Rattle.plain_world.specs.Bodies.{pose_of}
 use Rattle.plain_world.specs.Slots.{body_at}
-use Rattle.shapes.specs.Poses.{placed}
+use Rattle.shapes.specs.Poses.{transformed}
 use Rattle.solver_sets.specs.Census.{standing_of_joint}
 use Rattle.world_script_base.specs.declared.joint_views.JointView.{JointView}
 
 -- the places of the two points that the joint holds
 abbrev pub from_of : Body → BodyJoint → Vec2
-from_of a j = placed (pose_of a) j.joint.from
+from_of a j = transformed (pose_of a) j.joint.from
 
 abbrev pub to_of : Body → BodyJoint → Vec2
-to_of b j = placed (pose_of b) j.joint.to
+to_of b j = transformed (pose_of b) j.joint.to
 
 -- the view of a joint between two bodies
 abbrev pub view_between : Body → Body → BodyJoint → SetName → JointView

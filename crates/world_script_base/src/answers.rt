@@ -1,7 +1,7 @@
 //! What a line is answered.
 
 use crate::pen::Pen;
-use body_handles::{Handle, Place};
+use body_handles::{Handle, SlotEntry};
 use contacts_base::ShapeId;
 use event_feed::Events;
 use fixed_geom::{Refusal, Vec2};
@@ -20,7 +20,7 @@ pub struct SeatReport {
 /// The bodies of a world by slot, of which all are told, or those alone that are awake.
 #[derive(Clone, Copy)]
 pub struct BodyList<'a> {
-    pub places: &'a [Place],
+    pub slot_entries: &'a [SlotEntry],
     pub bodies: &'a [Option<Body>],
     pub awake: bool,
 }
@@ -49,15 +49,15 @@ pub enum Answer<'a> {
     /// The joint that was made.
     Joint(Handle),
     /// The number of the step, and its events. A shape has its body's id where the places of all slots are given.
-    Stepped(u64, &'a Events, Option<&'a [Place]>),
+    Stepped(u64, &'a Events, Option<&'a [SlotEntry]>),
     /// What can be seen of a body.
     Shown(BodyView),
     /// The ledger's totals.
     Ledger(&'a Ledger),
     /// What a ray hits first; ids as above.
-    Hit(Option<Hit>, Option<&'a [Place]>),
+    Hit(Option<Hit>, Option<&'a [SlotEntry]>),
     /// The shapes over a region, ascending; ids as above.
-    Shapes(Vec<ShapeId>, Option<&'a [Place]>),
+    Shapes(Vec<ShapeId>, Option<&'a [SlotEntry]>),
     /// The bodies by slot.
     Bodies(BodyList<'a>),
     /// The touching contacts of a world, and whether ids are told.

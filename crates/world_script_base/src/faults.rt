@@ -3,7 +3,7 @@
 use std::fmt;
 
 /// How many characters of an unknown key are told.
-const TOLD: usize = 32;
+const SHOWN: usize = 32;
 
 /// Why a line, or the value of a key, is none that a request has.
 #[derive(Clone, Copy)]
@@ -133,12 +133,12 @@ impl<'a> Fault<'a> {
 /// Whether a key is written as the keys of requests are.
 fn is_plain(key: &str) -> bool {
     let bytes = key.as_bytes();
-    bytes.len() <= TOLD && bytes.iter().all(|byte| matches!(byte, b'a'..=b'z' | b'_'))
+    bytes.len() <= SHOWN && bytes.iter().all(|byte| matches!(byte, b'a'..=b'z' | b'_'))
 }
 
 /// The beginning of a key.
 fn beginning(key: &str) -> &str {
-    match key.char_indices().nth(TOLD) {
+    match key.char_indices().nth(SHOWN) {
         Some((end, _)) => key.get(..end).unwrap_or(""),
         None => key,
     }

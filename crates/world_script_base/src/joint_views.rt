@@ -6,13 +6,13 @@ ghost use Rattle.joint_rows.specs.Joints.{IsJoint};
 ghost use Rattle.joint_rows.specs.declared.limits.TheConstants.{MAX_ANCHOR, MAX_JOINT_LENGTH};
 ghost use Rattle.plain_world.specs.Bodies.{AreBodies, IsBody, pose_of};
 ghost use Rattle.plain_world.specs.Joints.{AreJoints, joint_at};
-ghost use Rattle.shapes.specs.Poses.{placed};
+ghost use Rattle.shapes.specs.Poses.{transformed};
 ghost use Rattle.world_script_base.specs.JointViews.{IsStretchOfTheRow, view_between, view_of};
 
 use fixed_geom::{Vec2, minus, span};
 use joint_rows::MAX_ANCHOR;
 use plain_world::{Body, BodyJoint, SetName, item_at};
-use shapes::placed;
+use shapes::transformed;
 use solver_sets::standing_of_joint;
 
 /// What can be seen of a joint: where in the world the two points are that it holds (u), by how much their distance, rounded down, exceeds
@@ -29,10 +29,10 @@ pub struct JointView {
 fn end_at(body: &Body, anchor: Vec2) -> Vec2
     requires body { IsBody body.now }
     requires anchor { IsWithin (unsigned_abs MAX_ANCHOR) anchor }
-    ensures value { result ≡ placed (pose_of body.now) anchor }
+    ensures value { result ≡ transformed (pose_of body.now) anchor }
     ensures within { IsWithin (2 ^ 36 + 2 ^ 25) result }
 {
-    placed(body.pose(), anchor)
+    transformed(body.pose(), anchor)
 }
 
 /// By how much the distance of two points exceeds a length.

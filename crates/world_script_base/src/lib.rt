@@ -3,7 +3,7 @@
 //! - A line of JSON, as far as a request can have it ([`Line`]): the keys of its object, and their values ([`Fields`]).
 //! - Answers, as compact JSON ([`Answer`]).
 //! - Whether a text may be a saved world, told by its tokens before a value is made of it ([`may_be_world`]).
-//! - Where a saved world breaks a clause, for whoever has to mend it ([`broken_place`]).
+//! - Where a saved world breaks a clause, for whoever has to mend it ([`broken_path`]).
 //! - What can be seen of a world's joints ([`joint_view`]).
 #![tactic(auto)]
 
@@ -17,7 +17,7 @@ mod pairs;
 mod pen;
 mod reports;
 mod saved_forms;
-mod saved_places;
+mod saved_paths;
 mod saved_scan;
 mod saved_ways;
 mod shape_fields;
@@ -32,6 +32,6 @@ pub use joint_views::{JointView, joint_view, stretch_is_what_a_step_begins_with}
 pub use line::Line;
 pub use line_reader::{LONGEST, LineReader, Outbox};
 pub use saved_forms::may_be_world;
-pub use saved_places::{SavedList, SavedPlace, broken_place};
+pub use saved_paths::{SavedList, SavedPath, broken_path};
 pub use saved_ways::{Part, Way};
 pub use stop::Stop;

@@ -1,7 +1,7 @@
 //! The parts of an answer.
 
 use crate::answers::{Answer, SeatReport};
-use body_handles::{Handle, Id, Place};
+use body_handles::{Handle, Id, SlotEntry};
 use contacts_base::{ContactKey, ShapeId};
 use event_feed::Events;
 use fixed_geom::{Refusal, Rot, Vec2};
@@ -44,11 +44,11 @@ impl<'a, W: fmt::Write> Pen<'a, W> {
             Answer::Done => self.text("{\"done\":true}"),
             Answer::Body(handle) => self.made("{\"body\":", *handle),
             Answer::Joint(handle) => self.made("{\"joint\":", *handle),
-            Answer::Stepped(step, events, places) => self.step(*step, events, *places),
+            Answer::Stepped(step, events, slot_entries) => self.step(*step, events, *slot_entries),
             Answer::Shown(view) => self.view(view),
             Answer::Ledger(ledger) => self.ledger(ledger),
-            Answer::Hit(hit, places) => self.hit(*hit, *places),
-            Answer::Shapes(shapes, places) => self.shapes(shapes.as_slice(), *places),
+            Answer::Hit(hit, slot_entries) => self.hit(*hit, *slot_entries),
+            Answer::Shapes(shapes, slot_entries) => self.shapes(shapes.as_slice(), *slot_entries),
             Answer::Bodies(list) => self.body_list(*list),
             Answer::Contacts(plain, ids) => self.touching(plain, *ids),
             Answer::Joints(joints) => self.joints(joints.as_slice()),
@@ -113,8 +113,8 @@ impl<'a, W: fmt::Write> Pen<'a, W> {
     }
 
     /// Writes the id of the body in a slot after what stands before it, where the slots' places are given.
-    fn id_in(&mut self, slot: u32, places: Option<&[Place]>) {
-        if let Some(place) = places.and_then(|places| places.get(slot as usize)) {
+    fn id_in(&mut self, slot: u32, slot_entries: Option<&[SlotEntry]>) {
+        if let Some(place) = slot_entries.and_then(|slot_entries| slot_entries.get(slot as usize)) {
             self.text(",");
             self.id(Handle {
                 slot,
@@ -124,28 +124,28 @@ impl<'a, W: fmt::Write> Pen<'a, W> {
     }
 
     /// Writes a shape, with its body's id where the slots' places are given.
-    pub(crate) fn shape(&mut self, shape: ShapeId, places: Option<&[Place]>) {
+    pub(crate) fn shape(&mut self, shape: ShapeId, slot_entries: Option<&[SlotEntry]>) {
         self.text("[");
         self.value(shape.slot);
         self.text(",");
         self.value(shape.index);
-        self.id_in(shape.slot, places);
+        self.id_in(shape.slot, slot_entries);
         self.text("]");
     }
 
-    fn contact(&mut self, contact: &ContactKey, places: Option<&[Place]>) {
+    fn contact(&mut self, contact: &ContactKey, slot_entries: Option<&[SlotEntry]>) {
         self.text("[");
-        self.shape(contact.first, places);
+        self.shape(contact.first, slot_entries);
         self.text(",");
-        self.shape(contact.second, places);
+        self.shape(contact.second, slot_entries);
         self.text("]");
     }
 
-    fn contacts(&mut self, contacts: &[ContactKey], places: Option<&[Place]>) {
+    fn contacts(&mut self, contacts: &[ContactKey], slot_entries: Option<&[SlotEntry]>) {
         self.text("[");
         for (index, contact) in contacts.iter().enumerate() {
             self.comma(index);
-            self.contact(contact, places);
+            self.contact(contact, slot_entries);
         }
         self.text("]");
     }
@@ -159,11 +159,11 @@ impl<'a, W: fmt::Write> Pen<'a, W> {
         self.text("]");
     }
 
-    fn step(&mut self, step: u64, events: &Events, places: Option<&[Place]>) {
+    fn step(&mut self, step: u64, events: &Events, slot_entries: Option<&[SlotEntry]>) {
         self.text("{\"begin\":");
-        self.contacts(events.begin(), places);
+        self.contacts(events.begin(), slot_entries);
         self.text(",\"end\":");
-        self.contacts(events.end(), places);
+        self.contacts(events.end(), slot_entries);
         self.text(",\"slept\":");
         self.bodies(events.slept());
         self.text(",\"step\":");
@@ -251,14 +251,14 @@ impl<'a, W: fmt::Write> Pen<'a, W> {
         self.text("}");
     }
 
-    fn hit(&mut self, hit: Option<Hit>, places: Option<&[Place]>) {
+    fn hit(&mut self, hit: Option<Hit>, slot_entries: Option<&[SlotEntry]>) {
         self.text("{\"hit\":");
         match hit {
             Some(hit) => {
                 self.text("{\"fraction\":");
                 self.value(hit.fraction);
                 self.text(",\"shape\":");
-                self.shape(hit.shape, places);
+                self.shape(hit.shape, slot_entries);
                 self.text("}");
             }
             None => self.text("null"),
@@ -266,11 +266,11 @@ impl<'a, W: fmt::Write> Pen<'a, W> {
         self.text("}");
     }
 
-    fn shapes(&mut self, shapes: &[ShapeId], places: Option<&[Place]>) {
+    fn shapes(&mut self, shapes: &[ShapeId], slot_entries: Option<&[SlotEntry]>) {
         self.text("{\"shapes\":[");
         for (index, shape) in shapes.iter().enumerate() {
             self.comma(index);
-            self.shape(*shape, places);
+            self.shape(*shape, slot_entries);
         }
         self.text("]}");
     }

@@ -2,7 +2,7 @@
 
 use crate::answers::{BodyList, JointReport};
 use crate::pen::Pen;
-use body_handles::{Handle, Place};
+use body_handles::{Handle, SlotEntry};
 use contacts_base::{ContactEntry, ContactPoint};
 use plain_world::{Body, Kind, Plain, SetName};
 use std::fmt;
@@ -44,7 +44,7 @@ impl<'a, W: fmt::Write> Pen<'a, W> {
     }
 
     /// Writes the body of a slot, if it has one that is asked for, and says whether it has.
-    fn body_in(&mut self, list: BodyList<'_>, slot: u32, place: &Place, count: usize) -> bool {
+    fn body_in(&mut self, list: BodyList<'_>, slot: u32, place: &SlotEntry, count: usize) -> bool {
         let Some(Some(body)) = list.bodies.get(slot as usize) else {
             return false;
         };
@@ -60,7 +60,7 @@ impl<'a, W: fmt::Write> Pen<'a, W> {
     pub fn body_list(&mut self, list: BodyList<'_>) {
         self.text("{\"bodies\":[");
         let (mut slot, mut count) = (0u32, 0usize);
-        for place in list.places {
+        for place in list.slot_entries {
             if self.body_in(list, slot, place, count) {
                 count = count.saturating_add(1);
             }
@@ -97,24 +97,28 @@ impl<'a, W: fmt::Write> Pen<'a, W> {
         self.text("]");
     }
 
-    fn touch(&mut self, entry: &ContactEntry, places: Option<&[Place]>) {
+    fn touch(&mut self, entry: &ContactEntry, slot_entries: Option<&[SlotEntry]>) {
         self.text("{\"a\":");
-        self.shape(entry.key.first, places);
+        self.shape(entry.key.first, slot_entries);
         self.text(",\"b\":");
-        self.shape(entry.key.second, places);
+        self.shape(entry.key.second, slot_entries);
         self.text(",\"points\":");
         self.points(entry);
         self.text("}");
     }
 
     pub fn touching(&mut self, plain: &Plain, ids: bool) {
-        let places = if ids { Some(plain.places()) } else { None };
+        let slot_entries = if ids {
+            Some(plain.slot_entries())
+        } else {
+            None
+        };
         self.text("{\"contacts\":[");
         let mut count = 0usize;
         for entry in plain.contacts() {
             if entry.contact.is_touching() {
                 self.comma(count);
-                self.touch(entry, places);
+                self.touch(entry, slot_entries);
                 count = count.saturating_add(1);
             }
         }

@@ -47,7 +47,12 @@ fn write_colours(text: &mut String, lists: &Plain) -> Result<(), Refusal> {
 }
 
 fn write_lists(text: &mut String, lists: &Plain) -> Result<(), Refusal> {
-    write!(text, "{:?}{:?}", lists.places(), lists.joint_places())?;
+    write!(
+        text,
+        "{:?}{:?}",
+        lists.slot_entries(),
+        lists.joint_entries()
+    )?;
     write_bodies(text, lists.bodies())?;
     write!(text, "{:?}{:?}", lists.joints(), lists.contacts())?;
     write_colours(text, lists)?;

@@ -100,14 +100,14 @@ pub fn expect_same_lists(moment: Moment, first: &Plain, second: &Plain) -> Resul
 /// In what the two lists of worlds differ.
 fn difference_of_lists(first: &Plain, second: &Plain) -> Option<Part> {
     let mut lists = Comparison::new();
-    lists.expect(Part::Places, first.places() == second.places());
+    lists.expect(Part::Places, first.slot_entries() == second.slot_entries());
     lists.expect(
         Part::Bodies,
         are_same_bodies(first.bodies(), second.bodies()),
     );
     lists.expect(
         Part::JointPlaces,
-        first.joint_places() == second.joint_places(),
+        first.joint_entries() == second.joint_entries(),
     );
     lists.expect(Part::Joints, first.joints() == second.joints());
     lists.expect(Part::Contacts, first.contacts() == second.contacts());

@@ -5,7 +5,7 @@ ghost use Rattle.std.specs.Result.{IsOkUnless};
 ghost use Rattle.graph_colours.specs.declared.limits.TheConstants.{COLOURS};
 ghost use Rattle.graph_colours.specs.Colours.{IsColouring, all_members};
 ghost use Rattle.graph_colours.specs.Members.{AreRising};
-ghost use Rattle.graph_colours.specs.Marks.{AreMarks, any_has_mover, bit_of, mark_at};
+ghost use Rattle.graph_colours.specs.TakenColours.{AreTakenColours, any_has_mover, bit_of, colour_bit};
 ghost use Rattle.graph_colours.specs.Graph.{lists_of, AreAtRest};
 ghost use Rattle.graph_colours.specs.Given.{AreAllBelow, members_of};
 
@@ -13,52 +13,52 @@ use crate::colours::{Colours, Size};
 use crate::edited::EditedList;
 use crate::limits::COLOURS;
 use crate::lists::reserve_all;
-use crate::marks::{grow, set_marks};
+use crate::taken_colours::{grow, set_colour_bits};
 use crate::{Id, Member};
 use fixed_geom::Refusal;
 use std::alloc::Global;
 
 /// Sets the marks of a colour, which has none yet, in the slots of its members' movers.
-fn mark_list<C: Id>(words: &mut Vec<u32>, colour: usize, members: &[Member<C>])
+fn set_list_bits<C: Id>(words: &mut Vec<u32>, colour: usize, members: &[Member<C>])
     requires colour { colour < COLOURS }
     requires below { AreAllBelow (length words.old.items) members.now }
-    requires clear { (slot : ℕ) → mark_at words.old.items slot colour ≡ 0 }
-    ensures own { (slot : ℕ) → mark_at words.new.items slot colour ≡ bit_of (any_has_mover members.now slot) }
-    ensures others { (slot other : ℕ) → other ≢ colour → mark_at words.new.items slot other ≡ mark_at words.old.items slot other }
+    requires clear { (slot : ℕ) → colour_bit words.old.items slot colour ≡ 0 }
+    ensures own { (slot : ℕ) → colour_bit words.new.items slot colour ≡ bit_of (any_has_mover members.now slot) }
+    ensures others { (slot other : ℕ) → other ≢ colour → colour_bit words.new.items slot other ≡ colour_bit words.old.items slot other }
     ensures long { length words.new.items ≡ length words.old.items }
 {
     for place in 0..members.len() {
-        set_marks(words, colour, members[place].movers, true);
+        set_colour_bits(words, colour, members[place].movers, true);
     }
 }
 
 /// Sets the marks of all colours, where no mark is set yet.
-fn mark_all<C: Id>(words: &mut Vec<u32>, lists: &[Vec<Member<C>>])
+fn set_all_bits<C: Id>(words: &mut Vec<u32>, lists: &[Vec<Member<C>>])
     requires count { length (members_of lists.now) ≡ COLOURS + 1 }
     requires below { All (AreAllBelow (length words.old.items)) (members_of lists.now) }
-    requires clear { (slot colour : ℕ) → mark_at words.old.items slot colour ≡ 0 }
-    ensures marks { AreMarks (members_of lists.now) words.new.items }
+    requires clear { (slot colour : ℕ) → colour_bit words.old.items slot colour ≡ 0 }
+    ensures bits { AreTakenColours (members_of lists.now) words.new.items }
     ensures long { length words.new.items ≡ length words.old.items }
 {
     for colour in 0..COLOURS {
-        mark_list(words, colour, lists[colour].as_slice());
+        set_list_bits(words, colour, lists[colour].as_slice());
     }
 }
 
 /// The marks of these lists, for slots below `slots`. Refused 1 where memory is wanting.
-fn marks_of<C: Id>(
+fn bits_of<C: Id>(
     alloc: Global,
     lists: &[Vec<Member<C>>],
     slots: usize,
 ) -> Result<Vec<u32>, Refusal>
     requires count { length (members_of lists.now) ≡ COLOURS + 1 }
     requires below { All (AreAllBelow slots) (members_of lists.now) }
-    ensures marks { IfOk result (λ words. AreMarks (members_of lists.now) words.items) }
+    ensures bits { IfOk result (λ words. AreTakenColours (members_of lists.now) words.items) }
     ensures long { IfOk result (λ words. length words.items ≡ slots) }
     ensures memory_only { IsOkUnless result Refusal.NoMemory }
 {
     let mut words = vec![in alloc; 0; slots]?;
-    mark_all(&mut words, lists);
+    set_all_bits(&mut words, lists);
     Ok(words)
 }
 
@@ -97,7 +97,7 @@ impl<C: Id> Colours<C> {
         ensures pending { IfOk result (λ made. made.pending ≡ 0) }
         ensures memory_only { IsOkUnless result Refusal.NoMemory }
     {
-        let words = marks_of(alloc, lists, slots)?;
+        let words = bits_of(alloc, lists, slots)?;
         let mut edited = edited_lists(alloc, lists)?;
         reserve_all(&mut edited, count)?;
         Ok(Colours {
@@ -109,7 +109,7 @@ impl<C: Id> Colours<C> {
                 total: count,
                 slots,
             },
-            settled: true,
+            flushed: true,
         })
     }
 }

@@ -9,7 +9,7 @@ ghost use Rattle.islands.specs.Given.{IsNamed, IsNext, labels_with, labels_with_
 use crate::islands::Islands;
 use crate::label::Label;
 use crate::parts::{no_head, part_at, set_state};
-use crate::places::pad_places;
+use crate::thread_nodes::pad_node_entries;
 use fixed_geom::Refusal;
 use std::alloc::Global;
 
@@ -21,14 +21,14 @@ impl Islands {
         ensures room { IfOk result (λ made. made.room ≡ slots) }
         ensures memory_only { IsOkUnless result Refusal.NoMemory }
     {
-        let mut places = Vec::with_capacity(alloc, slots)?;
-        pad_places(&mut places, slots);
+        let mut node_entries = Vec::with_capacity(alloc, slots)?;
+        pad_node_entries(&mut node_entries, slots);
         let mut notes = Vec::new(alloc);
         notes.resize(slots, None)?;
         let mut heads = Vec::new(alloc);
         heads.resize(slots, no_head())?;
         Ok(Islands {
-            places,
+            node_entries,
             notes,
             heads,
             room: slots,
@@ -41,7 +41,7 @@ impl Islands {
         ensures labels { self.new.labels ≡ with_state label.name label.state self.old.labels }
         ensures room { self.new.room ≡ self.old.room }
     {
-        let part = part_at(&self.places, &self.notes, label.name);
+        let part = part_at(&self.node_entries, &self.notes, label.name);
         set_state(&self.notes, &mut self.heads, part, label.state);
     }
 

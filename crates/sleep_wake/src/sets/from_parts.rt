@@ -6,13 +6,13 @@ ghost use Rattle.graph_colours.specs.Colours.{all_members};
 ghost use Rattle.graph_colours.specs.Given.{members_of};
 ghost use Rattle.sleep_wake.specs.Acting.{acting, IsConsistent};
 
-use crate::gathering::Gathering;
-use crate::growing::grow;
+use crate::graph::Graph;
 use crate::sets::Sets;
 use crate::ties::Ties;
+use crate::work::Work;
 use fixed_geom::Refusal;
 use graph_colours::{Colours, Id, Member};
-use islands::{Islands, Label, SplitScratch};
+use islands::{Islands, Label};
 use std::alloc::Global;
 
 impl<C: Id> Sets<C> {
@@ -25,7 +25,7 @@ impl<C: Id> Sets<C> {
         lists: &[Vec<Member<C>>],
         count: usize,
     ) -> Result<Sets<C>, Refusal>
-        requires settled { IsConsistent C.number (acting ties.now labels.now (members_of lists.now)) }
+        requires consistent { IsConsistent C.number (acting ties.now labels.now (members_of lists.now)) }
         requires few { length labels.now ≤ 2 ^ 32 }
         requires count { count ≡ length (all_members (members_of lists.now)) }
         ensures acting { IfOk result (λ made. made.acting ≡ acting ties.now labels.now (members_of lists.now)) }
@@ -35,35 +35,17 @@ impl<C: Id> Sets<C> {
         ensures memory_only { IsOkUnless result Refusal.NoMemory }
     {
         let slots = labels.len();
-        let mut kept = Ties::from_members(alloc, ties)?;
-        let mut spare = Vec::new(alloc);
-        let mut colours = Colours::from_lists(alloc, lists, count, slots)?;
-        let mut islands = Islands::from_labels(alloc, labels)?;
-        let mut edges = Vec::new(alloc);
-        let mut scratch = SplitScratch::new(alloc);
-        let mut gathering = Gathering::new(alloc);
-        let mut leasts = Vec::new(alloc);
-        let room = grow(
-            &mut kept,
-            &mut spare,
-            &mut colours,
-            &mut islands,
-            &mut edges,
-            &mut scratch,
-            &mut gathering,
-            &mut leasts,
-            0,
-            slots,
-        )?;
+        let mut graph = Graph {
+            ties: Ties::from_members(alloc, ties)?,
+            colours: Colours::from_lists(alloc, lists, count, slots)?,
+            islands: Islands::from_labels(alloc, labels)?,
+        };
+        let mut work = Work::new(alloc);
+        let room = graph.reserve(0, slots)?;
+        work.reserve(room, slots)?;
         Ok(Sets {
-            ties: kept,
-            colours,
-            islands,
-            spare,
-            edges,
-            scratch,
-            gathering,
-            leasts,
+            graph,
+            work,
             room,
             slots,
         })

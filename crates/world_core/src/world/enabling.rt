@@ -75,7 +75,7 @@ impl WorldCore {
         fill_joint_ties(
             &mut ties,
             self.bodies.bodies(),
-            self.joint_handles.places(),
+            self.joint_handles.slot_entries(),
             self.joints.joints(),
             &own,
             handle.slot,

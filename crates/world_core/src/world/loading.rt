@@ -4,7 +4,7 @@ ghost use Rattle.std.specs.Prelude.{◌≡◌, ◌≤◌, ◌^◌, IfErr, IfOk, 
 ghost use Rattle.std.specs.Result.{IsOkUnless};
 ghost use Rattle.serde_json.specs.View.{view};
 ghost use Rattle.contacts.specs.Constraints.{constraint_number};
-ghost use Rattle.contacts_base.specs.Contacts.{AreContacts};
+ghost use Rattle.contacts_base.specs.ContactLists.{AreContacts};
 ghost use Rattle.plain_world.specs.Slots.{AreMatched};
 ghost use Rattle.sleep_wake.specs.Acting.{IsConsistent};
 ghost use Rattle.world_core.specs.SavedAgain.{ComesBack};
@@ -42,8 +42,8 @@ fn contacts_of(alloc: Global, plain: &Plain) -> Result<Contacts, Refusal>
 
 /// The constraints of a plain world, the islands of their movers, and the colours of those that act. Refused 1 where memory is wanting.
 fn sets_of(alloc: Global, plain: &Plain) -> Result<Sets<Constraint>, Refusal>
-    requires settled { IsConsistent constraint_number (acting_of plain.now) }
-    requires joints { AreMatched plain.now.joint_places plain.now.joints }
+    requires consistent { IsConsistent constraint_number (acting_of plain.now) }
+    requires joints { AreMatched plain.now.joint_entries plain.now.joints }
     requires few { length plain.now.islands ≤ 2 ^ 32 }
     ensures acting { IfOk result (λ made. made.acting ≡ acting_of plain.now) }
     ensures memory_only { IsOkUnless result Refusal.NoMemory }
@@ -51,7 +51,7 @@ fn sets_of(alloc: Global, plain: &Plain) -> Result<Sets<Constraint>, Refusal>
     let ties = list_all_ties(
         alloc,
         plain.bodies(),
-        plain.joint_places(),
+        plain.joint_entries(),
         plain.joints(),
         plain.contacts(),
     )?;
@@ -69,9 +69,9 @@ impl WorldCore {
         ensures memory_only { IsOkUnless result Refusal.NoMemory }
     {
         Ok(WorldCore {
-            handles: Handles::from_places(alloc, plain.places())?,
+            handles: Handles::from_slot_entries(alloc, plain.slot_entries())?,
             bodies: BodyTable::from_bodies(alloc, plain.bodies())?,
-            joint_handles: Handles::from_places(alloc, plain.joint_places())?,
+            joint_handles: Handles::from_slot_entries(alloc, plain.joint_entries())?,
             joints: JointTable::from_joints(alloc, plain.joints())?,
             contacts: ContactTable::from_contacts(alloc, contacts_of(alloc, plain)?)?,
             sets: sets_of(alloc, plain)?,

@@ -87,7 +87,7 @@ impl WorldCore {
         let mut ties = joint_ties(
             alloc,
             self.bodies.bodies(),
-            self.joint_handles.places(),
+            self.joint_handles.slot_entries(),
             &self.joints,
             slot,
         )?;

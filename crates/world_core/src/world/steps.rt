@@ -6,10 +6,10 @@ ghost use Rattle.world_rules.specs.Apply.{Answers, apply_gravity, apply_step};
 
 use super::{MAX_GRAVITY, WorldCore};
 use crate::booking::record_step;
+use crate::committing::carry_out;
 use crate::preparing::prepare;
 use crate::sleep_phase::rest_ready;
 use crate::solving::solve;
-use crate::turning::carry_out;
 use colour_solver::StepSolver;
 use fixed_geom::{Refusal, Vec2, is_within};
 use shapes::is_between;
@@ -69,13 +69,13 @@ impl WorldCore {
             &mut self.sets,
             &mut self.anchors,
             &mut self.scratch.woke,
-            self.handles.places(),
+            self.handles.slot_entries(),
             &prepared,
         );
         let sums = solve(
             solver,
             &mut self.rows,
-            &mut self.scratch.places,
+            &mut self.scratch.contact_places,
             &mut self.bodies,
             &mut self.joints,
             &mut self.contacts,
@@ -87,7 +87,7 @@ impl WorldCore {
             &mut self.bodies,
             &mut self.sets,
             &mut self.scratch,
-            self.handles.places(),
+            self.handles.slot_entries(),
             self.joints.joints(),
             self.contacts.split(),
             ticks,

@@ -2,7 +2,7 @@
 
 ghost use Rattle.std.specs.Prelude.{◌≡◌, ◌≤◌, ◌<◌, ◌+◌, ◌*◌, take, length, IfOk, OnOk};
 ghost use Rattle.std.specs.Result.{IsOkUnless};
-ghost use Rattle.body_handles.specs.declared.places.TheConstants.{MAX_SLOTS};
+ghost use Rattle.body_handles.specs.declared.slot_table.TheConstants.{MAX_SLOTS};
 ghost use Rattle.packed_sets.specs.Packs.{IsAbsent};
 ghost use Rattle.world_core_base.specs.JointEnds.{AreEnds, AreNoted, ends_of};
 

@@ -1,6 +1,6 @@
 use Rattle.std.proofs.Common.{ℕ, sym, subst}
 use Rattle.colour_solver.specs.ColourRows.{all_rows}
-use Rattle.colour_solver.specs.ConstraintTurns.{AreRowsBelow}
+use Rattle.colour_solver.specs.ConstraintVisits.{AreRowsBelow}
 use Rattle.check_parts.proofs.RowLaws.{one_colour}
 use Rattle.check_parts.proofs.colour_solver_ticks.bounced.Goals as goal
 

@@ -1,7 +1,7 @@
 use Rattle.std.proofs.Common.{refl, sym, subst}
 use Rattle.colour_solver.specs.States.{AreAllStates, HaveCourses}
 use Rattle.colour_solver.proofs.CourseLaws.{courses-push}
-use Rattle.colour_solver.proofs.TurnLaws.{states-push}
+use Rattle.colour_solver.proofs.VisitLaws.{states-push}
 use Rattle.check_parts.proofs.colour_solver_ticks.two_bodies.Goals as goal
 
 pub returns-clause-long : goal.returns-clause-long

@@ -1,6 +1,6 @@
 use Rattle.std.proofs.Common.{◌∙◌, subst}
 use Rattle.std.specs.Option.{option_to_list}
-use Rattle.contacts_base.specs.Near.{IsProxyList}
+use Rattle.contacts_base.specs.Proxies.{IsProxyList}
 use Rattle.check_parts.proofs.SceneLaws.{nothing_known, pairs_after, shown_of, within_shown}
 use Rattle.check_parts.proofs.contacts_table.collide.Goals as goal
 

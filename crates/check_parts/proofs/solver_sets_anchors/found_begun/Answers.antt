@@ -4,8 +4,8 @@ use Rattle.contacts.specs.Constraints.{constraint_number}
 use Rattle.contacts.specs.declared.constraint.Constraint.{Constraint}
 use Rattle.sleep_wake.specs.Acting.{Acting}
 use Rattle.sleep_wake.specs.Changes.{begun}
-use Rattle.solver_sets.specs.Anchors.{Tell}
-use Rattle.solver_sets.proofs.FewerAnchoredLaws.{fewer_with_begun, tell_fewer}
+use Rattle.solver_sets.specs.Anchors.{AreComplete}
+use Rattle.solver_sets.proofs.FewerAnchoredLaws.{fewer_with_begun, complete_with_fewer}
 use Rattle.check_parts.proofs.solver_sets_anchors.found_begun.Goals as goal
 
 pub contact_ties_of-requires : goal.contact_ties_of-requires
@@ -13,5 +13,5 @@ contact_ties_of-requires c =
     let s : Acting Constraint = c.in_ok-sets.sets.acting in
     let ties = s.ties ++ c.contact-tie.result ∷ [] in
     let told = c.add_each.ensures.told s.ties (c.renew.ensures.told (λ q. absurd (false≢true (sym c.new-anchors.ensures.lapsed ∙ q)))) in
-    let P : Acting Constraint → Type 0 = λ v. Tell c.add_each.new.self.holds c.add_each.new.self.lists v.ties in
-    c.tidy.ensures.told (subst P (sym c.in_ok-begin.ensures) (tell_fewer c.add_each.new.self.holds c.add_each.new.self.lists ties (begun constraint_number c.contact-tie.result s).ties (fewer_with_begun c.contact-tie.result s) told))
+    let P : Acting Constraint → Type 0 = λ v. AreComplete c.add_each.new.self.holds c.add_each.new.self.lists v.ties in
+    c.tidy.ensures.told (subst P (sym c.in_ok-begin.ensures) (complete_with_fewer c.add_each.new.self.holds c.add_each.new.self.lists ties (begun constraint_number c.contact-tie.result s).ties (fewer_with_begun c.contact-tie.result s) told))

@@ -2,7 +2,7 @@ use Rattle.std.proofs.Common.{◌≡◌, ℕ, length, map, take, arith, ap, sym,
 use Rattle.std.proofs.lemmas.List.{length-map, take_all}
 use Rattle.colour_solver.specs.declared.colour_rows.ColourEnd.{ColourEnd}
 use Rattle.colour_solver.specs.ColourRows.{last_end}
-use Rattle.colour_solver.specs.Turns.{between}
+use Rattle.colour_solver.specs.RowVisits.{between}
 use Rattle.colour_solver.proofs.KeptRowLaws.{left_between, start_inside}
 use Rattle.colour_solver.proofs.colour_rows.contacts_behind.Goals as goal
 

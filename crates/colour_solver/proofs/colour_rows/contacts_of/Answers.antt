@@ -1,6 +1,6 @@
 use Rattle.std.proofs.Common.{ℕ, length, map, ap₂, sym, ◌∙◌}
 use Rattle.colour_solver.specs.declared.colour_rows.ColourEnd.{ColourEnd}
-use Rattle.colour_solver.specs.Turns.{between}
+use Rattle.colour_solver.specs.RowVisits.{between}
 use Rattle.colour_solver.proofs.KeptRowLaws.{below_ends, end_inside, end_there, start_low}
 use Rattle.colour_solver.proofs.RowPlaceLaws.{cut_there}
 use Rattle.colour_solver.proofs.colour_rows.contacts_of.Goals as goal

@@ -1,6 +1,6 @@
 use Rattle.std.proofs.Common.{◌<◌, length, slice_index_or, refl, arith, rules, add-one}
 use Rattle.colour_solver.proofs.CourseLaws.{carried_first, carried_last, carried_more, carried_there, course_along, course_at, courses-set}
-use Rattle.colour_solver.proofs.TurnLaws.{state_at, states-set}
+use Rattle.colour_solver.proofs.VisitLaws.{state_at, states-set}
 use Rattle.colour_solver.proofs.courses.carry_along.Goals as goal
 
 pub loop-place-init : goal.loop-place-init

@@ -1,5 +1,5 @@
 use Rattle.std.proofs.Common.{◌≤◌, ◌*◌, ◌^◌, length}
-use Rattle.body_handles.specs.declared.places.TheConstants.{MAX_SLOTS}
+use Rattle.body_handles.specs.declared.slot_table.TheConstants.{MAX_SLOTS}
 use Rattle.momenta.specs.Gains.{IsGain}
 use Rattle.colour_solver.specs.States.{as_vector}
 use Rattle.colour_solver.proofs.AwakeLaws.{HasWalked}

@@ -1,12 +1,12 @@
 use Rattle.std.proofs.Common.{◌*◌, ◌^◌, length, map, arith, ap, sym, subst, ◌∙◌, add-one}
 use Rattle.colour_solver.specs.States.{as_vector, total}
 use Rattle.colour_solver.specs.ColourRows.{all_rows}
-use Rattle.colour_solver.specs.ConstraintTurns.{constraint_slots, is_joint}
-use Rattle.colour_solver.specs.Phases.{constraint_turn}
+use Rattle.colour_solver.specs.ConstraintVisits.{constraint_slots, is_joint}
+use Rattle.colour_solver.specs.Phases.{constraint_visit}
 use Rattle.colour_solver.specs.declared.phase.Phase.TheVariants.{Bounce}
 use Rattle.colour_solver.specs.Ticks.{Run, added, start, tick}
 use Rattle.colour_solver.proofs.CourseLaws.{beside_on, beside_same, carried_beside, courses_same, movers_beside}
-use Rattle.colour_solver.proofs.SlotLaws.{passed_same, ticks_kinds, turn_kind}
+use Rattle.colour_solver.proofs.SlotLaws.{passed_same, ticks_kinds, visit_kind}
 use Rattle.colour_solver.proofs.TickLaws.{carried_on, last_added}
 use Rattle.colour_solver.proofs.ticks.run_ticks.Goals as goal
 
@@ -64,6 +64,6 @@ pub returns-clause-kinds : goal.returns-clause-kinds
 returns-clause-kinds g c =
     let begun = start c.args.states.now.items (all_rows (g.P.Passes.rows c.args.rows.now)) in
     ap (map is_joint) c.pass-bounced.ensures.rows
-    ∙ passed_same constraint_slots (constraint_turn Bounce) is_joint (turn_kind Bounce) c.loop-index.states.items (all_rows (g.P.Passes.rows c.loop-index.rows))
+    ∙ passed_same constraint_slots (constraint_visit Bounce) is_joint (visit_kind Bounce) c.loop-index.states.items (all_rows (g.P.Passes.rows c.loop-index.rows))
     ∙ ap (λ (r : Run). map is_joint r.rows) c.loop-index.invariant.run
     ∙ ticks_kinds c.loop-index.index c.args.gravity begun

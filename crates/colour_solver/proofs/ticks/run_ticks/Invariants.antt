@@ -3,7 +3,7 @@ use Rattle.fixed_geom.specs.Vectors.{plus}
 use Rattle.colour_solver.specs.States.{AreAllStates, AreSameBeside, HaveCourses, total}
 use Rattle.colour_solver.specs.Colour.{AreColours}
 use Rattle.colour_solver.specs.ColourRows.{all_rows}
-use Rattle.colour_solver.specs.ConstraintTurns.{AreRowsBelow}
+use Rattle.colour_solver.specs.ConstraintVisits.{AreRowsBelow}
 use Rattle.colour_solver.specs.Ticks.{AreSums, added, run_of, start, ticks}
 use Rattle.colour_solver.proofs.ticks.run_ticks.Given as goal
 

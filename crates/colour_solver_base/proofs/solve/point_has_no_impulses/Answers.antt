@@ -3,7 +3,7 @@ use Rattle.std.proofs.lemmas.Int.{to_z-of_z}
 use Rattle.std.specs.Int.{w64}
 use mir.Val.{SFits, to_z}
 use Rattle.momenta.specs.declared.state.Ends.{Ends}
-use Rattle.momenta.specs.Impulses.{AreStates}
+use Rattle.momenta.specs.ImpulseBounds.{AreStates}
 use Rattle.momenta.proofs.NoImpulse.{warmed_none}
 use Rattle.colour_solver_base.specs.declared.row.PointRow.{PointRow}
 use Rattle.colour_solver_base.specs.Rows.{point_warmed, normal_line, tangent_line}

@@ -1,5 +1,5 @@
 use Rattle.std.proofs.Common.{subst, sym}
-use Rattle.contacts.specs.Changes.{AreRising}
+use Rattle.contacts.specs.ChangedKeys.{AreRising}
 use Rattle.contacts.proofs.ChangeLemmas.{keys_not_in_rise, keys_touching_rise}
 use Rattle.contacts.proofs.changes.update.Goals as goal
 

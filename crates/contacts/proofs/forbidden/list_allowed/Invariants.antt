@@ -1,6 +1,6 @@
 use Rattle.std.proofs.Common.{◌≡◌, take}
 use Rattle.std.specs.Prelude.{filter}
-use Rattle.contacts.specs.Forbidden.{is_allowed}
+use Rattle.contacts.specs.ByCodes.{is_allowed}
 use Rattle.contacts.proofs.forbidden.list_allowed.Given as goal
 
 abbrev pub invariant-loop-code : goal.invariant-loop-code

@@ -7,7 +7,7 @@ use Rattle.contacts.proofs.moved_pairs.push_numbers_of_all.Goals as goal
 
 pub loop-place-preserved : goal.loop-place-preserved
 loop-place-preserved g c =
-    let ps = g.S.ShapesByName.proxies c.args.shapes.now in
+    let ps = g.S.ShapesById.proxies c.args.shapes.now in
     All-more (λ (slot : ℕ). HasNumbersIn ps slot c.push_numbers_of_slot.new.numbers.items) c.args.marked.now c.loop-place.place _ c.loop-place-test.true (all_more ps (take c.loop-place.place c.args.marked.now) c.loop-place.numbers.items _ c.in_ok-push_numbers_of_slot.ensures.kept c.loop-place.invariant) c.in_ok-push_numbers_of_slot.ensures.near
 
 pub returns-clause-near : goal.returns-clause-near

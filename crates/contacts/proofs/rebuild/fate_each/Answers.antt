@@ -8,9 +8,9 @@ use Rattle.contacts.proofs.rebuild.fate_each.Goals as goal
 
 pub loop-place-preserved : goal.loop-place-preserved
 loop-place-preserved g c =
-    let ps = g.S.ShapesByName.proxies c.args.shapes.now in
-    let moved = moved_by c.args.marks.now in
-    let pairs = g.F.ForbiddenPairs.pairs c.args.forbidden.now in
+    let ps = g.S.ShapesById.proxies c.args.collide.now.shapes.now in
+    let moved = moved_by c.args.collide.now.marks.now in
+    let pairs = g.F.ForbiddenPairs.pairs c.args.collide.now.forbidden.now in
     let old = c.args.old.now in
     let place = c.loop-place.place in
     let entry = c.index-old-place.result in

@@ -19,7 +19,7 @@ merge-requires-clause-first g c = new_keys_ascend c.args.fresh.now _ c.requires.
 pub merge-requires-clause-second : goal.merge-requires-clause-second
 merge-requires-clause-second g c =
     subst (AreAscending key_number) (sym (c.deref-2.ensures.value ∙ c.in_ok-survivors.ensures.begin))
-    (begun_ascend (moved_by c.args.marks.now) (g.F.ForbiddenPairs.pairs c.args.forbidden.now) (g.S.ShapesByName.proxies c.args.shapes.now) c.args.old.now c.requires.old.rising)
+    (begun_ascend (moved_by c.args.collide.now.marks.now) (g.F.ForbiddenPairs.pairs c.args.collide.now.forbidden.now) (g.S.ShapesById.proxies c.args.collide.now.shapes.now) c.args.old.now c.requires.old.rising)
 
 pub returns-clause-rebuilt : goal.returns-clause-rebuilt
 returns-clause-rebuilt g c = record {

@@ -5,4 +5,4 @@ use Rattle.contacts.proofs.survey.look_over.Given as goal
 
 abbrev pub invariant-loop-index : goal.invariant-loop-index
 invariant-loop-index g l =
-    IsPassing l.old.long (one_flagged l.stirring.flags.items) l.places l.index (IsFound (moved_by l.marks) (g.F.ForbiddenPairs.pairs l.forbidden) (g.S.ShapesByName.proxies l.shapes) l.old l.notes.items l.ends.items l.touches.begin.items l.touches.end.items)
+    IsPassing l.old.long (one_flagged l.stirring.flags.items) l.places l.index (IsFound (moved_by l.collide.marks.now) (g.F.ForbiddenPairs.pairs l.collide.forbidden.now) (g.S.ShapesById.proxies l.collide.shapes.now) l.old l.notes.items l.ends.items l.touches.begin.items l.touches.end.items)

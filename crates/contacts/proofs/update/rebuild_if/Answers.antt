@@ -5,4 +5,4 @@ use Rattle.contacts.proofs.update.rebuild_if.Goals as goal
 
 pub returns-then-not-may_one_stir-clause-rebuilt : goal.returns-then-not-may_one_stir-clause-rebuilt
 returns-then-not-may_one_stir-clause-rebuilt g c =
-    short_stays c.args.flags.now c.args.marks.now (g.F.ForbiddenPairs.pairs c.args.forbidden.now) (g.S.ShapesByName.proxies c.args.shapes.now) c.args.short.now c.args.fresh.now c.requires.quiet c.requires.short c.requires.keys (c.may_one_stir.ensures c.if-not-may_one_stir.true) (empty_of c.args.fresh.now _ c.is_empty.result refl c.is_empty.ensures c.if-is_empty.true)
+    short_stays c.args.flags.now c.args.collide.now.marks.now (g.F.ForbiddenPairs.pairs c.args.collide.now.forbidden.now) (g.S.ShapesById.proxies c.args.collide.now.shapes.now) c.args.short.now c.args.fresh.now c.requires.quiet c.requires.short c.requires.keys (c.may_one_stir.ensures c.if-not-may_one_stir.true) (empty_of c.args.fresh.now _ c.is_empty.result refl c.is_empty.ensures c.if-is_empty.true)

@@ -1,5 +1,5 @@
 use Rattle.std.proofs.Common.{◌≡◌, ◌<◌, ◌≤◌, subst, arith}
-use Rattle.contacts_base.specs.Contacts.{IsNoneBelow}
+use Rattle.contacts_base.specs.ContactLists.{IsNoneBelow}
 use Rattle.contacts_base.proofs.SeekLemmas.{all_below, none_below, first_from}
 use Rattle.contacts_base.proofs.contact.place_between.Goals as goal
 

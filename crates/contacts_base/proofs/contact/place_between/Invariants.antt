@@ -1,5 +1,5 @@
 use Rattle.std.proofs.Common.{◌-◌, ◌≤◌}
-use Rattle.contacts_base.specs.Contacts.{IsAllBelow, IsNoneBelow}
+use Rattle.contacts_base.specs.ContactLists.{IsAllBelow, IsNoneBelow}
 use Rattle.contacts_base.proofs.contact.place_between.Given as goal
 
 abbrev pub invariant-loop-low : goal.invariant-loop-low

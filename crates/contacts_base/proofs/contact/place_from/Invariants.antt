@@ -1,5 +1,5 @@
 use Rattle.std.proofs.Common.{◌-◌, ◌≤◌, length}
-use Rattle.contacts_base.specs.Contacts.{IsAllBelow}
+use Rattle.contacts_base.specs.ContactLists.{IsAllBelow}
 use Rattle.contacts_base.proofs.contact.place_from.Given as goal
 
 abbrev pub invariant-loop-width : goal.invariant-loop-width

@@ -1,7 +1,7 @@
 use Rattle.std.proofs.Common.{pos, ◌≤ℤ◌, subst, sym, unsigned_abs}
 use Rattle.fixed_geom.specs.declared.limits.TheConstants.{MAX_OFFSET}
 use Rattle.shapes.specs.declared.points.Point.{Point}
-use Rattle.shapes.specs.Manifolds.{IsPointWithin}
+use Rattle.shapes.specs.PointsWithin.{IsPointWithin}
 use Rattle.contacts_base.specs.Evaluate.{evaluated}
 use Rattle.contacts_base.proofs.CircleLemmas.{gap_of_discs}
 use Rattle.contacts_base.proofs.evaluation.contact_of_discs.Goals as goal

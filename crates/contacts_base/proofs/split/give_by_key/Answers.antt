@@ -1,7 +1,8 @@
 use Rattle.std.proofs.Common.{◌≡◌, ◌<◌, ◌∙◌, length, ap, arith, true}
 use Rattle.std.specs.Option.{is_some}
 use Rattle.std.proofs.lemmas.Grind.{common_steps}
-use Rattle.contacts_base.specs.Contacts.{IsFirstFrom, lookup, number_of}
+use Rattle.contacts_base.specs.Contacts.{lookup, number_of}
+use Rattle.contacts_base.specs.ContactLists.{IsFirstFrom}
 use Rattle.contacts_base.specs.Keys.{key_number}
 use Rattle.contacts_base.proofs.CountingLaws.{found_behind, given_missed, given_there, there_if, within_if}
 use Rattle.contacts_base.proofs.split.give_by_key.Goals as goal

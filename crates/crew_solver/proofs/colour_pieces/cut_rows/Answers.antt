@@ -1,8 +1,8 @@
 use Rattle.std.proofs.Common.{◌≡◌, ◌-◌, ◌/◌, length, arith, ◌∙◌, rules}
 use Rattle.std.proofs.lemmas.List.Elements.{All-drop, All-push}
 use Rattle.colour_solver.specs.declared.constraint_row.ConstraintRow.{ConstraintRow}
-use Rattle.colour_solver.specs.ConstraintTurns.{IsRowBelow}
-use Rattle.crew_solver.specs.Turned.{PieceRows}
+use Rattle.colour_solver.specs.ConstraintVisits.{IsRowBelow}
+use Rattle.crew_solver.specs.Visited.{PieceRows}
 use Rattle.crew_solver.proofs.PassLaws.{cut_more, none_left}
 use Rattle.crew_solver.proofs.colour_pieces.cut_rows.Goals as goal
 

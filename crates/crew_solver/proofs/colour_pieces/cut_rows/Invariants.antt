@@ -1,7 +1,7 @@
 use Rattle.std.proofs.Common.{◌≡◌, ◌++◌, ◌≤◌, All, length, vec_len, vec_capacity}
 use Rattle.colour_solver.specs.declared.constraint_row.ConstraintRow.{ConstraintRow}
-use Rattle.colour_solver.specs.ConstraintTurns.{AreRowsBelow}
-use Rattle.crew_solver.specs.Turned.{PieceRows, rows_in}
+use Rattle.colour_solver.specs.ConstraintVisits.{AreRowsBelow}
+use Rattle.crew_solver.specs.Visited.{PieceRows, rows_in}
 use Rattle.crew_solver.proofs.colour_pieces.cut_rows.Given as goal
 
 abbrev pub invariant-loop-piece : goal.invariant-loop-piece

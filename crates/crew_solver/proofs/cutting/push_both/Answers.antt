@@ -1,6 +1,6 @@
 use Rattle.std.proofs.Common.{map}
 use Rattle.colour_solver.specs.declared.constraint_row.ConstraintRow.TheVariants.{Contact, Joint}
-use Rattle.colour_solver.specs.ConstraintTurns.{IsRowBelow}
+use Rattle.colour_solver.specs.ConstraintVisits.{IsRowBelow}
 use Rattle.crew_solver.proofs.PassLaws.{all_behind}
 use Rattle.crew_solver.proofs.cutting.push_both.Goals as goal
 

@@ -1,6 +1,6 @@
 use Rattle.std.proofs.Common.{◌∙◌}
 use Rattle.colour_solver.specs.declared.constraint_row.ConstraintRow.TheVariants.{Contact}
-use Rattle.colour_solver.specs.ConstraintTurns.{IsRowBelow}
+use Rattle.colour_solver.specs.ConstraintVisits.{IsRowBelow}
 use Rattle.crew_solver.proofs.CutLaws.{mapped_at, pushed_more}
 use Rattle.crew_solver.proofs.cutting.push_contacts.Goals as goal
 

@@ -1,6 +1,6 @@
 use Rattle.std.proofs.Common.{◌∙◌}
 use Rattle.colour_solver.specs.declared.constraint_row.ConstraintRow.TheVariants.{Joint}
-use Rattle.colour_solver.specs.ConstraintTurns.{IsRowBelow}
+use Rattle.colour_solver.specs.ConstraintVisits.{IsRowBelow}
 use Rattle.crew_solver.proofs.CutLaws.{mapped_at, pushed_more}
 use Rattle.crew_solver.proofs.cutting.push_joints.Goals as goal
 

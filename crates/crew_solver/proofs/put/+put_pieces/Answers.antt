@@ -3,7 +3,7 @@ use Rattle.std.proofs.lemmas.List.Elements.{All-head, All-tail}
 use Rattle.fixed_geom.specs.Vectors.{plus}
 use Rattle.colour_solver.specs.States.{as_vector}
 use Rattle.crew_solver.specs.declared.momenta_pair.MomentaPair.{MomentaPair}
-use Rattle.crew_solver.specs.Turned.{IsSmallSoFar, PieceRows, given_all, put_all}
+use Rattle.crew_solver.specs.Visited.{IsSmallSoFar, PieceRows, given_all, put_all}
 use Rattle.crew_solver.proofs.PutLaws.{given_rest, put_rest, small_first, small_rest}
 use Rattle.crew_solver.proofs.put.+put_pieces.Goals as goal
 
@@ -16,9 +16,9 @@ put_rows-more-requires-clause-small g t c =
     let ss = c.args.states.now.items in
     let given = as_vector c.args.given in
     let cut : pieces ≡ first ∷ rest = c.in-Some.ensures.cases.0 in
-    let long = All-head (λ (p : PieceRows g.row.R.Denot). length p.turned ≡ length p.rows) first rest (subst (All (λ (p : PieceRows g.row.R.Denot). length p.turned ≡ length p.rows)) cut c.requires.as_many) in
-    subst (λ (l : List g.row.R.Denot). IsSmallSoFar at ss given l c.turned.result.now) (sym c.rows.ensures.rows)
-    (subst (λ (l : List MomentaPair). IsSmallSoFar at ss given first.rows l) (sym c.turned.ensures.turned) (small_first at pieces first rest ss given cut long c.requires.small))
+    let long = All-head (λ (p : PieceRows g.row.R.Denot). length p.visited ≡ length p.rows) first rest (subst (All (λ (p : PieceRows g.row.R.Denot). length p.visited ≡ length p.rows)) cut c.requires.as_many) in
+    subst (λ (l : List g.row.R.Denot). IsSmallSoFar at ss given l c.visited.result.now) (sym c.rows.ensures.rows)
+    (subst (λ (l : List MomentaPair). IsSmallSoFar at ss given first.rows l) (sym c.visited.ensures.visited) (small_first at pieces first rest ss given cut long c.requires.small))
 
 pub put_pieces-requires : goal.put_pieces-requires
 put_pieces-requires g t c κs within =
@@ -29,13 +29,13 @@ put_pieces-requires g t c κs within =
     let ss = c.args.states.now.items in
     let new = c.put_rows-more.new.states.items in
     let cut : pieces ≡ first ∷ rest = c.in-Some.ensures.cases.0 in
-    let all_long = subst (All (λ (p : PieceRows g.row.R.Denot). length p.turned ≡ length p.rows)) cut c.requires.as_many in
-    let long = All-head (λ (p : PieceRows g.row.R.Denot). length p.turned ≡ length p.rows) first rest all_long in
+    let all_long = subst (All (λ (p : PieceRows g.row.R.Denot). length p.visited ≡ length p.rows)) cut c.requires.as_many in
+    let long = All-head (λ (p : PieceRows g.row.R.Denot). length p.visited ≡ length p.rows) first rest all_long in
     let bodies = subst (All (λ (p : PieceRows g.row.R.Denot). p.bodies ≡ length ss)) cut c.requires.bodies in
-    let put : new ≡ put_all at ss first.rows first.turned = c.put_rows-more.ensures.states ∙ ap₂ (put_all at ss) c.rows.ensures.rows c.turned.ensures.turned in
-    let given : as_vector c.put_rows-more.result ≡ plus (as_vector c.args.given) (given_all at ss first.rows first.turned) =
-    c.put_rows-more.ensures.given ∙ ap (plus (as_vector c.args.given)) (ap₂ (given_all at ss) c.rows.ensures.rows c.turned.ensures.turned) in
-    let all = All-tail (λ (p : PieceRows g.row.R.Denot). length p.turned ≡ length p.rows) first rest all_long in
+    let put : new ≡ put_all at ss first.rows first.visited = c.put_rows-more.ensures.states ∙ ap₂ (put_all at ss) c.rows.ensures.rows c.visited.ensures.visited in
+    let given : as_vector c.put_rows-more.result ≡ plus (as_vector c.args.given) (given_all at ss first.rows first.visited) =
+    c.put_rows-more.ensures.given ∙ ap (plus (as_vector c.args.given)) (ap₂ (given_all at ss) c.rows.ensures.rows c.visited.ensures.visited) in
+    let all = All-tail (λ (p : PieceRows g.row.R.Denot). length p.visited ≡ length p.rows) first rest all_long in
     let below : All (λ (p : PieceRows g.row.R.Denot). p.bodies ≡ length new) rest = rw c.put_rows-more.ensures.long (All-tail (λ (p : PieceRows g.row.R.Denot). p.bodies ≡ length ss) first rest bodies) in
     let small = small_rest at pieces first rest ss new (as_vector c.args.given) (as_vector c.put_rows-more.result) cut long put given c.requires.small in
     (search rules, (search rules, (all, (below, (c.put_rows-more.ensures.within, small)))))
@@ -49,8 +49,8 @@ returns-in-Some-clause-states g t c =
     let ss = c.args.states.now.items in
     let new = c.put_rows-more.new.states.items in
     let cut : pieces ≡ first ∷ rest = c.in-Some.ensures.cases.0 in
-    let long = All-head (λ (p : PieceRows g.row.R.Denot). length p.turned ≡ length p.rows) first rest (subst (All (λ (p : PieceRows g.row.R.Denot). length p.turned ≡ length p.rows)) cut c.requires.as_many) in
-    let put : new ≡ put_all at ss first.rows first.turned = c.put_rows-more.ensures.states ∙ ap₂ (put_all at ss) c.rows.ensures.rows c.turned.ensures.turned in
+    let long = All-head (λ (p : PieceRows g.row.R.Denot). length p.visited ≡ length p.rows) first rest (subst (All (λ (p : PieceRows g.row.R.Denot). length p.visited ≡ length p.rows)) cut c.requires.as_many) in
+    let put : new ≡ put_all at ss first.rows first.visited = c.put_rows-more.ensures.states ∙ ap₂ (put_all at ss) c.rows.ensures.rows c.visited.ensures.visited in
     c.put_pieces.ensures.states ∙ put_rest at pieces first rest ss new cut long put
 
 pub returns-in-Some-clause-given : goal.returns-in-Some-clause-given
@@ -62,8 +62,8 @@ returns-in-Some-clause-given g t c =
     let ss = c.args.states.now.items in
     let new = c.put_rows-more.new.states.items in
     let cut : pieces ≡ first ∷ rest = c.in-Some.ensures.cases.0 in
-    let long = All-head (λ (p : PieceRows g.row.R.Denot). length p.turned ≡ length p.rows) first rest (subst (All (λ (p : PieceRows g.row.R.Denot). length p.turned ≡ length p.rows)) cut c.requires.as_many) in
-    let put : new ≡ put_all at ss first.rows first.turned = c.put_rows-more.ensures.states ∙ ap₂ (put_all at ss) c.rows.ensures.rows c.turned.ensures.turned in
-    let given : as_vector c.put_rows-more.result ≡ plus (as_vector c.args.given) (given_all at ss first.rows first.turned) =
-    c.put_rows-more.ensures.given ∙ ap (plus (as_vector c.args.given)) (ap₂ (given_all at ss) c.rows.ensures.rows c.turned.ensures.turned) in
+    let long = All-head (λ (p : PieceRows g.row.R.Denot). length p.visited ≡ length p.rows) first rest (subst (All (λ (p : PieceRows g.row.R.Denot). length p.visited ≡ length p.rows)) cut c.requires.as_many) in
+    let put : new ≡ put_all at ss first.rows first.visited = c.put_rows-more.ensures.states ∙ ap₂ (put_all at ss) c.rows.ensures.rows c.visited.ensures.visited in
+    let given : as_vector c.put_rows-more.result ≡ plus (as_vector c.args.given) (given_all at ss first.rows first.visited) =
+    c.put_rows-more.ensures.given ∙ ap (plus (as_vector c.args.given)) (ap₂ (given_all at ss) c.rows.ensures.rows c.visited.ensures.visited) in
     c.put_pieces.ensures.given ∙ given_rest at pieces first rest ss new (as_vector c.args.given) (as_vector c.put_rows-more.result) cut long put given

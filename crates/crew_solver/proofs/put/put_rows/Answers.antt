@@ -2,12 +2,12 @@ use Rattle.std.proofs.Common.{◌≡◌, ◌+◌, ◌<◌, List, pos, length, dr
 use Rattle.fixed_geom.specs.Vectors.{plus}
 use Rattle.fixed_geom.specs.declared.vectors.Vec2.{Vec2}
 use Rattle.momenta.specs.declared.state.BodyState.{BodyState}
-use Rattle.colour_solver.specs.declared.turns.Slots.{Slots}
+use Rattle.colour_solver.specs.declared.row_visits.Slots.{Slots}
 use Rattle.colour_solver.specs.States.{as_vector}
-use Rattle.colour_solver.specs.Turns.{ends_of, got}
+use Rattle.colour_solver.specs.RowVisits.{ends_of, got}
 use Rattle.colour_solver.proofs.VectorLaws.{same_vector}
 use Rattle.crew_solver.specs.declared.momenta_pair.MomentaPair.{MomentaPair}
-use Rattle.crew_solver.specs.Turned.{IsSmallSoFar, ends_with, given_all, put_all, put_at}
+use Rattle.crew_solver.specs.Visited.{IsSmallSoFar, ends_with, given_all, put_all, put_at}
 use Rattle.crew_solver.proofs.ListLaws.{get_again}
 use Rattle.crew_solver.proofs.PutLaws.{given_step, put_step, small_now, small_step}
 use Rattle.crew_solver.proofs.put.put_rows.Goals as goal
@@ -15,14 +15,14 @@ use Rattle.crew_solver.proofs.put.put_rows.Goals as goal
 pub plus-given-requires-clause-first : goal.plus-given-requires-clause-first
 plus-given-requires-clause-first g c =
     let index = c.loop-index.index in
-    let small = small_now g.R.Row.slots (drop index c.args.rows.now) (drop index c.args.turned.now) c.loop-index.states.items (as_vector c.loop-index.given) c.loop-index.invariant.small in
+    let small = small_now g.R.Row.slots (drop index c.args.rows.now) (drop index c.args.visited.now) c.loop-index.states.items (as_vector c.loop-index.given) c.loop-index.invariant.small in
     record { x = omega (arith, small.x); y = omega (arith, small.y) }
 
 pub loop-index-preserved : goal.loop-index-preserved
 loop-index-preserved g c =
     let at = g.R.Row.slots in
     let rows = c.args.rows.now in
-    let ms = c.args.turned.now in
+    let ms = c.args.visited.now in
     let index = c.loop-index.index in
     let ss = c.loop-index.states.items in
     let new = c.put_pair-got.new.states.items in

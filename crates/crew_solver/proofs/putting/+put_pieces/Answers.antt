@@ -2,7 +2,7 @@ use Rattle.std.proofs.Common.{◌≡◌, ◌∷◌, ◌+◌, List, sym, subst, r
 use Rattle.colour_solver.specs.declared.constraint_row.ConstraintRow.{ConstraintRow}
 use Rattle.colour_solver.specs.ColourRows.{all_rows}
 use Rattle.crew_solver.specs.Putting.{AreNext, IsPut}
-use Rattle.crew_solver.specs.Turned.{PieceRows, rows_in}
+use Rattle.crew_solver.specs.Visited.{PieceRows, rows_in}
 use Rattle.crew_solver.proofs.PutBackLaws.{first_next, put_then, then_next}
 use Rattle.crew_solver.proofs.putting.+put_pieces.Goals as goal
 

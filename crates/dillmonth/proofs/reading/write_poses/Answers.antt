@@ -9,9 +9,9 @@ pub loop-slot-preserved : goal.loop-slot-preserved
 loop-slot-preserved c =
     let slot = c.loop-slot.slot in
     let here = c.pose_asked-pose.result in
-    let so_far = poses_up c.args.moving c.args.places.now c.args.bodies.now slot in
+    let so_far = poses_up c.args.moving c.args.slot_entries.now c.args.bodies.now slot in
     let low = c.loop-slot-test.true in
-    let pose = pose_here c.args.moving c.args.places.now c.args.bodies.now slot c.index-bodies-slot.result _ here (omega (arith, low, c.requires.slots)) low c.index-bodies-slot.is c.pose_asked-pose.ensures in
+    let pose = pose_here c.args.moving c.args.slot_entries.now c.args.bodies.now slot c.index-bodies-slot.result _ here (omega (arith, low, c.requires.slots)) low c.index-bodies-slot.is c.pose_asked-pose.ensures in
     let known = c.loop-slot.invariant in
     let put = c.write_next-count.ensures in
     record {

@@ -13,4 +13,4 @@ returns-clause-graph g c =
     let r = c.remove_from_first-gone in
     let lists : List (List (Member g.row.C.Denot)) = lists_of ks in
     let gone : length (all_members (released n c.args.id lists)) + r.result ≡ length (all_members lists) = rw r.ensures.gone (released_size n c.args.id lists) in
-    graph_released n c.args.id ks r.new.lists.items c.args.words.now.items r.new.words.items c.args.size _ r.result c.requires.graph r.ensures.lists r.ensures.marks r.ensures.gone (omega (arith, gone, c.requires.graph.members)) refl refl (r.ensures.kept c.args.size.total c.requires.graph.rooms) r.ensures.long
+    graph_released n c.args.id ks r.new.lists.items c.args.words.now.items r.new.words.items c.args.size _ r.result c.requires.graph r.ensures.lists r.ensures.bits r.ensures.gone (omega (arith, gone, c.requires.graph.members)) refl refl (r.ensures.kept c.args.size.total c.requires.graph.rooms) r.ensures.long

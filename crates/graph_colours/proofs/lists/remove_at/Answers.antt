@@ -2,33 +2,17 @@ use Rattle.std.proofs.Common.{◌≡◌, ℕ, ◌+◌, ◌<◌, false, List, len
 use Rattle.std.specs.Option.{is_some}
 use Rattle.graph_colours.specs.declared.limits.TheConstants.{COLOURS}
 use Rattle.graph_colours.specs.declared.member.Member.{Member}
-use Rattle.graph_colours.specs.Members.{has_id, without_member, movers_of}
+use Rattle.graph_colours.specs.Members.{without_member}
+use Rattle.graph_colours.specs.FoundMembers.{has_id, movers_of}
 use Rattle.graph_colours.specs.Graph.{lists_of}
-use Rattle.graph_colours.specs.Marks.{AreMarks}
+use Rattle.graph_colours.specs.TakenColours.{AreTakenColours}
 use Rattle.graph_colours.specs.Edits.{Pended}
 use Rattle.graph_colours.specs.Colours.{list_at}
 use Rattle.graph_colours.proofs.PlaceLemmas.{has_movers, without_same}
 use Rattle.graph_colours.proofs.GraphLemmas.{rising_at, apart_at}
-use Rattle.graph_colours.proofs.BitLaws.{not_set}
-use Rattle.graph_colours.proofs.MarkLemmas.{found_below, marks_removed, same_length}
-use Rattle.graph_colours.proofs.StepLemmas.{lists_count, items_at, items_set, map_kept, nothing_set, rooms_set}
+use Rattle.graph_colours.proofs.TakenLemmas.{found_below, bits_removed, same_length}
+use Rattle.graph_colours.proofs.StepLemmas.{lists_count, items_at, items_set, map_kept, rooms_set}
 use Rattle.graph_colours.proofs.lists.remove_at.Goals as goal
-
-pub has_mark-requires : goal.has_mark-requires
-has_mark-requires g c =
-    let n : length c.args.lists.now.items ≡ COLOURS + 1 = lists_count g.C.Id.number c.args.lists.now.items c.requires.colouring in
-    omega (arith, n, c.requires.place)
-
-pub returns-then-not-has_mark-clause-value : goal.returns-then-not-has_mark-clause-value
-returns-then-not-has_mark-clause-value g c =
-    let off = not_set c.args.candidates c.args.place (sym c.has_mark.ensures ∙ c.if-not-has_mark.true) in
-    sym (c.requires.candidate off)
-
-pub returns-then-not-has_mark-clause-lists : goal.returns-then-not-has_mark-clause-lists
-returns-then-not-has_mark-clause-lists g c =
-    let lists : List (List (Member g.row.C.Denot)) = lists_of c.args.lists.now.items in
-    let off = not_set c.args.candidates c.args.place (sym c.has_mark.ensures ∙ c.if-not-has_mark.true) in
-    nothing_set lists c.args.place (without_member g.C.Id.number c.args.id (list_at lists c.args.place)) (without_same g.C.Id.number c.args.id (list_at lists c.args.place) (c.requires.candidate off))
 
 pub returns-in_default-clause-value : goal.returns-in_default-clause-value
 returns-in_default-clause-value g c =
@@ -50,26 +34,26 @@ returns-in_default-clause-lists g c =
     let at : x.items ≡ list_at (lists_of ks) c.args.place = items_at ks c.args.place x c.requires.place c.index_mut.ensures.value in
     items_set ks c.args.place c.remove.new.self (without_member n c.args.id (list_at (lists_of ks) c.args.place)) (c.remove.ensures.items ∙ ap (λ (ms : List (Member g.row.C.Denot)). without_member n c.args.id ms) at)
 
-pub returns-in_default-clause-marks : goal.returns-in_default-clause-marks
-returns-in_default-clause-marks g c =
+pub returns-in_default-clause-bits : goal.returns-in_default-clause-bits
+returns-in_default-clause-bits g c =
     let f : Pended g.row.C.Denot → List (Member g.row.C.Denot) = λ l. l.items in
     let x = c.index_mut.result.now in
     let same = same_items g.C.Id.number c.args.id x c.remove.new.self c.remove.ensures.items c.in_default.ensures.value in
     let kept = map_kept f c.args.lists.now.items c.args.place c.remove.new.self x (same ∙ ap f c.index_mut.ensures.value) in
-    let P : List (List (Member g.row.C.Denot)) → Type 0 = λ ls. AreMarks ls c.args.words.now.items in
-    subst P (sym kept) c.requires.marks
+    let P : List (List (Member g.row.C.Denot)) → Type 0 = λ ls. AreTakenColours ls c.args.words.now.items in
+    subst P (sym kept) c.requires.bits
 
 pub returns-in_default-clause-kept : goal.returns-in_default-clause-kept
 returns-in_default-clause-kept g c = λ room each. rooms_set room c.args.lists.now.items c.args.place c.index_mut.result.now c.remove.new.self c.requires.place c.index_mut.ensures.value c.remove.ensures.capacity each
 
-pub set_marks-requires : goal.set_marks-requires
-set_marks-requires g c = λ lt.
+pub set_colour_bits-requires : goal.set_colour_bits-requires
+set_colour_bits-requires g c = λ lt.
     let n = g.C.Id.number in
     let ks = c.args.lists.now.items in
     let x = c.index_mut.result.now in
     let at : x.items ≡ list_at (lists_of ks) c.args.place = items_at ks c.args.place x c.requires.place c.index_mut.ensures.value in
     let is : Some c.in-Some.movers ≡ movers_of n c.args.id (list_at (lists_of ks) c.args.place) = c.in-Some.ensures.value ∙ ap (λ (ms : List (Member g.row.C.Denot)). movers_of n c.args.id ms) at in
-    found_below n c.args.id (lists_of ks) c.args.words.now.items c.args.place c.in-Some.movers lt c.requires.marks is
+    found_below n c.args.id (lists_of ks) c.args.words.now.items c.args.place c.in-Some.movers lt c.requires.bits is
 
 pub returns-clause-value : goal.returns-clause-value
 returns-clause-value g c =
@@ -87,8 +71,8 @@ returns-clause-lists g c =
     let at : x.items ≡ list_at (lists_of ks) c.args.place = items_at ks c.args.place x c.requires.place c.index_mut.ensures.value in
     items_set ks c.args.place c.remove.new.self (without_member n c.args.id (list_at (lists_of ks) c.args.place)) (c.remove.ensures.items ∙ ap (λ (ms : List (Member g.row.C.Denot)). without_member n c.args.id ms) at)
 
-pub returns-clause-marks : goal.returns-clause-marks
-returns-clause-marks g c =
+pub returns-clause-bits : goal.returns-clause-bits
+returns-clause-bits g c =
     let n = g.C.Id.number in
     let ks = c.args.lists.now.items in
     let lists : List (List (Member g.row.C.Denot)) = lists_of ks in
@@ -97,12 +81,12 @@ returns-clause-marks g c =
     let within : c.args.place < length lists = omega (arith, c.requires.colouring.count, many, c.requires.place) in
     let at : x.items ≡ list_at lists c.args.place = items_at ks c.args.place x c.requires.place c.index_mut.ensures.value in
     let is : Some c.in-Some.movers ≡ movers_of n c.args.id (list_at lists c.args.place) = c.in-Some.ensures.value ∙ ap (λ (ms : List (Member g.row.C.Denot)). movers_of n c.args.id ms) at in
-    let P : List (List (Member g.row.C.Denot)) → Type 0 = λ ls. AreMarks ls c.set_marks.new.words.items in
-    subst P (sym (returns-clause-lists g c)) (marks_removed n c.args.id lists c.args.words.now.items c.set_marks.new.words.items c.args.place c.in-Some.movers within c.requires.marks c.set_marks.ensures.set c.set_marks.ensures.overflow
+    let P : List (List (Member g.row.C.Denot)) → Type 0 = λ ls. AreTakenColours ls c.set_colour_bits.new.words.items in
+    subst P (sym (returns-clause-lists g c)) (bits_removed n c.args.id lists c.args.words.now.items c.set_colour_bits.new.words.items c.args.place c.in-Some.movers within c.requires.bits c.set_colour_bits.ensures.set c.set_colour_bits.ensures.overflow
     (rising_at n lists c.args.place (list_at lists c.args.place) c.requires.colouring (omega (arith, many, c.requires.place)) refl) (λ lt. apart_at n lists c.args.place (list_at lists c.args.place) c.requires.colouring lt refl) is)
 
 pub returns-clause-long : goal.returns-clause-long
-returns-clause-long g c = same_length c.args.words.now.items c.set_marks.new.words.items c.args.place c.in-Some.movers false c.set_marks.ensures.set c.set_marks.ensures.overflow
+returns-clause-long g c = same_length c.args.words.now.items c.set_colour_bits.new.words.items c.args.place c.in-Some.movers false c.set_colour_bits.ensures.set c.set_colour_bits.ensures.overflow
 
 pub returns-clause-kept : goal.returns-clause-kept
 returns-clause-kept g c = λ room each. rooms_set room c.args.lists.now.items c.args.place c.index_mut.result.now c.remove.new.self c.requires.place c.index_mut.ensures.value c.remove.ensures.capacity each

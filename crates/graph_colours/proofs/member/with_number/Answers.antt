@@ -1,5 +1,5 @@
 use Rattle.std.proofs.Common.{sym, ltb-true, ltb-false, arith, ◌∙◌, refl}
-use Rattle.graph_colours.specs.Members.{with_number}
+use Rattle.graph_colours.specs.FoundMembers.{with_number}
 use Rattle.graph_colours.proofs.NotedLemmas.{found_at, found_nowhere, nowhere_from, other_there}
 use Rattle.graph_colours.proofs.member.with_number.Goals as goal
 

@@ -1,4 +1,4 @@
-use Rattle.colour_solver.specs.ConstraintTurns.{constraint_slots, contact_slots, joint_slots}
+use Rattle.colour_solver.specs.ConstraintVisits.{constraint_slots, contact_slots, joint_slots}
 use Rattle.island_runs.proofs.BackLaws.{cursors}
 use Rattle.island_runs.proofs.laws.cursors_move.Goals as goal
 

@@ -1,6 +1,6 @@
 use Rattle.std.proofs.Common.{◌+◌, ◌<◌, Fits, w64, length, slice_index_or, arith, rules, refl, ap, ◌∙◌}
 use Rattle.std.proofs.lemmas.List.{length-set}
-use Rattle.colour_solver.specs.ConstraintTurns.{contact_slots, contacts_among}
+use Rattle.colour_solver.specs.ConstraintVisits.{contact_slots, contacts_among}
 use Rattle.colour_solver.specs.declared.constraint_row.ConstraintRow.TheVariants.{Contact}
 use Rattle.island_solver.specs.Shares.{run_at, share_at}
 use Rattle.island_solver.proofs.CursorLaws.{left_more, row_read, small_cursor}

@@ -1,7 +1,7 @@
 use Rattle.std.proofs.Common.{◌≡◌, ◌≤◌, ◌+◌, ◌-◌, ◌++◌, List, length, map}
 use Rattle.colour_solver_base.specs.declared.row.ContactRow.{ContactRow}
-use Rattle.colour_solver.specs.ConstraintTurns.{contacts_among, contact_slots}
-use Rattle.colour_solver.specs.Turns.{between}
+use Rattle.colour_solver.specs.ConstraintVisits.{contacts_among, contact_slots}
+use Rattle.colour_solver.specs.RowVisits.{between}
 use Rattle.colour_solver.specs.declared.constraint_row.ConstraintRow.TheVariants.{Contact}
 use Rattle.island_runs.specs.ReadBack.{AreRowsBack}
 use Rattle.island_solver.specs.ReadingBack.{AreCursors}

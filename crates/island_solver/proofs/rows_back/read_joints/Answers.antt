@@ -1,6 +1,6 @@
 use Rattle.std.proofs.Common.{◌+◌, ◌<◌, Fits, w64, length, slice_index_or, arith, rules, refl, ap, ◌∙◌}
 use Rattle.std.proofs.lemmas.List.{length-set}
-use Rattle.colour_solver.specs.ConstraintTurns.{joint_slots, joints_among, contacts_among}
+use Rattle.colour_solver.specs.ConstraintVisits.{joint_slots, joints_among, contacts_among}
 use Rattle.colour_solver.specs.declared.constraint_row.ConstraintRow.TheVariants.{Joint}
 use Rattle.island_solver.specs.Shares.{run_at, share_at}
 use Rattle.island_solver.proofs.CursorLaws.{left_more, row_read, small_cursor}

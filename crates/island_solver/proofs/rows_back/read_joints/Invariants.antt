@@ -1,7 +1,7 @@
 use Rattle.std.proofs.Common.{◌≡◌, ◌≤◌, ◌+◌, ◌-◌, ◌++◌, List, [], length, map}
 use Rattle.joint_rows.specs.declared.row.JointRow.{JointRow}
-use Rattle.colour_solver.specs.ConstraintTurns.{contacts_among, joint_slots, joints_among}
-use Rattle.colour_solver.specs.Turns.{between}
+use Rattle.colour_solver.specs.ConstraintVisits.{contacts_among, joint_slots, joints_among}
+use Rattle.colour_solver.specs.RowVisits.{between}
 use Rattle.colour_solver.specs.declared.constraint_row.ConstraintRow.TheVariants.{Joint}
 use Rattle.island_runs.specs.ReadBack.{AreRowsBack}
 use Rattle.island_solver.specs.ReadingBack.{AreCursors}

@@ -2,8 +2,8 @@ use Rattle.std.proofs.Common.{◌≡◌, ◌+◌, ◌++◌, ◌∷◌, ◌<◌, 
 use Rattle.colour_solver.specs.declared.constraint_row.ConstraintRow.{ConstraintRow}
 use Rattle.colour_solver.specs.declared.constraint_row.ConstraintRow.TheVariants.{Joint}
 use Rattle.colour_solver.specs.ColourRows.{all_rows, joints_first}
-use Rattle.colour_solver.specs.ConstraintTurns.{contact_slots, contacts_among, joint_slots, joints_among}
-use Rattle.colour_solver.specs.Turns.{between}
+use Rattle.colour_solver.specs.ConstraintVisits.{contact_slots, contacts_among, joint_slots, joints_among}
+use Rattle.colour_solver.specs.RowVisits.{between}
 use Rattle.island_runs.specs.ReadBack.{AreRowsBack}
 use Rattle.island_solver.specs.ReadingBack.{AreBack, AreCursors}
 use Rattle.island_solver.specs.Shares.{run_at, share_at}

@@ -1,7 +1,7 @@
 use Rattle.std.proofs.Common.{◌≡◌, ◌≤◌, ◌+◌, ◌++◌, List, [], drop, length, map, take}
 use Rattle.colour_solver.specs.declared.constraint_row.ConstraintRow.{ConstraintRow}
 use Rattle.colour_solver.specs.ColourRows.{all_rows}
-use Rattle.colour_solver.specs.ConstraintTurns.{contact_slots, contacts_among, joint_slots, joints_among}
+use Rattle.colour_solver.specs.ConstraintVisits.{contact_slots, contacts_among, joint_slots, joints_among}
 use Rattle.island_solver.specs.ReadingBack.{AreBack, AreCursors}
 use Rattle.island_solver.specs.Shares.{share_at}
 use Rattle.island_solver.proofs.ReadLaws.{IsHalfBack, flat}

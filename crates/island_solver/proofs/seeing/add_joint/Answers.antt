@@ -1,5 +1,5 @@
 use Rattle.std.proofs.Common.{ap, ◌∙◌}
-use Rattle.colour_solver.specs.ConstraintTurns.{contacts_among}
+use Rattle.colour_solver.specs.ConstraintVisits.{contacts_among}
 use Rattle.island_solver.proofs.SeeLaws.{one_joint_more}
 use Rattle.island_solver.proofs.seeing.add_joint.Goals as goal
 

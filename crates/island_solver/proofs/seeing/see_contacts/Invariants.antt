@@ -1,5 +1,5 @@
 use Rattle.std.proofs.Common.{◌≡◌, ◌≤◌, ◌+◌, ◌++◌, drop, map}
-use Rattle.colour_solver.specs.ConstraintTurns.{contact_slots}
+use Rattle.colour_solver.specs.ConstraintVisits.{contact_slots}
 use Rattle.colour_solver.specs.declared.constraint_row.ConstraintRow.TheVariants.{Contact}
 use Rattle.island_runs.specs.Apart.{rows_of}
 use Rattle.island_solver.specs.Shares.{share_at}

@@ -1,5 +1,5 @@
 use Rattle.std.proofs.Common.{◌≡◌, ◌≤◌, ◌+◌, ◌++◌, [], drop, map}
-use Rattle.colour_solver.specs.ConstraintTurns.{contacts_among, joint_slots}
+use Rattle.colour_solver.specs.ConstraintVisits.{contacts_among, joint_slots}
 use Rattle.colour_solver.specs.declared.constraint_row.ConstraintRow.TheVariants.{Joint}
 use Rattle.island_runs.specs.Apart.{rows_of}
 use Rattle.island_solver.specs.Shares.{share_at}

@@ -1,6 +1,6 @@
 use Rattle.std.proofs.Common.{◌≡◌, ◌<◌, [], length, map, slice_index_or, arith, ◌∙◌, ap, subst}
 use Rattle.std.proofs.lemmas.List.{take_all}
-use Rattle.colour_solver.specs.ConstraintTurns.{constraint_slots, contacts_among}
+use Rattle.colour_solver.specs.ConstraintVisits.{constraint_slots, contacts_among}
 use Rattle.island_runs.specs.Apart.{rows_of}
 use Rattle.island_solver.specs.Shares.{share_at}
 use Rattle.island_solver.proofs.SeeLaws.{colour_seen}

@@ -1,5 +1,5 @@
 use Rattle.std.proofs.Common.{◌≡◌, ◌≤◌, ◌+◌, ◌++◌, [], drop, length, map, take}
-use Rattle.colour_solver.specs.ConstraintTurns.{constraint_slots}
+use Rattle.colour_solver.specs.ConstraintVisits.{constraint_slots}
 use Rattle.island_runs.specs.Apart.{rows_of}
 use Rattle.island_solver.specs.Shares.{share_at}
 use Rattle.island_solver.proofs.ReadLaws.{flat}

@@ -2,7 +2,7 @@ use Rattle.std.proofs.Common.{◌≡◌, ◌≤◌, length, vec_capacity, arith,
 use Rattle.colour_solver.specs.States.{AreAllStates, HaveCourses, carried_of, movers_of}
 use Rattle.colour_solver.specs.Colour.{AreColours}
 use Rattle.colour_solver.specs.ColourRows.{all_rows}
-use Rattle.colour_solver.specs.ConstraintTurns.{AreRowsBelow}
+use Rattle.colour_solver.specs.ConstraintVisits.{AreRowsBelow}
 use Rattle.colour_solver.proofs.PlaceLaws.{length-places}
 use Rattle.colour_solver.specs.States as states
 use Rattle.island_runs.specs.Apart.{hidden}

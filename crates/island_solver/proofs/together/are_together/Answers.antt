@@ -1,6 +1,6 @@
 use Rattle.std.proofs.Common.{subst}
 use Rattle.colour_solver.specs.ColourRows.{all_rows}
-use Rattle.colour_solver.specs.ConstraintTurns.{constraint_slots, contact_slots, joint_slots}
+use Rattle.colour_solver.specs.ConstraintVisits.{constraint_slots, contact_slots, joint_slots}
 use Rattle.island_runs.specs.Apart.{AreTogether, IsTogether}
 use Rattle.island_solver.specs.Shares.{share_at}
 use Rattle.island_solver.proofs.TogetherLaws.{all_kinds}

@@ -6,7 +6,7 @@ use Rattle.islands.proofs.leaving.lowest_along.Goals as goal
 pub loop-at-init : goal.loop-at-init
 loop-at-init c = record {
   along = along_starts c.args.notes.now c.args.heads.now c.args.part (c.requires.packed.parts c.args.part c.args.part c.requires.part);
-  lowest = rw c.slot_of-low.ensures (lowest_starts c.args.places.now c.args.notes.now c.args.heads.now c.args.part (c.requires.packed.parts c.args.part c.args.part c.requires.part) c.requires.sizes c.requires.inverse);
+  lowest = rw c.slot_of-low.ensures (lowest_starts c.args.node_entries.now c.args.notes.now c.args.heads.now c.args.part (c.requires.packed.parts c.args.part c.args.part c.requires.part) c.requires.sizes c.requires.inverse);
 }
 
 pub loop-at-smaller : goal.loop-at-smaller
@@ -22,8 +22,8 @@ loop-at-preserved c =
     let on = goes_on c.args.notes.now c.args.heads.now c.args.part c.in-Some.node c.loop-at.at c.unwrap-at.result.next (c.requires.packed.parts c.args.part c.in-Some.node here) here c.in-Some.is (sym (ap next_of is)) in
     record {
       along = on.along;
-      lowest = rw (c.min-low.ensures, c.slot_of.ensures) (lowest_goes c.args.places.now c.args.notes.now c.args.part c.in-Some.node c.loop-at.at c.unwrap-at.result.next c.loop-at.low c.requires.sizes c.requires.inverse here on c.loop-at.invariant.lowest);
+      lowest = rw (c.min-low.ensures, c.slot_of.ensures) (lowest_goes c.args.node_entries.now c.args.notes.now c.args.part c.in-Some.node c.loop-at.at c.unwrap-at.result.next c.loop-at.low c.requires.sizes c.requires.inverse here on c.loop-at.invariant.lowest);
     }
 
 pub returns : goal.returns
-returns c = record { lowest = lowest_ends c.args.places.now c.args.notes.now c.args.part c.loop-at.at c.loop-at.low c.in_default.is c.requires.sizes c.requires.inverse c.loop-at.invariant.lowest }
+returns c = record { lowest = lowest_ends c.args.node_entries.now c.args.notes.now c.args.part c.loop-at.at c.loop-at.low c.in_default.is c.requires.sizes c.requires.inverse c.loop-at.invariant.lowest }

@@ -7,7 +7,7 @@ use Rattle.islands.proofs.listing.list_members.Given as goal
 abbrev pub invariant-loop-at : goal.invariant-loop-at
 invariant-loop-at l = record {
   along : IsAlong l.notes l.part l.at;
-  list : ArePassed l.places l.notes l.part l.at l.members.items;
+  list : ArePassed l.node_entries l.notes l.part l.at l.members.items;
   room : vec_len l.members + ahead l.notes l.at ≤ (head_at l.heads l.part).count;
   capacity : vec_capacity l.fn.members ≤ vec_capacity l.members;
 }

@@ -18,11 +18,11 @@ loop-edge-preserved c =
     let rest : drop c.loop-edge.edge-index c.args.edges.now ≡ get_or c.args.edges.now c.loop-edge.edge-index (0, 0) ∷ drop (c.loop-edge.edge-index + 1) c.args.edges.now =
     drop-cons c.args.edges.now c.loop-edge.edge-index (0, 0) c.loop-edge-test.true ∙ ap (λ n. get_or c.args.edges.now c.loop-edge.edge-index (0, 0) ∷ drop n c.args.edges.now) one in
     record {
-      placed = c.merge_movers.ensures.placed;
+      standing = c.merge_movers.ensures.standing;
       labels = ap (λ l. merged_all l (drop (c.loop-edge.edge-index + 1) c.args.edges.now)) c.merge_movers.ensures.labels
-          ∙ ap (merged_all (labels_by c.args.places.now c.loop-edge.notes.items c.loop-edge.heads.items)) (sym rest) ∙ c.loop-edge.invariant.labels;
+          ∙ ap (merged_all (labels_by c.args.node_entries.now c.loop-edge.notes.items c.loop-edge.heads.items)) (sym rest) ∙ c.loop-edge.invariant.labels;
       size = c.merge_movers.ensures.size ∙ c.loop-edge.invariant.size;
-      there = λ s h. still_there (by_slot c.args.places.now c.loop-edge.notes.items) c.loop-edge.heads.items (by_slot c.args.places.now c.merge_movers.new.notes.items) c.merge_movers.new.heads.items (get_or c.args.edges.now c.loop-edge.edge-index (0, 0)).0 (get_or c.args.edges.now c.loop-edge.edge-index (0, 0)).1 s c.merge_movers.ensures.labels (c.loop-edge.invariant.there s h);
+      there = λ s h. still_there (by_slot c.args.node_entries.now c.loop-edge.notes.items) c.loop-edge.heads.items (by_slot c.args.node_entries.now c.merge_movers.new.notes.items) c.merge_movers.new.heads.items (get_or c.args.edges.now c.loop-edge.edge-index (0, 0)).0 (get_or c.args.edges.now c.loop-edge.edge-index (0, 0)).1 s c.merge_movers.ensures.labels (c.loop-edge.invariant.there s h);
       capacity = omega (arith, c.merge_movers.ensures.capacity, c.loop-edge.invariant.capacity);
       heads_capacity = omega (arith, c.merge_movers.ensures.heads_capacity, c.loop-edge.invariant.heads_capacity);
     }

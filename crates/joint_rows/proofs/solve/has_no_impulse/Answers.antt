@@ -4,7 +4,8 @@ use Rattle.std.proofs.lemmas.Bool.{eqb-true}
 use Rattle.std.specs.Int.{w64}
 use mir.Val.{SFits, to_z, of_z}
 use Rattle.momenta.specs.declared.state.Ends.{Ends}
-use Rattle.momenta.specs.Impulses.{AreStates, warmed}
+use Rattle.momenta.specs.Impulses.{warmed}
+use Rattle.momenta.specs.ImpulseBounds.{AreStates}
 use Rattle.momenta.proofs.NoImpulse.{warmed_none}
 use Rattle.joint_rows.specs.declared.row.JointRow.{JointRow}
 use Rattle.joint_rows.specs.declared.solve.JointAfter.{JointAfter}

@@ -1,8 +1,8 @@
-use Rattle.std.proofs.Common.{arith, rules}
-use Rattle.std.proofs.lemmas.Int.{to_z-of_z, ints}
+use Rattle.std.proofs.Common.{rules}
+use Rattle.std.proofs.lemmas.Int.{to_z-of_z}
 use Rattle.std.specs.Int.{w64, w128}
 use mir.Val.{SFits}
-use Rattle.momenta.proofs.Spins.{fits_64}
+use Rattle.momenta.proofs.Laws64.{inverse_fits, reciprocal_passed}
 use Rattle.momenta.proofs.line_64.checked_total_64.Goals as goal
 
 pub returns-then-has_room_64-clause-value : goal.returns-then-has_room_64-clause-value
@@ -10,7 +10,7 @@ returns-then-has_room_64-clause-value c =
     let speed : SFits w64 c.args.speed = c.ranges.speed in
     let bias : SFits w64 c.args.goal.bias = search rules in
     let wide : SFits w128 c.args.inverse = c.ranges.inverse in
-    let inverse : SFits w64 c.args.inverse = fits_64 _ (omega (arith, ints, c.requires.inverse, simp to_z-of_z at (c.has_room_64.ensures.inverse c.if-has_room_64.true))) in
+    let inverse : SFits w64 c.args.inverse = inverse_fits c.args.inverse wide c.requires.inverse (c.has_room_64.ensures.inverse c.if-has_room_64.true) in
     let low : SFits w64 c.args.goal.low = search rules in
     let high : SFits w64 c.args.goal.high = search rules in
     let total : SFits w64 c.args.goal.total = search rules in
@@ -19,7 +19,4 @@ returns-then-has_room_64-clause-value c =
 
 pub next_total_64-requires-clause-reciprocal : goal.next_total_64-requires-clause-reciprocal
 next_total_64-requires-clause-reciprocal c =
-    let wide : SFits w128 c.args.inverse = c.ranges.inverse in
-    let inverse : SFits w64 c.args.inverse = fits_64 _ (omega (arith, ints, c.requires.inverse, simp to_z-of_z at (c.has_room_64.ensures.inverse c.if-has_room_64.true))) in
-    let reciprocal : SFits w64 c.args.reciprocal = c.ranges.reciprocal in
-    simp to_z-of_z c.requires.reciprocal
+    reciprocal_passed c.args.inverse c.args.reciprocal c.ranges.inverse c.ranges.reciprocal c.requires.inverse (c.has_room_64.ensures.inverse c.if-has_room_64.true) c.requires.reciprocal

@@ -3,7 +3,7 @@ use Rattle.std.specs.HashMap.{get}
 use Rattle.std.proofs.lemmas.List.{drop_all}
 use Rattle.contacts_base.specs.declared.contact.ContactEntry.{ContactEntry}
 use Rattle.world_file_base.specs.SavedContacts.{each_contact}
-use Rattle.world_file.specs.Marked.{contact_colours_by}
+use Rattle.world_file.specs.Taken.{contact_colours_by}
 use Rattle.saved_text.proofs.Adding.{list_added, list_begun, wrote}
 use Rattle.saved_text.proofs.saved_contacts.put_contacts.Goals as goal
 

@@ -1,7 +1,7 @@
 use Rattle.std.proofs.Common.{drop, nat_eq}
 use Rattle.std.specs.HashMap.{get}
 use Rattle.world_file_base.specs.SavedContacts.{each_contact}
-use Rattle.world_file.specs.Marked.{contact_colours_by}
+use Rattle.world_file.specs.Taken.{contact_colours_by}
 use Rattle.saved_text.specs.Tokens.{ItemsLeft}
 use Rattle.saved_text.proofs.saved_contacts.put_contacts.Given as goal
 

@@ -6,4 +6,4 @@ use Rattle.saved_text.proofs.world.put_all_bodies.Goals as goal
 pub returns : goal.returns
 returns c =
     let p = c.args.plain.now in
-    record { text = member_added (codes "bodies") (bodies_data p.places p.bodies p.islands) _ _ _ (wrote _ _ _ _ c.in_ok-key.ensures) (rw (sym c.places.ensures, sym c.bodies.ensures, sym c.islands.ensures) c.in_ok-put_bodies.ensures.text) }
+    record { text = member_added (codes "bodies") (bodies_data p.slot_entries p.bodies p.islands) _ _ _ (wrote _ _ _ _ c.in_ok-key.ensures) (rw (sym c.slot_entries.ensures, sym c.bodies.ensures, sym c.islands.ensures) c.in_ok-put_bodies.ensures.text) }

@@ -4,7 +4,7 @@ use Rattle.serde_json.specs.Data.{Data}
 use Rattle.contacts_base.specs.declared.contact.ContactEntry.{ContactEntry}
 use Rattle.world_file_base.specs.SavedContacts.{contacts_data}
 use Rattle.world_file.specs.Files.{contact_colours}
-use Rattle.world_file.specs.Marked.{contact_colours_by}
+use Rattle.world_file.specs.Taken.{contact_colours_by}
 use Rattle.world_file.proofs.Numbered.{contacts_numbered}
 use Rattle.saved_text.specs.Tokens.{AddsValue}
 use Rattle.saved_text.proofs.Adding.{member_added, wrote}

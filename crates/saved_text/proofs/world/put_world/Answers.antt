@@ -13,11 +13,11 @@ pub returns : goal.returns
 returns c =
     let p = c.args.plain.now in
     let t = c.args.totals.now in
-    let bodies = (codes "bodies", bodies_data p.places p.bodies p.islands) ∷ [] in
+    let bodies = (codes "bodies", bodies_data p.slot_entries p.bodies p.islands) ∷ [] in
     let calls = (codes "call", natural p.calls) ∷ [] in
     let contacts = (codes "contacts", contacts_data p.contacts (contact_colours p.colours p.contacts)) ∷ [] in
     let gravity = (codes "gravity", vector_of p.gravity) ∷ [] in
-    let joints = (codes "joints", joints_data p.places p.joint_places p.joints (joint_colours p.colours 0 p.joint_places)) ∷ [] in
+    let joints = (codes "joints", joints_data p.slot_entries p.joint_entries p.joints (joint_colours p.colours 0 p.joint_entries)) ∷ [] in
     let ledger = (codes "ledger", totals_data t) ∷ [] in
     let last = (codes "step", natural p.steps) ∷ (codes "version", natural written_version) ∷ [] in
     let call : AddsMembers calls c.put_all_bodies.new.out c.put_members.new.out = rw (sym c.calls.ensures) c.in_ok-put_members.ensures.text in

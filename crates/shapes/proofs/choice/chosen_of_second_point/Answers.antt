@@ -4,7 +4,8 @@ use Rattle.std.proofs.lemmas.List.Elements.{All-nil, All-cons}
 use Rattle.std.specs.Int.{w64}
 use mir.Val.{SFits}
 use Rattle.fixed_geom.specs.Vectors.{span, minus}
-use Rattle.shapes.specs.Spots.{IsCandidate, of_a, of_b}
+use Rattle.shapes.specs.Spots.{of_a, of_b}
+use Rattle.shapes.specs.PointsWithin.{IsCandidate}
 use Rattle.shapes.proofs.PointLemmas.{alone_at, last_alone, beyond_second}
 use Rattle.shapes.proofs.choice.chosen_of_second_point.Goals as goal
 

@@ -1,6 +1,6 @@
 use Rattle.std.proofs.Common.{◌≡◌, drop}
 use Rattle.shapes.specs.Choice.{nearest}
-use Rattle.shapes.specs.Spots.{IsCandidate}
+use Rattle.shapes.specs.PointsWithin.{IsCandidate}
 use Rattle.shapes.proofs.choice.nearest.Given as goal
 
 abbrev pub invariant-loop-c : goal.invariant-loop-c

@@ -1,6 +1,6 @@
 use Rattle.std.proofs.Common.{◌≡◌, drop, IfSome}
 use Rattle.shapes.specs.Choice.{second_from}
-use Rattle.shapes.specs.Spots.{IsSpot}
+use Rattle.shapes.specs.PointsWithin.{IsSpot}
 use Rattle.shapes.proofs.choice.second_from.Given as goal
 
 abbrev pub invariant-loop-c : goal.invariant-loop-c

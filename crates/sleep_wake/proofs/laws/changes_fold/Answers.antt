@@ -1,4 +1,4 @@
-use Rattle.sleep_wake.proofs.TurnLemmas.{changes_fold}
+use Rattle.sleep_wake.proofs.ChangeLemmas.{changes_fold}
 use Rattle.sleep_wake.proofs.laws.changes_fold.Goals as goal
 
 pub returns : goal.returns

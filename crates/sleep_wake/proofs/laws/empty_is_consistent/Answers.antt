@@ -1,5 +1,5 @@
-use Rattle.sleep_wake.proofs.PhaseLemmas.{empty_settled}
+use Rattle.sleep_wake.proofs.PhaseLemmas.{empty_consistent}
 use Rattle.sleep_wake.proofs.laws.empty_is_consistent.Goals as goal
 
 pub returns : goal.returns
-returns g c = empty_settled g.C.Id.number
+returns g c = empty_consistent g.C.Id.number

@@ -1,4 +1,4 @@
-use Rattle.sleep_wake.proofs.TurnLemmas.{one_order}
+use Rattle.sleep_wake.proofs.ChangeLemmas.{one_order}
 use Rattle.sleep_wake.proofs.laws.one_order.Goals as goal
 
 pub returns : goal.returns

@@ -1,4 +1,4 @@
-use Rattle.sleep_wake.proofs.TurnLemmas.{ties_after}
+use Rattle.sleep_wake.proofs.ChangeLemmas.{ties_after}
 use Rattle.sleep_wake.proofs.laws.ties_after_changes.Goals as goal
 
 pub returns : goal.returns

@@ -3,4 +3,4 @@ use Rattle.sleep_wake.proofs.AgreeLaws.{picked_by_least}
 use Rattle.sleep_wake.proofs.phase.pick_split.Goals as goal
 
 pub returns-clause-picked : goal.returns-clause-picked
-returns-clause-picked c = rw c.deref.ensures.value at c.longest_due.ensures ∙ picked_by_least c.args.islands.now.labels c.args.timers.now c.list_leasts.new.leasts.items c.list_leasts.ensures.least
+returns-clause-picked c = rw c.deref.ensures.value at c.longest_ready.ensures ∙ picked_by_least c.args.islands.now.labels c.args.timers.now c.list_leasts.new.leasts.items c.list_leasts.ensures.least

@@ -4,7 +4,7 @@ use Rattle.graph_colours.specs.declared.member.Member.{Member}
 use Rattle.sleep_wake.specs.Waking.{released_all}
 use Rattle.sleep_wake.specs.Resting.{least_at, is_to_rest}
 use Rattle.sleep_wake.proofs.SetLemmas.{front_is}
-use Rattle.sleep_wake.proofs.TurnOwn.{own_released, released_wanted, released_passed}
+use Rattle.sleep_wake.proofs.ChangeOwn.{own_released, released_wanted, released_passed}
 use Rattle.sleep_wake.proofs.resting.release_among.Goals as goal
 use Rattle.sleep_wake.proofs.resting.release_among.Goals.{then-are_resting, else-are_resting}
 

@@ -6,7 +6,7 @@ use Rattle.sleep_wake.specs.Acting.{Acting, acting}
 use Rattle.sleep_wake.specs.Waking.{released_all}
 use Rattle.sleep_wake.specs.Resting.{least_at, is_to_rest}
 use Rattle.sleep_wake.specs.Rooms.{OwnMovers}
-use Rattle.sleep_wake.proofs.TurnOwn.{own_of}
+use Rattle.sleep_wake.proofs.ChangeOwn.{own_of}
 use Rattle.sleep_wake.proofs.ReleasingLaws.{coloured_same, coloured_own}
 use Rattle.sleep_wake.proofs.resting.release_resting.Goals as goal
 
@@ -17,14 +17,14 @@ release_each-requires g c =
     let wanted : Member g.row.C.Denot → Bool = is_to_rest (least_at c.args.leasts.now) c.args.islands.now.labels in
     let few : c.deref.result.now ≡ filter wanted (all_members s.lists) = c.deref.ensures.value ∙ c.list_resting.ensures c.if-list_resting.true in
     let P : List (Member g.row.C.Denot) → Type 0 = λ v. OwnMovers n v s.lists in
-    record { own = subst P (sym few) (coloured_own n s wanted c.requires.settled) }
+    record { own = subst P (sym few) (coloured_own n s wanted c.requires.consistent) }
 
 pub release_among-requires : goal.release_among-requires
 release_among-requires g c =
     let s : Acting g.row.C.Denot = acting c.args.ties.now.items c.args.islands.now.labels c.args.colours.now.lists in
     let same : c.as_slice.result.now ≡ s.ties = c.as_slice.ensures.value ∙ c.flush.ensures.items in
     let P : List (Member g.row.C.Denot) → Type 0 = λ v. OwnMovers g.C.Id.number v s.lists in
-    record { own = subst P (sym same) (own_of g.C.Id.number s c.requires.settled) }
+    record { own = subst P (sym same) (own_of g.C.Id.number s c.requires.consistent) }
 
 pub returns-then-list_resting-clause-lists : goal.returns-then-list_resting-clause-lists
 returns-then-list_resting-clause-lists g c =
@@ -32,4 +32,4 @@ returns-then-list_resting-clause-lists g c =
     let s : Acting g.row.C.Denot = acting c.args.ties.now.items c.args.islands.now.labels c.args.colours.now.lists in
     let wanted : Member g.row.C.Denot → Bool = is_to_rest (least_at c.args.leasts.now) c.args.islands.now.labels in
     let few : c.deref.result.now ≡ filter wanted (all_members s.lists) = c.deref.ensures.value ∙ c.list_resting.ensures c.if-list_resting.true in
-    c.release_each.ensures.lists ∙ ap (λ (v : List (Member g.row.C.Denot)). released_all n s.lists v) few ∙ coloured_same n s wanted c.requires.settled
+    c.release_each.ensures.lists ∙ ap (λ (v : List (Member g.row.C.Denot)). released_all n s.lists v) few ∙ coloured_same n s wanted c.requires.consistent

@@ -2,7 +2,7 @@ use Rattle.std.proofs.Common.{List, subst}
 use Rattle.contacts.specs.declared.constraint.Constraint.{Constraint}
 use Rattle.sleep_wake.specs.declared.change.Change.{Change}
 use Rattle.graph_colours.proofs.EditLemmas.{take_whole}
-use Rattle.solver_sets.proofs.AnchorTellLaws.{HaveTold, told_next}
+use Rattle.solver_sets.proofs.CompleteAnchorLaws.{HaveTold, told_next}
 use Rattle.solver_sets.specs.Anchors.{lists_of}
 use Rattle.solver_sets.proofs.anchor_lists.list_begins.Goals as goal
 

@@ -1,6 +1,6 @@
 use Rattle.std.proofs.Common.{take}
 use Rattle.solver_sets.specs.Anchors.{lists_of}
-use Rattle.solver_sets.proofs.AnchorTellLaws.{HaveTold}
+use Rattle.solver_sets.proofs.CompleteAnchorLaws.{HaveTold}
 use Rattle.solver_sets.proofs.anchor_lists.list_begins.Given as goal
 
 abbrev pub invariant-loop-place : goal.invariant-loop-place

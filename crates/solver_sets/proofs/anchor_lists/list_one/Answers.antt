@@ -1,6 +1,6 @@
 use Rattle.std.proofs.Common.{ℕ, sym, subst, ◌∙◌}
 use Rattle.solver_sets.specs.Anchors.{IsListed, lists_of}
-use Rattle.solver_sets.proofs.AnchorTellLaws.{told_listed}
+use Rattle.solver_sets.proofs.CompleteAnchorLaws.{told_listed}
 use Rattle.solver_sets.proofs.anchor_lists.list_one.Goals as goal
 
 pub returns-in-Some : goal.returns-in-Some

@@ -7,6 +7,6 @@ use Rattle.solver_sets.proofs.census.list_bodies.Given as goal
 
 abbrev pub invariant-loop-slot : goal.invariant-loop-slot
 invariant-loop-slot l = record {
-  listed : with_all l.census (standings_from items.Body standing_of l.slot (drop l.slot l.places) (drop l.slot l.bodies)) ≡ with_all l.fn.census (body_standings l.places l.bodies);
+  listed : with_all l.census (standings_from items.Body standing_of l.slot (drop l.slot l.slot_entries) (drop l.slot l.bodies)) ≡ with_all l.fn.census (body_standings l.slot_entries l.bodies);
   named : AreNamed l.census.sleeping;
 }

@@ -7,6 +7,6 @@ use Rattle.solver_sets.proofs.census.list_joints.Given as goal
 
 abbrev pub invariant-loop-slot : goal.invariant-loop-slot
 invariant-loop-slot l = record {
-  listed : with_all l.census (standings_from items.Joint (standing_of_joint l.bodies) l.slot (drop l.slot l.places) (drop l.slot l.joints)) ≡ with_all l.fn.census (joint_standings l.bodies (slots_of l.places l.joints));
+  listed : with_all l.census (standings_from items.Joint (standing_of_joint l.bodies) l.slot (drop l.slot l.slot_entries) (drop l.slot l.joints)) ≡ with_all l.fn.census (joint_standings l.bodies (slots_of l.slot_entries l.joints));
   named : AreNamed l.census.sleeping;
 }

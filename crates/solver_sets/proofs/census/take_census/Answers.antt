@@ -7,4 +7,4 @@ pub returns-clause-value : goal.returns-clause-value
 unfolding census_of standings_of
 returns-clause-value c =
     rw (c.in_ok-list_contacts.ensures.listed, c.in_ok-list_joints.ensures.listed, c.in_ok-list_bodies.ensures.listed, c.new-census.ensures)
-    (listed_are (body_standings c.args.places.now c.args.bodies.now) (joint_standings c.args.bodies.now (slots_of c.args.joint_places.now c.args.joints.now)) (contact_standings c.args.bodies.now c.args.contacts.now))
+    (listed_are (body_standings c.args.slot_entries.now c.args.bodies.now) (joint_standings c.args.bodies.now (slots_of c.args.joint_entries.now c.args.joints.now)) (contact_standings c.args.bodies.now c.args.contacts.now))

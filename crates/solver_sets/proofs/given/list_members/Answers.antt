@@ -9,4 +9,4 @@ returns-clause-members c =
     let p = c.args.plain.now in
     let all = c.requires in
     let past = c.loop-colour-test.false in
-    members_end p.bodies (slots_of p.joint_places p.joints) p.colours c.loop-colour.colour (lists_of c.loop-colour.lists.items) (omega (arith, all, past)) c.loop-colour.invariant
+    members_end p.bodies (slots_of p.joint_entries p.joints) p.colours c.loop-colour.colour (lists_of c.loop-colour.lists.items) (omega (arith, all, past)) c.loop-colour.invariant

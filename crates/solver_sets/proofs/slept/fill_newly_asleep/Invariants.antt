@@ -6,7 +6,7 @@ use Rattle.solver_sets.proofs.slept.fill_newly_asleep.Given as goal
 
 abbrev pub invariant-loop-place : goal.invariant-loop-place
 invariant-loop-place l = record {
-  handles : l.handles.items ++ filter_map (λ slot. handle_if (sleeps l.islands.labels slot && not (was_asleep l.bodies slot)) slot (slice_get l.places slot)) (drop l.place l.awake) ≡ filter_map (λ slot. handle_if (sleeps l.islands.labels slot && not (was_asleep l.bodies slot)) slot (slice_get l.places slot)) l.awake;
+  handles : l.handles.items ++ filter_map (λ slot. handle_if (sleeps l.islands.labels slot && not (was_asleep l.bodies slot)) slot (slice_get l.slot_entries slot)) (drop l.place l.awake) ≡ filter_map (λ slot. handle_if (sleeps l.islands.labels slot && not (was_asleep l.bodies slot)) slot (slice_get l.slot_entries slot)) l.awake;
   len : vec_len l.handles ≤ l.place;
   capacity : vec_capacity l.fn.handles ≤ vec_capacity l.handles;
 }

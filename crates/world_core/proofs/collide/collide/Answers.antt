@@ -13,8 +13,8 @@ use Rattle.world_core.proofs.collide.collide.Goals as goal
 same : (c : goal.After-collide) → contacts_between (forbidden_pairs c.args.joints.now.joints) (proxies_of c.args.bodies.now.bodies) c.args.contacts.now.contacts ≡ contacts_after c.args.bodies.now.bodies c.args.joints.now.joints c.args.contacts.now.contacts
 same c = contacts_are_after c.args.bodies.now.bodies c.args.joints.now.joints c.args.contacts.now.contacts
 
-pub returns-clause-due : goal.returns-clause-due
-returns-clause-due c = subst (λ (l : List ContactEntry). OnOk c.collide.result (c.collide.new.self.due ≡ l)) (same c) c.collide.ensures.due
+pub returns-clause-pending : goal.returns-clause-pending
+returns-clause-pending c = subst (λ (l : List ContactEntry). OnOk c.collide.result (c.collide.new.self.pending ≡ l)) (same c) c.collide.ensures.pending
 
 pub returns-clause-begin : goal.returns-clause-begin
 returns-clause-begin c = subst (λ (l : List ContactEntry). IfOk c.collide.result (λ touches. touches.begin.items ≡ keys_touching_only_in c.args.contacts.now.contacts l)) (same c) c.collide.ensures.begin

@@ -1,5 +1,5 @@
 use Rattle.std.proofs.Common.{◌≡◌, ◌+◌, ◌*◌, ◌<◌, ◌++◌, drop, All}
-use Rattle.contacts_base.specs.Near.{number_of}
+use Rattle.contacts_base.specs.Proxies.{number_of}
 use Rattle.world_rules.specs.Collide.{shape_proxies}
 use Rattle.world_core.proofs.collide.gather_body.Given as goal
 

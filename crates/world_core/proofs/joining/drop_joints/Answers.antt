@@ -14,10 +14,10 @@ loop-place-preserved c =
     let long = c.loop-place.invariant.long in
     let same = c.drop_if.ensures.slots in
     record {
-      gone = unjoined_next c.args.body c.args.slots.now (slots_of c.args.handles.now.places c.args.joints.now.joints) (slots_of c.loop-place.handles.places c.loop-place.joints.joints) (slots_of c.drop_if.new.handles.places c.drop_if.new.joints.joints) c.loop-place.place c.loop-place-test.true c.drop_if.ensures.gone c.loop-place.invariant.gone;
+      gone = unjoined_next c.args.body c.args.slots.now (slots_of c.args.handles.now.slot_entries c.args.joints.now.joints) (slots_of c.loop-place.handles.slot_entries c.loop-place.joints.joints) (slots_of c.drop_if.new.handles.slot_entries c.drop_if.new.joints.joints) c.loop-place.place c.loop-place-test.true c.drop_if.ensures.gone c.loop-place.invariant.gone;
       matched = c.drop_if.ensures.matched;
       long = omega (arith, long, same);
     }
 
 pub returns : goal.returns
-returns c = record { gone = unjoined_done c.args.body c.args.slots.now (slots_of c.args.handles.now.places c.args.joints.now.joints) (slots_of c.loop-place.handles.places c.loop-place.joints.joints) c.loop-place.place c.loop-place-test.false c.requires.slots c.loop-place.invariant.gone }
+returns c = record { gone = unjoined_done c.args.body c.args.slots.now (slots_of c.args.handles.now.slot_entries c.args.joints.now.joints) (slots_of c.loop-place.handles.slot_entries c.loop-place.joints.joints) c.loop-place.place c.loop-place-test.false c.requires.slots c.loop-place.invariant.gone }

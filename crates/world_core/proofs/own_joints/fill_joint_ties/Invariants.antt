@@ -5,7 +5,7 @@ use Rattle.world_core.proofs.own_joints.fill_joint_ties.Given as goal
 
 abbrev pub invariant-loop-place : goal.invariant-loop-place
 invariant-loop-place l = record {
-  ties : l.ties.items ++ filter_map (own_tie l.bodies l.body l.places l.joints) (drop l.place l.slots) ≡ filter_map (own_tie l.bodies l.body l.places l.joints) l.slots;
+  ties : l.ties.items ++ filter_map (own_tie l.bodies l.body l.slot_entries l.joints) (drop l.place l.slots) ≡ filter_map (own_tie l.bodies l.body l.slot_entries l.joints) l.slots;
   len : length l.ties.items ≤ l.place;
   capacity : vec_capacity l.fn.ties ≤ vec_capacity l.ties;
 }

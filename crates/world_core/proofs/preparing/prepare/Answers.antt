@@ -10,4 +10,4 @@ pub collide-requires-clause-known : goal.collide-requires-clause-known
 collide-requires-clause-known c = rw (c.flush.ensures.bodies, c.flush.ensures.marks) c.requires.known
 
 pub list_sleepers-requires : goal.list_sleepers-requires
-list_sleepers-requires c = rw c.in_ok-reserve-2.ensures.acting c.requires.settled
+list_sleepers-requires c = rw c.in_ok-reserve-2.ensures.acting c.requires.consistent

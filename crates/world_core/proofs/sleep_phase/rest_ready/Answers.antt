@@ -24,9 +24,9 @@ are_kept_up-quiet-requires-clause-tied c = rw (c.bodies.ensures, c.islands.ensur
 pub are_kept_up-quiet-requires-clause-told : goal.are_kept_up-quiet-requires-clause-told
 are_kept_up-quiet-requires-clause-told c = rw (c.bodies.ensures, c.islands.ensures, c.time.ensures.bodies) (timed_told c.args.ticks c.args.bodies.now.bodies c.args.sets.now.acting.labels c.requires.told)
 
-is_quiet : (c : goal.After-clear) → RestsQuietly c.args.ticks c.args.bodies.now.bodies c.args.places.now c.args.joints.now (contacts_in c.args.contacts.now) c.args.sets.now.acting
+is_quiet : (c : goal.After-clear) → RestsQuietly c.args.ticks c.args.bodies.now.bodies c.args.slot_entries.now c.args.joints.now (contacts_in c.args.contacts.now) c.args.sets.now.acting
 is_quiet c =
-    rests_quietly c.args.ticks c.args.bodies.now.bodies c.args.places.now c.args.joints.now (contacts_in c.args.contacts.now) c.args.sets.now.acting c.requires.bodies c.requires.tied c.requires.told
+    rests_quietly c.args.ticks c.args.bodies.now.bodies c.args.slot_entries.now c.args.joints.now (contacts_in c.args.contacts.now) c.args.sets.now.acting c.requires.bodies c.requires.tied c.requires.told
     (rw (c.bodies.ensures, c.islands.ensures, c.time.ensures.bodies) at (c.are_kept_up-quiet.ensures c.if-quiet.true))
 
 pub returns-then-quiet-clause-acting : goal.returns-then-quiet-clause-acting
@@ -63,7 +63,7 @@ fill_newly_asleep-requires-clause-all c =
     phase_by_awake timed c.args.joints.now (contacts_in c.args.contacts.now) c.args.sets.now.acting c.sleep_phase.new.self.acting c.awake-2.result.now c.fill_awake_timers.new.timers.items (rw c.time.ensures.bodies at c.awake-2.ensures) tied told
     (rw (c.bodies-2.ensures, c.time.ensures.bodies) at c.fill_awake_timers.ensures.size) c.requires.tells (rw (c.bodies-2.ensures, c.colours-2.ensures.lists, c.time.ensures.bodies) at c.fill_awake_timers.ensures.same) (rw c.deref.ensures.value at c.sleep_phase.ensures.acting) in
     rw (c.bodies-3.ensures, c.islands-2.ensures, c.time.ensures.bodies)
-    (newly_asleep_awake timed c.sleep_phase.new.self.acting.labels c.awake-4.result.now (rw c.time.ensures.bodies at c.awake-4.ensures) (tied_rested (timers_of timed c.args.joints.now (contacts_in c.args.contacts.now)) timed c.args.sets.now.acting c.sleep_phase.new.self.acting c.requires.settled tied phase))
+    (newly_asleep_awake timed c.sleep_phase.new.self.acting.labels c.awake-4.result.now (rw c.time.ensures.bodies at c.awake-4.ensures) (tied_rested (timers_of timed c.args.joints.now (contacts_in c.args.contacts.now)) timed c.args.sets.now.acting c.sleep_phase.new.self.acting c.requires.consistent tied phase))
 
 pub returns-clause-acting : goal.returns-clause-acting
 returns-clause-acting c =
@@ -78,7 +78,7 @@ returns-clause-marked c = marked_after c.args.bodies.now c.time.new.self c.tell_
 
 pub fill_slots-requires : goal.fill_slots-requires
 fill_slots-requires c =
-    let few = fewer_asleep c.args.places.now c.bodies-3.result.now c.islands-2.result.now.labels in
+    let few = fewer_asleep c.args.slot_entries.now c.bodies-3.result.now c.islands-2.result.now.labels in
     let long = ap (λ (hs : List Handle). length hs) (c.deref-2.ensures.value ∙ c.fill_newly_asleep.ensures.handles) in
     let room = c.requires.slots in
     omega (arith, few, long, room)
@@ -93,10 +93,10 @@ tell_some-requires-clause-others c =
     (rw (c.bodies-2.ensures, c.time.ensures.bodies) at c.fill_awake_timers.ensures.size) c.requires.tells (rw (c.bodies-2.ensures, c.colours-2.ensures.lists, c.time.ensures.bodies) at c.fill_awake_timers.ensures.same) (rw c.deref.ensures.value at c.sleep_phase.ensures.acting) in
     let same : length c.time.new.self.bodies ≡ length timed = ap (λ (bs : List (Option Body)). length bs) c.time.ensures.bodies in
     let kept : length c.time.new.self.bodies ≡ length c.args.bodies.now.bodies = c.time.ensures.slots.slots in
-    let room = c.requires.places in
-    let long : length timed ≤ length c.args.places.now = omega (arith, same, kept, room) in
+    let room = c.requires.slot_entries in
+    let long : length timed ≤ length c.args.slot_entries.now = omega (arith, same, kept, room) in
     rw (c.deref-3.ensures.value, c.fill_slots.ensures.slots, c.deref-2.ensures.value, c.fill_newly_asleep.ensures.handles, c.bodies-3.ensures, c.islands-2.ensures, c.islands-3.ensures, c.time.ensures.bodies)
-    (rested_beside c.args.places.now timed c.args.sets.now.acting c.sleep_phase.new.self.acting (timers_of timed c.args.joints.now (contacts_in c.args.contacts.now)) long (timed_are_bodies c.args.ticks c.args.bodies.now.bodies c.requires.bodies) told c.requires.settled phase)
+    (rested_beside c.args.slot_entries.now timed c.args.sets.now.acting c.sleep_phase.new.self.acting (timers_of timed c.args.joints.now (contacts_in c.args.contacts.now)) long (timed_are_bodies c.args.ticks c.args.bodies.now.bodies c.requires.bodies) told c.requires.consistent phase)
 
 pub returns-then-quiet-clause-gain : goal.returns-then-quiet-clause-gain
 returns-then-quiet-clause-gain c = rw c.time.ensures.bodies (sym (minus_same (momentum (timed_bodies c.args.ticks c.args.bodies.now.bodies))))

@@ -13,7 +13,7 @@ pub returns-then-not-is_awake-clause-marked : goal.returns-then-not-is_awake-cla
 returns-then-not-is_awake-clause-marked c = marked_same c.args.bodies.now.bodies c.args.bodies.now.marks
 
 pub tell_some-requires-clause-others : goal.tell_some-requires-clause-others
-tell_some-requires-clause-others c = rw (c.islands.ensures, c.sleep.ensures.acting) (slept_beside c.args.slot c.args.movers.now c.args.sets.now.acting c.args.bodies.now.bodies c.requires.settled (c.requires.movers (sym c.is_awake.ensures ∙ c.if-not-is_awake.false)) c.requires.told)
+tell_some-requires-clause-others c = rw (c.islands.ensures, c.sleep.ensures.acting) (slept_beside c.args.slot c.args.movers.now c.args.sets.now.acting c.args.bodies.now.bodies c.requires.consistent (c.requires.movers (sym c.is_awake.ensures ∙ c.if-not-is_awake.false)) c.requires.told)
 
 pub returns-then-not-is_awake-clause-momentum : goal.returns-then-not-is_awake-clause-momentum
 returns-then-not-is_awake-clause-momentum c = sym (plus_zero (momentum c.args.bodies.now.bodies))

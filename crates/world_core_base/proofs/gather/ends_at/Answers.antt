@@ -1,6 +1,6 @@
 use Rattle.std.proofs.Common.{sym, subst, arith}
 use Rattle.std.proofs.lemmas.Grind.{common_steps}
-use Rattle.momenta.specs.Impulses.{AreStates}
+use Rattle.momenta.specs.ImpulseBounds.{AreStates}
 use Rattle.world_core_base.proofs.GatherLaws.{are_states}
 use Rattle.world_core_base.proofs.gather.ends_at.Goals as goal
 

@@ -1,5 +1,5 @@
 use Rattle.std.proofs.Common.{◌∙◌, length, slice_index_or, sym, subst, arith}
-use Rattle.colour_solver.specs.ConstraintTurns.{AreRowsBelow, IsRowBelow}
+use Rattle.colour_solver.specs.ConstraintVisits.{AreRowsBelow, IsRowBelow}
 use Rattle.graph_colours.specs.declared.member.Member.{Member}
 use Rattle.contacts_base.specs.Split.{contacts_in}
 use Rattle.contacts.specs.declared.constraint.Constraint.{Constraint}

@@ -1,6 +1,6 @@
 use Rattle.std.proofs.Common.{◌≡◌, ◌≤◌, ◌+◌, ◌++◌, drop, length}
 use Rattle.contacts_base.specs.Split.{contacts_in}
-use Rattle.colour_solver.specs.ConstraintTurns.{AreRowsBelow}
+use Rattle.colour_solver.specs.ConstraintVisits.{AreRowsBelow}
 use Rattle.world_core_base.specs.ConstraintRows.{rows_in}
 use Rattle.world_core_base.proofs.gather.gather_colour.Given as goal
 

@@ -1,6 +1,6 @@
 use Rattle.std.proofs.Common.{◌≡◌, ◌<◌, ◌≤◌, ◌+◌, ◌++◌, ◌∷◌, [], length, drop, sym, ap, ◌∙◌, subst, arith, All}
 use Rattle.contacts_base.specs.Split.{contacts_in}
-use Rattle.colour_solver.specs.ConstraintTurns.{AreRowsBelow, IsRowBelow}
+use Rattle.colour_solver.specs.ConstraintVisits.{AreRowsBelow, IsRowBelow}
 use Rattle.graph_colours.specs.Colours.{all_members, list_at}
 use Rattle.graph_colours.specs.declared.limits.TheConstants.{COLOURS}
 use Rattle.world_core_base.specs.ConstraintRows.{rows_in, rows_of}

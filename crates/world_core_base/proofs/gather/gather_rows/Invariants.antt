@@ -1,6 +1,6 @@
 use Rattle.std.proofs.Common.{◌≡◌, ◌≤◌, ◌+◌, [], drop, length, map, take, All}
 use Rattle.contacts_base.specs.Split.{contacts_in}
-use Rattle.colour_solver.specs.ConstraintTurns.{AreRowsBelow}
+use Rattle.colour_solver.specs.ConstraintVisits.{AreRowsBelow}
 use Rattle.graph_colours.specs.Colours.{all_members}
 use Rattle.graph_colours.specs.declared.limits.TheConstants.{COLOURS}
 use Rattle.world_core_base.specs.ConstraintRows.{rows_in}

@@ -5,5 +5,5 @@ use Rattle.world_desk.proofs.text.text_of.Goals as goal
 
 pub write_text-requires : goal.write_text-requires
 write_text-requires c = record {
-  colours = omega (arith, ap (λ (p : Plain). length p.colours) c.in_ok-plain.ensures.plain, colours_there c.args.world.now.plain c.plain.ensures.sound.promises.settled);
+  colours = omega (arith, ap (λ (p : Plain). length p.colours) c.in_ok-plain.ensures.plain, colours_there c.args.world.now.plain c.plain.ensures.sound.promises.consistent);
 }

@@ -1,6 +1,7 @@
 use Rattle.std.proofs.Common.{◌≡◌, ◌<◌, ◌≤◌, ℕ, None, length}
 use Rattle.islands.specs.Labels.{label_at}
-use Rattle.world_file.specs.Fitting.{alone_at, membership_at}
+use Rattle.world_file.specs.Fitting.{membership_at}
+use Rattle.world_file.specs.Lone.{alone_at}
 use Rattle.world_file.proofs.components.list_alone.Given as goal
 
 abbrev pub invariant-loop-slot : goal.invariant-loop-slot

@@ -1,6 +1,6 @@
 use Rattle.std.proofs.Common.{◌≡◌, ℕ, cond, take, Some, nat_eq}
 use Rattle.std.specs.HashMap.{get}
-use Rattle.world_file.specs.Marked.{has_number}
+use Rattle.world_file.specs.Taken.{has_number}
 use Rattle.world_file.proofs.numbered_colours.put_colour.Given as goal
 
 abbrev pub invariant-loop-id : goal.invariant-loop-id

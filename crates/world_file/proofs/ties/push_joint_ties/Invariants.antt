@@ -5,4 +5,4 @@ use Rattle.world_file.proofs.ties.push_joint_ties.Given as goal
 
 abbrev pub invariant-loop-slot : goal.invariant-loop-slot
 invariant-loop-slot l =
-    l.ties.items ++ flat_map tie_if_any (joint_ties l.bodies l.slot (drop l.slot l.places) (drop l.slot l.joints)) ≡ l.fn.ties.items ++ flat_map tie_if_any (joint_ties l.bodies 0 l.places l.joints)
+    l.ties.items ++ flat_map tie_if_any (joint_ties l.bodies l.slot (drop l.slot l.slot_entries) (drop l.slot l.joints)) ≡ l.fn.ties.items ++ flat_map tie_if_any (joint_ties l.bodies 0 l.slot_entries l.joints)

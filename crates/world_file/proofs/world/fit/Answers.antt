@@ -1,8 +1,7 @@
 use Rattle.std.proofs.Common.{sym, ap, ◌∙◌}
 use Rattle.world_file_base.specs.declared.reader.Reader.{Reader}
-use Rattle.world_file.specs.Answers.{IsBrokenBy}
+use Rattle.world_file.specs.AskedParts.{IsBrokenBy, fitting_asks}
 use Rattle.world_file.specs.Clauses.{first_unfit}
-use Rattle.world_file.specs.Fitting.{fitting_asks}
 use Rattle.world_file.specs.Parts.{parts_of}
 use Rattle.world_file.proofs.FirstBroken.{found_unfit}
 use Rattle.world_file.proofs.ReadingLaws.{carried, unfit_by}

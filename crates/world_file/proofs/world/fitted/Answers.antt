@@ -1,8 +1,7 @@
 use Rattle.std.proofs.Common.{Bool, ap, ◌∙◌}
 use Rattle.world_file_base.specs.Asks.{asked}
 use Rattle.world_file_base.specs.declared.clause.Clause.TheVariants.{References}
-use Rattle.world_file.specs.Answers.{IsBrokenBy}
-use Rattle.world_file.specs.Fitting.{fitting_asks}
+use Rattle.world_file.specs.AskedParts.{IsBrokenBy, fitting_asks}
 use Rattle.world_file.specs.Parts.{parts_of}
 use Rattle.world_file.proofs.ReadingLaws.{carried, refused_first}
 use Rattle.world_file.proofs.world.fitted.Goals as goal

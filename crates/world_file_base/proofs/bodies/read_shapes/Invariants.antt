@@ -1,6 +1,7 @@
 use Rattle.std.proofs.Common.{◌≡◌, ◌++◌, drop}
 use Rattle.serde_json.specs.View.{items_view}
-use Rattle.world_file_base.specs.SavedShapes.{defs_in, fats_in, shapes_asks}
+use Rattle.world_file_base.specs.SavedShapes.{defs_in, fats_in}
+use Rattle.world_file_base.specs.AskedShapes.{shapes_asks}
 use Rattle.world_file_base.proofs.bodies.read_shapes.Given as goal
 
 abbrev pub invariant-loop-item : goal.invariant-loop-item

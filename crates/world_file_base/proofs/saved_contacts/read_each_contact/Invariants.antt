@@ -1,6 +1,7 @@
 use Rattle.std.proofs.Common.{◌≡◌, ◌++◌, drop}
 use Rattle.serde_json.specs.View.{items_view}
-use Rattle.world_file_base.specs.SavedContacts.{contacts_asks, contacts_in}
+use Rattle.world_file_base.specs.SavedContacts.{contacts_in}
+use Rattle.world_file_base.specs.AskedContacts.{contacts_asks}
 use Rattle.world_file_base.proofs.saved_contacts.read_each_contact.Given as goal
 
 abbrev pub invariant-loop-item : goal.invariant-loop-item

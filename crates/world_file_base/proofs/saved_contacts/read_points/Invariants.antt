@@ -1,6 +1,7 @@
 use Rattle.std.proofs.Common.{◌≡◌, drop}
 use Rattle.serde_json.specs.View.{items_view}
-use Rattle.world_file_base.specs.SavedContacts.{no_points, points_asks, with_points}
+use Rattle.world_file_base.specs.SavedContacts.{no_points, with_points}
+use Rattle.world_file_base.specs.AskedContacts.{points_asks}
 use Rattle.world_file_base.proofs.saved_contacts.read_points.Given as goal
 
 abbrev pub invariant-loop-value : goal.invariant-loop-value

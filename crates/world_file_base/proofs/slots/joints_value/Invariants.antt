@@ -5,4 +5,4 @@ use Rattle.world_file_base.proofs.slots.joints_value.Given as goal
 
 abbrev pub invariant-loop-slot : goal.invariant-loop-slot
 invariant-loop-slot l =
-    map view l.items.items ++ joint_slots l.places (drop l.slot l.joint_places) (drop l.slot l.joints) (drop l.slot l.colours) ≡ joint_slots l.places l.joint_places l.joints l.colours
+    map view l.items.items ++ joint_slots l.slot_entries (drop l.slot l.joint_entries) (drop l.slot l.joints) (drop l.slot l.colours) ≡ joint_slots l.slot_entries l.joint_entries l.joints l.colours

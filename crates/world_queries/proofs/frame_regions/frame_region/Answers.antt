@@ -2,7 +2,7 @@ use Rattle.std.proofs.Common.{sym, subst}
 use Rattle.world_core.specs.Frames.{AreFrameBodies}
 use Rattle.world_queries.specs.Framed.{framed_at}
 use Rattle.world_queries.proofs.FramedLaws.{formed_in, framed_next}
-use Rattle.world_queries.proofs.PlacedLaws.{region_more}
+use Rattle.world_queries.proofs.PosedLaws.{region_more}
 use Rattle.world_queries.proofs.frame_regions.frame_region.Goals as goal
 
 pub add_shown-requires : goal.add_shown-requires

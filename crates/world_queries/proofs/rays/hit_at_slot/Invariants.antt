@@ -2,8 +2,8 @@ use Rattle.std.proofs.Common.{◌≡◌}
 use Rattle.plain_world.specs.Slots.{body_at}
 use Rattle.shape_rays.specs.Hits.{nearer}
 use Rattle.world_queries.specs.Filters.{lets_through}
-use Rattle.world_queries.specs.Placed.{shapes_at}
-use Rattle.world_queries.proofs.PlacedLaws.{left_at}
+use Rattle.world_queries.specs.Posed.{shapes_at}
+use Rattle.world_queries.proofs.PosedLaws.{left_at}
 use Rattle.world_queries.proofs.ThroughLaws.{first_through}
 use Rattle.world_queries.proofs.rays.hit_at_slot.Given as goal
 

@@ -1,8 +1,8 @@
 use Rattle.std.proofs.Common.{◌≡◌, ◌++◌}
 use Rattle.plain_world.specs.Slots.{body_at}
 use Rattle.shape_rays.specs.Hits.{region}
-use Rattle.world_queries.specs.Placed.{shapes_at}
-use Rattle.world_queries.proofs.PlacedLaws.{left_at}
+use Rattle.world_queries.specs.Posed.{shapes_at}
+use Rattle.world_queries.proofs.PosedLaws.{left_at}
 use Rattle.world_queries.proofs.regions.add_at_slot.Given as goal
 
 abbrev pub invariant-loop-index : goal.invariant-loop-index

@@ -3,8 +3,8 @@ use Rattle.joint_rows.specs.Rows.{IsJointRow}
 use Rattle.colour_solver_base.specs.Rows.{IsRow}
 use Rattle.colour_solver.specs.declared.colour_rows.ColourEnd.{ColourEnd}
 use Rattle.colour_solver.specs.ColourRows.{rows_kept}
-use Rattle.colour_solver.specs.Turns.{AreRowsOn}
-use Rattle.colour_solver.specs.ConstraintTurns.{AreRowsBelow, contact_slots, joint_slots}
+use Rattle.colour_solver.specs.RowVisits.{AreRowsOn}
+use Rattle.colour_solver.specs.ConstraintVisits.{AreRowsBelow, contact_slots, joint_slots}
 use Rattle.colour_solver.proofs.KeptRowLaws.{as_many_ends, colours_long, contacts_kept, joints_kept}
 use Rattle.colour_solver.proofs.KindLaws.{contacts_below, joints_below}
 use Rattle.colour_solver.proofs.colour_rows.Rows.pass.Goals as goal

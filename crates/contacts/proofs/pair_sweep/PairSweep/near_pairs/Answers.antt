@@ -1,6 +1,6 @@
 use Rattle.std.proofs.Common.{ℕ, List, sym, subst, arith}
 use Rattle.std.proofs.lemmas.Grind.{common_steps}
-use Rattle.contacts_base.specs.Near.{IsProxyList}
+use Rattle.contacts_base.specs.Proxies.{IsProxyList}
 use Rattle.contacts.specs.Pairs.{ArePairs}
 use Rattle.contacts.proofs.PairLemmas.{near_are_pairs}
 use Rattle.contacts.proofs.pair_sweep.PairSweep.near_pairs.Goals as goal

@@ -2,8 +2,7 @@ use Rattle.std.proofs.Common.{◌≡◌, List, ℕ, ap₂, refl, subst, sym, ◌
 use Rattle.std.specs.Prelude.{IfOk}
 use Rattle.contacts_base.specs.declared.contact.ContactEntry.{ContactEntry}
 use Rattle.contacts_base.specs.declared.near.Proxy.{Proxy}
-use Rattle.contacts.specs.Changes.{contacts_of}
-use Rattle.contacts.specs.Forbidden.{allowed_codes}
+use Rattle.contacts.specs.ByCodes.{contacts_of, allowed_codes}
 use Rattle.contacts.proofs.ByPairsLaws.{contacts_by_codes-holds}
 use Rattle.contacts.proofs.ForbiddenLemmas.{allowed_are_pairs}
 use Rattle.contacts.proofs.PairLemmas.{near_are_pairs}

@@ -2,10 +2,10 @@ use Rattle.std.proofs.Common.{◌≡◌, ◌++◌, ℕ, List, length, map, All, 
 use Rattle.std.specs.List.{flat_map}
 use Rattle.colour_solver.specs.declared.constraint_row.ConstraintRow.{ConstraintRow}
 use Rattle.colour_solver.specs.Colour.{IsColour}
-use Rattle.colour_solver.specs.ConstraintTurns.{AreRowsBelow, IsRowBelow, constraint_slots}
-use Rattle.colour_solver.specs.Turns.{passed, rows_passed, share}
-use Rattle.colour_solver.specs.Phases.{constraint_turn}
-use Rattle.crew_solver.specs.Turned.{PieceRows, StepRows, all_in, all_of, row_count, rows_in}
+use Rattle.colour_solver.specs.ConstraintVisits.{AreRowsBelow, IsRowBelow, constraint_slots}
+use Rattle.colour_solver.specs.RowVisits.{passed, rows_passed, share}
+use Rattle.colour_solver.specs.Phases.{constraint_visit}
+use Rattle.crew_solver.specs.Visited.{PieceRows, StepRows, all_in, all_of, row_count, rows_in}
 use Rattle.crew_solver.proofs.PassLaws.{all_behind, all_unmapped, as_many, counted, joined, written_back}
 use Rattle.crew_solver.proofs.crew_rows.CrewRows.pass.Goals as goal
 
@@ -38,7 +38,7 @@ returns-clause-states g c =
     let left = c.self.inside.left.items in
     let old : all_in c.as_mut_slice.result.now left ≡ all_of c.args.self.now =
     ap (λ (l : List (List (PieceRows ConstraintRow))). all_in l left) c.as_mut_slice.ensures.value ∙ sym (ap (λ (l : List ConstraintRow). l ++ left) (joined colours)) ∙ ap all_of c.self.view_is in
-    c.pass_crew.ensures.states ∙ ap (passed constraint_slots (constraint_turn c.args.phase) c.args.states.now.items) old
+    c.pass_crew.ensures.states ∙ ap (passed constraint_slots (constraint_visit c.args.phase) c.args.states.now.items) old
 
 pub returns-clause-rows : goal.returns-clause-rows
 returns-clause-rows g c =
@@ -53,7 +53,7 @@ returns-clause-rows g c =
     ap (λ (l : List (List (PieceRows ConstraintRow))). flat_map (λ (rs : List ConstraintRow). rs) (map rows_in l) ++ others) back
     ∙ ap (λ (l : List ConstraintRow). l ++ others) (joined new)
     ∙ c.pass_crew.ensures.rows
-    ∙ ap (rows_passed constraint_slots (constraint_turn c.args.phase) c.args.states.now.items) old
+    ∙ ap (rows_passed constraint_slots (constraint_visit c.args.phase) c.args.states.now.items) old
 
 pub returns-clause-colours : goal.returns-clause-colours
 returns-clause-colours g c =
@@ -73,7 +73,7 @@ returns-clause-share g c =
     let left = c.self.inside.left.items in
     let old : all_in c.as_mut_slice.result.now left ≡ all_of c.args.self.now =
     ap (λ (l : List (List (PieceRows ConstraintRow))). all_in l left) c.as_mut_slice.ensures.value ∙ sym (ap (λ (l : List ConstraintRow). l ++ left) (joined colours)) ∙ ap all_of c.self.view_is in
-    c.pass_crew.ensures.share ∙ ap (share constraint_slots (constraint_turn c.args.phase) c.args.states.now.items) old
+    c.pass_crew.ensures.share ∙ ap (share constraint_slots (constraint_visit c.args.phase) c.args.states.now.items) old
 
 pub returns-clause-all_rows : goal.returns-clause-all_rows
 returns-clause-all_rows g c =

@@ -1,5 +1,5 @@
 use Rattle.colour_solver.proofs.StillLaws.{colours_passed}
-use Rattle.crew_solver.specs.Turned.{coloured}
+use Rattle.crew_solver.specs.Visited.{coloured}
 use Rattle.crew_solver.proofs.step_crew.StepCrewPasses.pass.Goals as goal
 
 pub returns-clause-colours : goal.returns-clause-colours

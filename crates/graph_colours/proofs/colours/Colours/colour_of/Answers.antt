@@ -1,7 +1,7 @@
 use Rattle.std.proofs.Common.{◌≡◌, ◌+◌, ◌<◌, ◌≤◌, arith, rules, length, Bool}
 use Rattle.std.specs.List.{position_or_len}
 use Rattle.graph_colours.specs.declared.limits.TheConstants.{COLOURS}
-use Rattle.graph_colours.specs.Members.{has_id}
+use Rattle.graph_colours.specs.FoundMembers.{has_id}
 use Rattle.graph_colours.specs.Edits.{Pended}
 use Rattle.graph_colours.proofs.StepLemmas.{lists_count}
 use Rattle.graph_colours.proofs.GraphLemmas.{in_list, in_none}

@@ -1,7 +1,7 @@
 use Rattle.std.proofs.Common.{◌≡◌, ◌+◌, ◌<◌, length, refl, ◌∙◌, arith}
 use Rattle.graph_colours.specs.declared.limits.TheConstants.{COLOURS}
 use Rattle.graph_colours.proofs.StepLemmas.{lists_count, items_at, rest_at}
-use Rattle.graph_colours.proofs.GraphLemmas.{rising_at, apart_at, settled_is}
+use Rattle.graph_colours.proofs.GraphLemmas.{rising_at, apart_at, flushed_is}
 use Rattle.graph_colours.proofs.colours.Colours.members.Goals as goal
 
 pub index-requires : goal.index-requires
@@ -14,8 +14,8 @@ as_slice-requires g c =
     let ks = c.self.inside.lists.items in
     let n : length ks ≡ COLOURS + 1 = lists_count g.C.Id.number ks c.self.invariant.graph.colouring in
     let lt : c.args.colour < length ks = omega (arith, n, c.requires.colour) in
-    let none = rw (← c.self.view_is) at c.requires.settled in
-    rest_at ks c.args.colour c.index.result.now lt c.index.ensures (c.self.invariant.rest (settled_is c.self.inside.settled _ refl none))
+    let none = rw (← c.self.view_is) at c.requires.flushed in
+    rest_at ks c.args.colour c.index.result.now lt c.index.ensures (c.self.invariant.rest (flushed_is c.self.inside.flushed _ refl none))
 
 pub returns-clause-value : goal.returns-clause-value
 returns-clause-value g c =

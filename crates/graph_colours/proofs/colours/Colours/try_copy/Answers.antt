@@ -1,5 +1,5 @@
 use Rattle.std.proofs.Common.{refl, ap, ◌∙◌, arith}
-use Rattle.graph_colours.specs.Marks.{word_at}
+use Rattle.graph_colours.specs.TakenColours.{word_at}
 use Rattle.graph_colours.proofs.GraphLemmas.{graph_same}
 use Rattle.graph_colours.proofs.colours.Colours.try_copy.Goals as goal
 

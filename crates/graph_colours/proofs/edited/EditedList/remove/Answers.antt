@@ -1,7 +1,7 @@
 use Rattle.std.proofs.Common.{◌≡◌, List, Option, None, Some, length, sym, ap, ◌∙◌, arith}
 use Rattle.std.specs.Option.{is_some, option_map}
 use Rattle.graph_colours.specs.declared.member.Member.{Member}
-use Rattle.graph_colours.specs.Members.{with_number}
+use Rattle.graph_colours.specs.FoundMembers.{with_number}
 use Rattle.graph_colours.specs.Edits.{all_edited}
 use Rattle.graph_colours.proofs.PlaceLemmas.{without_same}
 use Rattle.graph_colours.proofs.EditLemmas.{all_made}

@@ -11,14 +11,14 @@ pub invariant_of-self : goal.invariant_of-self
 invariant_of-self g c =
     let a = c.self.inside in
     let n = g.C.Id.number in
-    let s : Acting g.row.C.Denot = acting a.ties.items a.islands.labels a.colours.lists in
-    let new : Acting g.row.C.Denot = acting a.ties.items c.add.new.self.labels a.colours.lists in
+    let s : Acting g.row.C.Denot = acting a.graph.ties.items a.graph.islands.labels a.graph.colours.lists in
+    let new : Acting g.row.C.Denot = acting a.graph.ties.items c.add.new.self.labels a.graph.colours.lists in
     let is : new ≡ mover_made c.args.slot s = made_is c.args.slot s c.add.new.self.labels c.add.ensures.labels in
     let fresh = rw (← c.self.view_is) at c.requires.fresh in
     let below = rw (← c.self.view_is) at c.requires.below in
     let P : Acting g.row.C.Denot → Type 0 = λ v. IsConsistent n v in
-    stands n s new a.room a.slots (record { ties = a.ties.capacity; colours = a.colours.room; colour_slots = a.colours.slots; islands = a.islands.room; edges = vec_capacity a.edges; scratch_slots = a.scratch.slots; links = a.scratch.links; gathering_ties = a.gathering.ties; gathering_slots = a.gathering.slots; leasts = vec_capacity a.leasts }) (record { ties = a.ties.capacity; colours = a.colours.room; colour_slots = a.colours.slots; islands = c.add.new.self.room; edges = vec_capacity a.edges; scratch_slots = a.scratch.slots; links = a.scratch.links; gathering_ties = a.gathering.ties; gathering_slots = a.gathering.slots; leasts = vec_capacity a.leasts }) c.self.invariant
-    (subst P (sym is) (making_keeps n s c.args.slot c.self.invariant.settled fresh))
+    stands n s new a.room a.slots (record { ties = a.graph.ties.capacity; colours = a.graph.colours.room; colour_slots = a.graph.colours.slots; islands = a.graph.islands.room; edges = vec_capacity a.work.edges; scratch_slots = a.work.scratch.slots; links = a.work.scratch.links; gathering_ties = a.work.gathering.ties; gathering_slots = a.work.gathering.slots; leasts = vec_capacity a.work.leasts }) (record { ties = a.graph.ties.capacity; colours = a.graph.colours.room; colour_slots = a.graph.colours.slots; islands = c.add.new.self.room; edges = vec_capacity a.work.edges; scratch_slots = a.work.scratch.slots; links = a.work.scratch.links; gathering_ties = a.work.gathering.ties; gathering_slots = a.work.gathering.slots; leasts = vec_capacity a.work.leasts }) c.self.invariant
+    (subst P (sym is) (making_keeps n s c.args.slot c.self.invariant.consistent fresh))
     c.self.invariant.enough
-    (rw c.add.ensures.labels (added_fits a.islands.labels c.args.slot a.slots below c.self.invariant.few))
+    (rw c.add.ensures.labels (added_fits a.graph.islands.labels c.args.slot a.slots below c.self.invariant.few))
     (record { ties = omega arith; colours = refl; colour_slots = refl; islands = c.add.ensures.room; edges = omega arith; scratch_slots = refl; links = refl; gathering_ties = omega arith; gathering_slots = omega arith; leasts = omega arith })

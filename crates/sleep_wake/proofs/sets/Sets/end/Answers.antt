@@ -1,28 +1,46 @@
 use Rattle.std.proofs.Common.{◌≡◌, ◌≤◌, length, refl, sym, ap, ◌∙◌, subst, arith}
 use Rattle.std.specs.Vec.{vec_capacity}
 use Rattle.sleep_wake.specs.Acting.{Acting, acting, IsConsistent}
-use Rattle.sleep_wake.proofs.StandLemmas.{stands}
 use Rattle.sleep_wake.specs.Changes.{ended}
+use Rattle.sleep_wake.proofs.StandLemmas.{stands}
 use Rattle.sleep_wake.proofs.KeptLemmas.{ending_keeps}
-use Rattle.sleep_wake.proofs.SizeLemmas.{ended_size, ended_fewer}
+use Rattle.sleep_wake.proofs.SizeLemmas.{ended_size, ended_fewer, ended_is}
 use Rattle.sleep_wake.proofs.FoldLemmas.{are_up}
+use Rattle.sleep_wake.proofs.ChangeOwn.{own_of}
 use Rattle.sleep_wake.proofs.sets.Sets.end.Goals as goal
+
+pub part-requires : goal.part-requires
+part-requires g c =
+    let there = rw (← c.self.view_is) at c.requires.there in
+    c.self.invariant.consistent.movers c.args.member there
+
+pub release_member-requires : goal.release_member-requires
+release_member-requires g c =
+    let a = c.self.inside in
+    let there = rw (← c.self.view_is) at c.requires.there in
+    record { own = own_of g.C.Id.number (acting a.graph.ties.items a.graph.islands.labels a.graph.colours.lists) c.self.invariant.consistent c.args.member there }
 
 pub invariant_of-self : goal.invariant_of-self
 invariant_of-self g c =
     let a = c.self.inside in
     let n = g.C.Id.number in
-    let s : Acting g.row.C.Denot = acting a.ties.items a.islands.labels a.colours.lists in
-    let new : Acting g.row.C.Denot = acting c.end.new.ties.items c.end.new.islands.labels c.end.new.colours.lists in
-    let is : new ≡ ended n c.args.member s = c.end.ensures.ended in
+    let s : Acting g.row.C.Denot = acting a.graph.ties.items a.graph.islands.labels a.graph.colours.lists in
+    let new : Acting g.row.C.Denot = acting c.remove.new.self.items c.part.new.islands.labels c.release_member.new.self.lists in
+    let is : new ≡ ended n c.args.member s = ended_is n c.args.member s c.remove.new.self.items c.part.new.islands.labels c.release_member.new.self.lists c.remove.ensures.items c.part.ensures.labels c.release_member.ensures.lists in
     let there = rw (← c.self.view_is) at c.requires.there in
     let awake = rw (← c.self.view_is) at c.requires.awake in
     let less : length (ended n c.args.member s).ties ≤ length s.ties = ended_fewer n c.args.member s in
     let same : length new.ties ≡ length (ended n c.args.member s).ties = ap (λ (v : Acting g.row.C.Denot). length v.ties) is in
     let few : length new.labels ≡ length s.labels = ap (λ (v : Acting g.row.C.Denot). length v.labels) is ∙ ended_size n c.args.member s in
     let P : Acting g.row.C.Denot → Type 0 = λ v. IsConsistent n v in
-    stands n s new a.room a.slots (record { ties = a.ties.capacity; colours = a.colours.room; colour_slots = a.colours.slots; islands = a.islands.room; edges = vec_capacity a.edges; scratch_slots = a.scratch.slots; links = a.scratch.links; gathering_ties = a.gathering.ties; gathering_slots = a.gathering.slots; leasts = vec_capacity a.leasts }) (record { ties = c.end.new.ties.capacity; colours = c.end.new.colours.room; colour_slots = c.end.new.colours.slots; islands = c.end.new.islands.room; edges = vec_capacity a.edges; scratch_slots = a.scratch.slots; links = a.scratch.links; gathering_ties = a.gathering.ties; gathering_slots = a.gathering.slots; leasts = vec_capacity a.leasts }) c.self.invariant
-    (subst P (sym is) (ending_keeps n s c.args.member c.self.invariant.settled there (are_up s.labels c.args.member.movers awake).first))
+    stands n s new a.room a.slots (record { ties = a.graph.ties.capacity; colours = a.graph.colours.room; colour_slots = a.graph.colours.slots; islands = a.graph.islands.room; edges = vec_capacity a.work.edges; scratch_slots = a.work.scratch.slots; links = a.work.scratch.links; gathering_ties = a.work.gathering.ties; gathering_slots = a.work.gathering.slots; leasts = vec_capacity a.work.leasts }) (record { ties = c.remove.new.self.capacity; colours = c.release_member.new.self.room; colour_slots = c.release_member.new.self.slots; islands = c.part.new.islands.room; edges = vec_capacity a.work.edges; scratch_slots = a.work.scratch.slots; links = a.work.scratch.links; gathering_ties = a.work.gathering.ties; gathering_slots = a.work.gathering.slots; leasts = vec_capacity a.work.leasts }) c.self.invariant
+    (subst P (sym is) (ending_keeps n s c.args.member c.self.invariant.consistent there (are_up s.labels c.args.member.movers awake).first))
     (omega (arith, less, same, c.self.invariant.enough))
     (omega (arith, few, c.self.invariant.few))
-    (record { ties = omega (arith, c.end.ensures.capacity); colours = c.end.ensures.room; colour_slots = c.end.ensures.slots; islands = c.end.ensures.islands_room; edges = omega arith; scratch_slots = refl; links = refl; gathering_ties = omega arith; gathering_slots = omega arith; leasts = omega arith })
+    (record { ties = c.remove.ensures.capacity; colours = c.release_member.ensures.total; colour_slots = c.release_member.ensures.slots; islands = c.part.ensures.room; edges = omega arith; scratch_slots = refl; links = refl; gathering_ties = omega arith; gathering_slots = omega arith; leasts = omega arith })
+
+pub returns-clause-acting : goal.returns-clause-acting
+returns-clause-acting g c =
+    let a = c.self.inside in
+    let s : Acting g.row.C.Denot = acting a.graph.ties.items a.graph.islands.labels a.graph.colours.lists in
+    rw (← c.self.view_is) (ended_is g.C.Id.number c.args.member s c.remove.new.self.items c.part.new.islands.labels c.release_member.new.self.lists c.remove.ensures.items c.part.ensures.labels c.release_member.ensures.lists)

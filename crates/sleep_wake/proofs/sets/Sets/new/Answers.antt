@@ -4,7 +4,7 @@ use Rattle.graph_colours.specs.declared.member.Member.{Member}
 use Rattle.graph_colours.proofs.EmptyLemmas.{colouring_of_none}
 use Rattle.islands.specs.Labels.{Labels}
 use Rattle.sleep_wake.specs.Acting.{Acting, acting, IsConsistent}
-use Rattle.sleep_wake.proofs.PhaseLemmas.{empty_settled}
+use Rattle.sleep_wake.proofs.PhaseLemmas.{empty_consistent}
 use Rattle.sleep_wake.proofs.sets.Sets.new.Goals as goal
 
 pub invariant_of-result : goal.invariant_of-result
@@ -20,7 +20,7 @@ invariant_of-result g c =
     let short : length c.new-3.result.labels ≡ 0 = ap (λ (v : Labels). length v) labels in
     let P : Acting g.row.C.Denot → Type 0 = λ v. IsConsistent n v in
     record {
-      settled = subst P (sym is) (empty_settled n none (colouring_of_none n) refl);
+      consistent = subst P (sym is) (empty_consistent n none (colouring_of_none n) refl);
       enough = omega (arith, few);
       few = omega (arith, short);
       rooms = record { ties = omega arith; colours = omega arith; colour_slots = omega arith; islands = omega arith; edges = omega arith; scratch_slots = omega arith; links = omega arith; gathering_ties = omega arith; gathering_slots = omega arith; leasts = omega arith };

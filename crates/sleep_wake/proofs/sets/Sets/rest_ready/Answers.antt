@@ -1,24 +1,56 @@
-use Rattle.std.proofs.Common.{◌≡◌, length, refl, sym, ap, ◌∙◌, subst, arith, false}
+use Rattle.std.proofs.Common.{◌≡◌, List, false, length, refl, sym, ap, ◌∙◌, subst, arith}
 use Rattle.std.specs.Vec.{vec_capacity}
+use Rattle.graph_colours.specs.declared.member.Member.{Member}
 use Rattle.sleep_wake.specs.Acting.{Acting, acting, IsConsistent}
 use Rattle.sleep_wake.specs.SleepPhase.{ready, ready_put_to_rest}
 use Rattle.sleep_wake.proofs.StandLemmas.{stands_on}
-use Rattle.sleep_wake.proofs.PhaseLemmas.{ready_settled}
+use Rattle.sleep_wake.proofs.PhaseLemmas.{ready_consistent}
 use Rattle.sleep_wake.proofs.LengthLemmas.{all_rest_long}
-use Rattle.sleep_wake.proofs.RestingLaws.{all_ties}
+use Rattle.sleep_wake.proofs.RestingLaws.{all_ties, rests_together}
 use Rattle.sleep_wake.proofs.sets.Sets.rest_ready.Goals as goal
+
+pub list_leasts-requires-clause-partition : goal.list_leasts-requires-clause-partition
+list_leasts-requires-clause-partition g c = c.self.invariant.consistent.islands.partition
+
+pub list_leasts-requires-clause-room : goal.list_leasts-requires-clause-room
+list_leasts-requires-clause-room g c = omega (arith, c.self.invariant.few, c.self.invariant.rooms.leasts)
+
+pub list_leasts-requires-clause-awake : goal.list_leasts-requires-clause-awake
+list_leasts-requires-clause-awake g c = rw (← c.self.view_is) at c.requires.awake
+
+pub release_resting-requires-clause-consistent : goal.release_resting-requires-clause-consistent
+release_resting-requires-clause-consistent g c = c.self.invariant.consistent
+
+pub release_resting-requires-clause-pending : goal.release_resting-requires-clause-pending
+release_resting-requires-clause-pending g c = rw (← c.self.view_is) at c.requires.rest
+
+pub rest_each-requires : goal.rest_each-requires
+rest_each-requires g c = record { awake = rw (← c.self.view_is) at c.requires.awake }
 
 pub invariant_of-self : goal.invariant_of-self
 invariant_of-self g c =
     let a = c.self.inside in
     let n = g.C.Id.number in
     let timers = c.args.timers.now in
-    let s : Acting g.row.C.Denot = acting a.ties.items a.islands.labels a.colours.lists in
-    let new : Acting g.row.C.Denot = acting c.rest_ready.new.ties.items c.rest_ready.new.islands.labels c.rest_ready.new.colours.lists in
-    let is : new ≡ ready_put_to_rest n timers s = c.rest_ready.ensures.at_rest in
+    let s : Acting g.row.C.Denot = acting a.graph.ties.items a.graph.islands.labels a.graph.colours.lists in
+    let new : Acting g.row.C.Denot = acting c.release_resting.new.ties.items c.rest_each.new.islands.labels c.release_resting.new.colours.lists in
+    let lists = rw c.deref.ensures.value at c.release_resting.ensures.lists in
+    let labels = rw c.deref-2.ensures.value at c.rest_each.ensures.labels in
+    let is : new ≡ ready_put_to_rest n timers s = ap (λ (v : List (Member g.row.C.Denot)). acting v c.rest_each.new.islands.labels c.release_resting.new.colours.lists) c.release_resting.ensures.ties ∙ rests_together n timers c.list_leasts.new.leasts.items s c.rest_each.new.islands.labels c.release_resting.new.colours.lists c.self.invariant.consistent.islands.partition c.list_leasts.ensures.least lists labels in
     let P : Acting g.row.C.Denot → Type 0 = λ v. IsConsistent n v in
-    stands_on n s new a.room a.slots (record { ties = a.ties.capacity; colours = a.colours.room; colour_slots = a.colours.slots; islands = a.islands.room; edges = vec_capacity a.edges; scratch_slots = a.scratch.slots; links = a.scratch.links; gathering_ties = a.gathering.ties; gathering_slots = a.gathering.slots; leasts = vec_capacity a.leasts }) (record { ties = c.rest_ready.new.ties.capacity; colours = c.rest_ready.new.colours.room; colour_slots = c.rest_ready.new.colours.slots; islands = c.rest_ready.new.islands.room; edges = vec_capacity a.edges; scratch_slots = a.scratch.slots; links = a.scratch.links; gathering_ties = a.gathering.ties; gathering_slots = a.gathering.slots; leasts = vec_capacity c.rest_ready.new.leasts }) c.self.invariant
-    (subst P (sym is) (ready_settled n timers s c.self.invariant.settled))
+    stands_on n s new a.room a.slots (record { ties = a.graph.ties.capacity; colours = a.graph.colours.room; colour_slots = a.graph.colours.slots; islands = a.graph.islands.room; edges = vec_capacity a.work.edges; scratch_slots = a.work.scratch.slots; links = a.work.scratch.links; gathering_ties = a.work.gathering.ties; gathering_slots = a.work.gathering.slots; leasts = vec_capacity a.work.leasts }) (record { ties = c.release_resting.new.ties.capacity; colours = c.release_resting.new.colours.room; colour_slots = c.release_resting.new.colours.slots; islands = c.rest_each.new.islands.room; edges = vec_capacity a.work.edges; scratch_slots = a.work.scratch.slots; links = a.work.scratch.links; gathering_ties = a.work.gathering.ties; gathering_slots = a.work.gathering.slots; leasts = vec_capacity c.list_leasts.new.leasts }) c.self.invariant
+    (subst P (sym is) (ready_consistent n timers s c.self.invariant.consistent))
     (ap (λ (v : Acting g.row.C.Denot). v.ties) is ∙ all_ties n (ready false s.labels timers) s)
     (ap (λ (v : Acting g.row.C.Denot). length v.labels) is ∙ all_rest_long n (ready false s.labels timers) s)
-    (record { ties = c.rest_ready.ensures.ties_capacity; colours = c.rest_ready.ensures.room; colour_slots = c.rest_ready.ensures.slots; islands = c.rest_ready.ensures.islands_room; edges = omega arith; scratch_slots = refl; links = refl; gathering_ties = omega arith; gathering_slots = omega arith; leasts = c.rest_ready.ensures.capacity })
+    (record { ties = c.release_resting.ensures.ties_capacity; colours = c.release_resting.ensures.room; colour_slots = c.release_resting.ensures.slots; islands = c.rest_each.ensures.room; edges = omega arith; scratch_slots = refl; links = refl; gathering_ties = omega arith; gathering_slots = omega arith; leasts = c.list_leasts.ensures.capacity })
+
+pub returns-clause-acting : goal.returns-clause-acting
+returns-clause-acting g c =
+    let a = c.self.inside in
+    let n = g.C.Id.number in
+    let timers = c.args.timers.now in
+    let s : Acting g.row.C.Denot = acting a.graph.ties.items a.graph.islands.labels a.graph.colours.lists in
+    let lists = rw c.deref.ensures.value at c.release_resting.ensures.lists in
+    let labels = rw c.deref-2.ensures.value at c.rest_each.ensures.labels in
+    let is : acting c.release_resting.new.ties.items c.rest_each.new.islands.labels c.release_resting.new.colours.lists ≡ ready_put_to_rest n timers s = ap (λ (v : List (Member g.row.C.Denot)). acting v c.rest_each.new.islands.labels c.release_resting.new.colours.lists) c.release_resting.ensures.ties ∙ rests_together n timers c.list_leasts.new.leasts.items s c.rest_each.new.islands.labels c.release_resting.new.colours.lists c.self.invariant.consistent.islands.partition c.list_leasts.ensures.least lists labels in
+    rw (← c.self.view_is) is

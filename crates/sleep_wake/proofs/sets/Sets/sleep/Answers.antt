@@ -8,4 +8,4 @@ use Rattle.sleep_wake.proofs.sets.Sets.sleep.Goals as goal
 pub rest_at-requires : goal.rest_at-requires
 rest_at-requires g c =
     let here = sym c.label_of.ensures.value ∙ c.in-Some.is in
-    ap (λ (v : Acting g.row.C.Denot). is_whole (label_at v.labels c.args.slot)) c.split_if_loose.ensures.acting ∙ whole_after g.C.Id.number c.args.self.now.acting c.args.slot c.in-Some.label c.know_settled.ensures here (sym c.is_asleep.ensures ∙ c.if-not-is_asleep.true)
+    ap (λ (v : Acting g.row.C.Denot). is_whole (label_at v.labels c.args.slot)) c.split_if_loose.ensures.acting ∙ whole_after g.C.Id.number c.args.self.now.acting c.args.slot c.in-Some.label c.know_consistent.ensures here (sym c.is_asleep.ensures ∙ c.if-not-is_asleep.true)

@@ -1,28 +1,8 @@
-use Rattle.std.proofs.Common.{◌≡◌, ◌≤◌, length, refl, sym, ap, ◌∙◌, subst, arith}
-use Rattle.std.specs.Vec.{vec_capacity}
-use Rattle.sleep_wake.specs.Acting.{Acting, acting, IsConsistent}
-use Rattle.sleep_wake.proofs.StandLemmas.{stands_on, are_below}
-use Rattle.sleep_wake.specs.Waking.{woken_at}
-use Rattle.sleep_wake.proofs.KeptLemmas.{wakes}
-use Rattle.sleep_wake.proofs.SizeLemmas.{woken_size, woken_ties}
+use Rattle.std.proofs.Common.{sym, ◌∙◌}
 use Rattle.sleep_wake.proofs.sets.Sets.wake.Goals as goal
 
-pub invariant_of-self : goal.invariant_of-self
-invariant_of-self g c =
-    let a = c.self.inside in
-    let n = g.C.Id.number in
-    let s : Acting g.row.C.Denot = acting a.ties.items a.islands.labels a.colours.lists in
-    let new : Acting g.row.C.Denot = acting a.ties.items c.wake_set.new.islands.labels c.wake_set.new.colours.lists in
-    let is : new ≡ woken_at n c.args.slot s = c.wake_set.ensures.woken in
-    let P : Acting g.row.C.Denot → Type 0 = λ v. IsConsistent n v in
-    stands_on n s new a.room a.slots (record { ties = a.ties.capacity; colours = a.colours.room; colour_slots = a.colours.slots; islands = a.islands.room; edges = vec_capacity a.edges; scratch_slots = a.scratch.slots; links = a.scratch.links; gathering_ties = a.gathering.ties; gathering_slots = a.gathering.slots; leasts = vec_capacity a.leasts }) (record { ties = a.ties.capacity; colours = c.wake_set.new.colours.room; colour_slots = c.wake_set.new.colours.slots; islands = c.wake_set.new.islands.room; edges = vec_capacity a.edges; scratch_slots = a.scratch.slots; links = a.scratch.links; gathering_ties = c.wake_set.new.gathering.ties; gathering_slots = c.wake_set.new.gathering.slots; leasts = vec_capacity a.leasts }) c.self.invariant
-    (subst P (sym is) (wakes n c.args.slot s c.self.invariant.settled).settled)
-    (ap (λ (v : Acting g.row.C.Denot). v.ties) is ∙ woken_ties n c.args.slot s)
-    (ap (λ (v : Acting g.row.C.Denot). length v.labels) is ∙ woken_size n c.args.slot s)
-    (record { ties = omega arith; colours = c.wake_set.ensures.room; colour_slots = c.wake_set.ensures.slots; islands = c.wake_set.ensures.islands_room; edges = omega arith; scratch_slots = refl; links = refl; gathering_ties = c.wake_set.ensures.gathering_ties; gathering_slots = c.wake_set.ensures.gathering_slots; leasts = omega arith })
+pub wake_island-requires-clause-island : goal.wake_island-requires-clause-island
+wake_island-requires-clause-island g c = c.know_consistent.ensures.islands.partition.named c.args.slot c.in-Some.label (sym c.label_of.ensures.value ∙ c.in-Some.is)
 
-pub wake_set-requires-clause-below : goal.wake_set-requires-clause-below
-wake_set-requires-clause-below g c = λ m h.
-    let a = c.self.inside in
-    let few : length a.islands.labels ≤ a.colours.slots = omega (arith, c.self.invariant.few, c.self.invariant.rooms.colour_slots) in
-    are_below a.islands.labels a.colours.slots m.movers few (c.self.invariant.settled.movers m h)
+pub wake_island-requires-clause-asleep : goal.wake_island-requires-clause-asleep
+wake_island-requires-clause-asleep g c = sym c.is_asleep.ensures ∙ c.if-is_asleep.true

@@ -1,7 +1,7 @@
 use Rattle.std.proofs.Common.{◌≡◌, ◌<◌, ◌≤◌, ◌^◌, length, arith, refl}
 use Rattle.body_handles.proofs.LowestLemmas.{lowest-le-length}
-use Rattle.body_handles.specs.Places.{lowest}
-use Rattle.body_handles.specs.declared.places.TheConstants.{MAX_SLOTS}
+use Rattle.body_handles.specs.SlotEntries.{lowest}
+use Rattle.body_handles.specs.declared.slot_table.TheConstants.{MAX_SLOTS}
 use Rattle.plain_world.specs.Bodies.{IsBody, made}
 use Rattle.plain_world.specs.Formed.{HaveFilters}
 use Rattle.solver_sets.specs.Joining.{handle_at}
@@ -13,7 +13,7 @@ use Rattle.world_core.proofs.PartLaws.{create_answers, free_label, kept_of, same
 use Rattle.world_core.proofs.CoreLaws.{core_bodies}
 use Rattle.world_core.proofs.KnownLaws.{marked_after}
 use Rattle.world_core.proofs.FewerTies.{fewer_made, fewer_reserved}
-use Rattle.solver_sets.proofs.FewerAnchoredLaws.{tell_fewer}
+use Rattle.solver_sets.proofs.FewerAnchoredLaws.{complete_with_fewer}
 use Rattle.world_core.proofs.world.WorldCore.create_body.Goals as goal
 
 pub come-requires-clause-fresh : goal.come-requires-clause-fresh
@@ -23,16 +23,16 @@ come-requires-clause-fresh c =
 pub come-requires-clause-below : goal.come-requires-clause-below
 come-requires-clause-below c =
     let w : World = the_view c.self.inside in
-    let least : lowest w.plain.places ≤ length w.plain.places = lowest-le-length w.plain.places in
-    let slots : length w.plain.places ≡ length w.plain.bodies = (kept_of _ _ c.self.invariant.whole).matched.slots in
+    let least : lowest w.plain.slot_entries ≤ length w.plain.slot_entries = lowest-le-length w.plain.slot_entries in
+    let slots : length w.plain.slot_entries ≡ length w.plain.bodies = (kept_of _ _ c.self.invariant.whole).matched.slots in
     let room = rw (c.bodies.ensures, c.in_ok-reserve_one-2.ensures.bodies) at c.in_ok-reserve.ensures.slots_made in
     rw (c.in_ok-handle.ensures.slot, c.in_ok-reserve_one.ensures.kept) (omega (arith, least, slots, room))
 
 pub reserve_one-requires-2-clause-next : goal.reserve_one-requires-2-clause-next
 reserve_one-requires-2-clause-next c =
     let w : World = the_view c.self.inside in
-    let least : lowest w.plain.places ≤ length w.plain.places = lowest-le-length w.plain.places in
-    let slots : length w.plain.places ≡ length w.plain.bodies = (kept_of _ _ c.self.invariant.whole).matched.slots in
+    let least : lowest w.plain.slot_entries ≤ length w.plain.slot_entries = lowest-le-length w.plain.slot_entries in
+    let slots : length w.plain.slot_entries ≡ length w.plain.bodies = (kept_of _ _ c.self.invariant.whole).matched.slots in
     rw (c.next_slot.ensures, c.in_ok-reserve_one.ensures.kept) (omega (arith, least, slots))
 
 pub reserve_one-requires-2-clause-free : goal.reserve_one-requires-2-clause-free
@@ -46,8 +46,8 @@ put-requires-clause-covered c =
 pub put-requires-clause-next : goal.put-requires-clause-next
 put-requires-clause-next c =
     let w : World = the_view c.self.inside in
-    let least : lowest w.plain.places ≤ length w.plain.places = lowest-le-length w.plain.places in
-    let slots : length w.plain.places ≡ length w.plain.bodies = (kept_of _ _ c.self.invariant.whole).matched.slots in
+    let least : lowest w.plain.slot_entries ≤ length w.plain.slot_entries = lowest-le-length w.plain.slot_entries in
+    let slots : length w.plain.slot_entries ≡ length w.plain.bodies = (kept_of _ _ c.self.invariant.whole).matched.slots in
     rw (c.in_ok-handle.ensures.slot, c.in_ok-reserve_one.ensures.kept, c.in_ok-reserve_one-2.ensures.bodies) (omega (arith, least, slots))
 
 pub put-requires-clause-free : goal.put-requires-clause-free
@@ -58,7 +58,7 @@ pub invariant_of-self-2 : goal.invariant_of-self-2
 invariant_of-self-2 c =
     let w : World = the_view c.self.inside in
     let calls : c.self.inside.calls < 2 ^ 40 = rw (← c.self.view_is) at c.requires in
-    let free : lowest c.self.inside.handles.places < MAX_SLOTS = rw (c.in_ok-handle.ensures.slot, c.in_ok-reserve_one.ensures.kept) at c.in_ok-handle.ensures.slot_below in
+    let free : lowest c.self.inside.handles.slot_entries < MAX_SLOTS = rw (c.in_ok-handle.ensures.slot, c.in_ok-reserve_one.ensures.kept) at c.in_ok-handle.ensures.slot_below in
     let body : IsBody (made c.args.def.now) = rw c.in_ok-body.ensures.made at c.in_ok-body.ensures.body in
     let filters : HaveFilters c.args.def.now.shapes = rw c.as_slice.ensures at c.know_filters_fit.ensures in
     core_bodies (the_view c.self.inside) _ _ _ c.self.inside.bodies c.put.new.self c.self.invariant
@@ -66,27 +66,27 @@ invariant_of-self-2 c =
     (whole w _ _ _ (create_left w c.self.inside.sets.acting c.args.def.now (kept_of _ _ c.self.invariant.whole) c.self.invariant.whole.same calls free body filters)))
     refl refl refl refl
     (marked_after c.self.inside.bodies c.reserve_one-2.new.self c.put.new.self c.in_ok-reserve_one-2.ensures.marked c.put.ensures.marked)
-    c.self.inside.anchors (tell_fewer c.self.inside.anchors.holds c.self.inside.anchors.lists c.self.inside.sets.acting.ties _ (fewer_reserved c.self.inside.sets.acting c.reserve.new.self.acting c.widen.new.self.acting c.in_ok-reserve.ensures.acting
+    c.self.inside.anchors (complete_with_fewer c.self.inside.anchors.holds c.self.inside.anchors.lists c.self.inside.sets.acting.ties _ (fewer_reserved c.self.inside.sets.acting c.reserve.new.self.acting c.widen.new.self.acting c.in_ok-reserve.ensures.acting
     (fewer_made c.is_mover.result c.in_ok-handle.handle.slot _ c.reserve.new.self.acting c.come.new.sets.acting c.widen.new.self.acting c.come.ensures.acting c.widen.ensures.acting)) c.self.invariant.anchored)
 
 pub returns : goal.returns
 returns c =
     let w : World = the_view c.self.inside in
     let calls : c.self.inside.calls < 2 ^ 40 = rw (← c.self.view_is) at c.requires in
-    let free : lowest c.self.inside.handles.places < MAX_SLOTS = rw (c.in_ok-handle.ensures.slot, c.in_ok-reserve_one.ensures.kept) at c.in_ok-handle.ensures.slot_below in
+    let free : lowest c.self.inside.handles.slot_entries < MAX_SLOTS = rw (c.in_ok-handle.ensures.slot, c.in_ok-reserve_one.ensures.kept) at c.in_ok-handle.ensures.slot_below in
     let body : IsBody (made c.args.def.now) = rw c.in_ok-body.ensures.made at c.in_ok-body.ensures.body in
     let filters : HaveFilters c.args.def.now.shapes = rw c.as_slice.ensures at c.know_filters_fit.ensures in
     let slot = rw c.in_ok-reserve_one.ensures.kept at c.in_ok-handle.ensures.slot in
     let generation = rw c.in_ok-reserve_one.ensures.kept at c.in_ok-handle.ensures.generation in
     rw (← c.self.view_is)
-    (create_answers w c.args.def.now c.in_ok-handle.handle _ c.widen.new.self.acting c.in_ok-check.ensures.refusal free (same_handle _ (handle_at w.plain.places (lowest w.plain.places)) slot generation)
+    (create_answers w c.args.def.now c.in_ok-handle.handle _ c.widen.new.self.acting c.in_ok-check.ensures.refusal free (same_handle _ (handle_at w.plain.slot_entries (lowest w.plain.slot_entries)) slot generation)
     (rw (c.widen.ensures.acting, c.come.ensures.acting, c.is_mover.ensures, c.in_ok-handle.ensures.given_out, c.put.ensures.bodies, c.in_ok-handle.ensures.slot, c.in_ok-reserve_one.ensures.kept, c.in_ok-body.ensures.made, c.in_ok-reserve_one-2.ensures.bodies, c.in_ok-reserve.ensures.acting)
     (create_left w c.self.inside.sets.acting c.args.def.now (kept_of _ _ c.self.invariant.whole) c.self.invariant.whole.same calls free body filters)))
 
 pub widen-requires : goal.widen-requires
 widen-requires c =
     let w : World = the_view c.self.inside in
-    let least : lowest w.plain.places ≤ length w.plain.places = lowest-le-length w.plain.places in
-    let slots : length w.plain.places ≡ length w.plain.bodies = (kept_of _ _ c.self.invariant.whole).matched.slots in
+    let least : lowest w.plain.slot_entries ≤ length w.plain.slot_entries = lowest-le-length w.plain.slot_entries in
+    let slots : length w.plain.slot_entries ≡ length w.plain.bodies = (kept_of _ _ c.self.invariant.whole).matched.slots in
     let room = rw (c.bodies.ensures, c.in_ok-reserve_one-2.ensures.bodies) at c.in_ok-reserve.ensures.slots_made in
     rw (c.come.ensures.slots, c.in_ok-handle.ensures.slot, c.in_ok-reserve_one.ensures.kept) (omega (arith, least, slots, room))

@@ -1,7 +1,7 @@
 use Rattle.std.proofs.Common.{◌≡◌, ◌<◌, ◌≤◌, ◌^◌, length, refl, arith, None}
 use Rattle.body_handles.proofs.LowestLemmas.{lowest-le-length}
-use Rattle.body_handles.specs.Places.{lowest}
-use Rattle.body_handles.specs.declared.places.TheConstants.{MAX_SLOTS}
+use Rattle.body_handles.specs.SlotEntries.{lowest}
+use Rattle.body_handles.specs.declared.slot_table.TheConstants.{MAX_SLOTS}
 use Rattle.plain_world.specs.Joints.{IsBodyJoint, joint_at, joint_made}
 use Rattle.world_rules.specs.World.{World}
 use Rattle.world_rules.proofs.PartsLeft.{join_left, next_joint}
@@ -12,7 +12,7 @@ use Rattle.plain_world.specs.Slots.{with_item}
 use Rattle.world_core.proofs.CoreLaws.{core_joined}
 use Rattle.world_core.proofs.KnownLaws.{marked_after}
 use Rattle.world_core.proofs.FewerTies.{fewer_joined, fewer_reserved}
-use Rattle.solver_sets.proofs.FewerAnchoredLaws.{tell_fewer}
+use Rattle.solver_sets.proofs.FewerAnchoredLaws.{complete_with_fewer}
 use Rattle.world_core.proofs.world.WorldCore.create_joint.Goals as goal
 
 pub wake_planned-requires-clause-movers : goal.wake_planned-requires-clause-movers
@@ -26,7 +26,7 @@ begin_with-requires-clause-fresh c =
     let w : World = the_view c.self.inside in
     let slot = rw c.in_ok-reserve_one.ensures.kept at c.in_ok-handle.ensures.slot in
     let generation = rw c.in_ok-reserve_one.ensures.kept at c.in_ok-handle.ensures.generation in
-    let free : lowest w.plain.joint_places < MAX_SLOTS = rw slot at c.in_ok-handle.ensures.slot_below in
+    let free : lowest w.plain.joint_entries < MAX_SLOTS = rw slot at c.in_ok-handle.ensures.slot_below in
     rw (same_handle c.in_ok-handle.handle (next_joint w.plain) slot generation, c.wake_planned.ensures.acting, (rw (← c.self.view_is) at c.in_ok-waking.ensures.names), c.in_ok-reserve.ensures.acting, c.make-joint.ensures)
     (can_join_from w c.self.inside.sets.acting (joint_made c.args.def.now) c.self.invariant.whole free).fresh
 
@@ -34,7 +34,7 @@ pub begin_with-requires-clause-awake : goal.begin_with-requires-clause-awake
 begin_with-requires-clause-awake c =
     let w : World = the_view c.self.inside in
     let slot = rw c.in_ok-reserve_one.ensures.kept at c.in_ok-handle.ensures.slot in
-    let free : lowest w.plain.joint_places < MAX_SLOTS = rw slot at c.in_ok-handle.ensures.slot_below in
+    let free : lowest w.plain.joint_entries < MAX_SLOTS = rw slot at c.in_ok-handle.ensures.slot_below in
     rw (c.joint_movers-movers.ensures, c.bodies-2.ensures, c.wake_planned.ensures.told, c.wake_planned.ensures.acting, (rw (← c.self.view_is) at c.in_ok-waking.ensures.names), c.in_ok-reserve.ensures.acting, c.make-joint.ensures)
     (can_join_from w c.self.inside.sets.acting (joint_made c.args.def.now) c.self.invariant.whole free).awake
 
@@ -46,8 +46,8 @@ begin_with-requires-clause-room c =
 pub put-requires-clause-next : goal.put-requires-clause-next
 put-requires-clause-next c =
     let w : World = the_view c.self.inside in
-    let least : lowest w.plain.joint_places ≤ length w.plain.joint_places = lowest-le-length w.plain.joint_places in
-    let slots : length w.plain.joint_places ≡ length w.plain.joints = (kept_of _ _ c.self.invariant.whole).joint_slots.slots in
+    let least : lowest w.plain.joint_entries ≤ length w.plain.joint_entries = lowest-le-length w.plain.joint_entries in
+    let slots : length w.plain.joint_entries ≡ length w.plain.joints = (kept_of _ _ c.self.invariant.whole).joint_slots.slots in
     rw (c.in_ok-handle.ensures.slot, c.in_ok-reserve_one.ensures.kept, c.in_ok-reserve_for.ensures.joints) (omega (arith, least, slots))
 
 pub put-requires-clause-free : goal.put-requires-clause-free
@@ -60,19 +60,19 @@ invariant_of-self-2 c =
     let calls : c.self.inside.calls < 2 ^ 40 = rw (← c.self.view_is) at c.requires in
     let slot = rw c.in_ok-reserve_one.ensures.kept at c.in_ok-handle.ensures.slot in
     let generation = rw c.in_ok-reserve_one.ensures.kept at c.in_ok-handle.ensures.generation in
-    let free : lowest w.plain.joint_places < MAX_SLOTS = rw slot at c.in_ok-handle.ensures.slot_below in
+    let free : lowest w.plain.joint_entries < MAX_SLOTS = rw slot at c.in_ok-handle.ensures.slot_below in
     let is : IsBodyJoint w.plain.bodies (joint_made c.args.def.now) = rw c.bodies.ensures at c.in_ok-check_join.ensures.joint in
     let put : c.put.new.self.joints ≡ with_item w.plain.joints c.in_ok-handle.handle.slot c.make-joint.result = rw c.in_ok-reserve_for.ensures.joints at c.put.ensures in
     let none : joint_at w.plain.joints c.in_ok-handle.handle.slot ≡ None = rw slot (free_joint w (kept_of _ _ c.self.invariant.whole)) in
-    let least : lowest w.plain.joint_places ≤ length w.plain.joint_places = lowest-le-length w.plain.joint_places in
-    let slots : length w.plain.joint_places ≡ length w.plain.joints = (kept_of _ _ c.self.invariant.whole).joint_slots.slots in
+    let least : lowest w.plain.joint_entries ≤ length w.plain.joint_entries = lowest-le-length w.plain.joint_entries in
+    let slots : length w.plain.joint_entries ≡ length w.plain.joints = (kept_of _ _ c.self.invariant.whole).joint_slots.slots in
     let le : c.in_ok-handle.handle.slot ≤ length w.plain.joints = rw slot (omega (arith, least, slots)) in
     core_joined w _ _ _ c.self.inside.bodies c.mark.new.self c.in_ok-handle.handle.slot c.make-joint.result c.self.invariant
     (rw (c.in_ok-handle.ensures.given_out, c.put.ensures, c.mark.ensures.bodies, c.begin_with.ensures.acting, same_handle c.in_ok-handle.handle (next_joint w.plain) slot generation, c.joint_movers-movers.ensures, c.bodies-2.ensures, c.wake_planned.ensures.told, c.wake_planned.ensures.acting, (rw (← c.self.view_is) at c.in_ok-waking.ensures.names), c.in_ok-reserve.ensures.acting, c.in_ok-reserve_one.ensures.kept, c.in_ok-reserve_for.ensures.joints, c.make-joint.ensures)
     (whole w _ _ _ (join_left w c.self.inside.sets.acting c.args.def.now (kept_of _ _ c.self.invariant.whole) c.self.invariant.whole.same calls free is)))
     refl refl none le
     (marked_after c.self.inside.bodies c.wake_planned.new.bodies c.mark.new.self c.wake_planned.ensures.marked c.mark.ensures.marked) c.mark.ensures.there put refl
-    c.self.inside.anchors (tell_fewer c.self.inside.anchors.holds c.self.inside.anchors.lists c.self.inside.sets.acting.ties _ (fewer_reserved c.self.inside.sets.acting c.reserve.new.self.acting c.begin_with.new.sets.acting c.in_ok-reserve.ensures.acting
+    c.self.inside.anchors (complete_with_fewer c.self.inside.anchors.holds c.self.inside.anchors.lists c.self.inside.sets.acting.ties _ (fewer_reserved c.self.inside.sets.acting c.reserve.new.self.acting c.begin_with.new.sets.acting c.in_ok-reserve.ensures.acting
     (fewer_joined c.in_ok-handle.handle c.joint_movers-movers.result c.in_ok-waking.waking.names.items c.reserve.new.self.acting c.wake_planned.new.sets.acting c.begin_with.new.sets.acting c.wake_planned.ensures.acting c.begin_with.ensures.acting)) c.self.invariant.anchored)
 
 pub returns : goal.returns
@@ -81,7 +81,7 @@ returns c =
     let calls : c.self.inside.calls < 2 ^ 40 = rw (← c.self.view_is) at c.requires in
     let slot = rw c.in_ok-reserve_one.ensures.kept at c.in_ok-handle.ensures.slot in
     let generation = rw c.in_ok-reserve_one.ensures.kept at c.in_ok-handle.ensures.generation in
-    let free : lowest w.plain.joint_places < MAX_SLOTS = rw slot at c.in_ok-handle.ensures.slot_below in
+    let free : lowest w.plain.joint_entries < MAX_SLOTS = rw slot at c.in_ok-handle.ensures.slot_below in
     let is : IsBodyJoint w.plain.bodies (joint_made c.args.def.now) = rw c.bodies.ensures at c.in_ok-check_join.ensures.joint in
     let due = rw c.bodies.ensures at c.in_ok-check_join.ensures.refusal in
     rw (← c.self.view_is, c.in_ok-handle.ensures.given_out, c.put.ensures, c.mark.ensures.bodies, c.begin_with.ensures.acting, same_handle c.in_ok-handle.handle (next_joint w.plain) slot generation, c.joint_movers-movers.ensures, c.bodies-2.ensures, c.wake_planned.ensures.told, c.wake_planned.ensures.acting, (rw (← c.self.view_is) at c.in_ok-waking.ensures.names), c.in_ok-reserve.ensures.acting, c.in_ok-reserve_one.ensures.kept, c.in_ok-reserve_for.ensures.joints, c.make-joint.ensures)

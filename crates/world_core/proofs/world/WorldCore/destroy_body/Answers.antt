@@ -2,21 +2,21 @@ use Rattle.std.proofs.Common.{◌≡◌, ◌∙◌, ◌<◌, ◌^◌, Some, sym,
 use Rattle.contacts_base.specs.Contacts.{contacts_without}
 use Rattle.solver_sets.specs.Ties.{JointSlots}
 use Rattle.world_rules.specs.World.{World, body_named}
-use Rattle.world_rules.proofs.BookLemmas.{Fits-roomy}
-use Rattle.world_rules.proofs.KeptChanges.{IsRoomy-kept, IsRoomy-same, named_at}
+use Rattle.world_rules.proofs.KeptChanges.{named_at}
 use Rattle.world_core.specs.contracts.world.WorldCore.{the_view}
 use Rattle.world_core.proofs.Whole.{told_whole}
 use Rattle.world_core.proofs.GoingLaws.{IsGoing, is_going, there_still}
 use Rattle.world_core.proofs.LeavingLaws.{destroyed_quietly}
-use Rattle.world_core.proofs.PartLaws.{destroy_answers, kept_of, whole}
+use Rattle.world_core.proofs.PartLaws.{destroy_answers, entry_fits, kept_of, whole}
 use Rattle.plain_world.specs.declared.body.Body.{Body}
 use Rattle.plain_world.specs.Slots.{body_at}
 use Rattle.solver_sets.proofs.SlotLemmas.{item_at-set_none}
 use Rattle.world_core.proofs.CoreLaws.{core_destroyed}
 use Rattle.world_core.proofs.KnownLaws.{marked_after}
 use Rattle.world_core.proofs.FewerTies.{fewer_left}
-use Rattle.solver_sets.proofs.FewerAnchoredLaws.{tell_fewer}
+use Rattle.solver_sets.proofs.FewerAnchoredLaws.{complete_with_fewer}
 use Rattle.world_core.proofs.world.WorldCore.destroy_body.Goals as goal
+use Rattle.world_core.proofs.world.WorldCore.destroy_body.Goals.{After-deref-2}
 
 pub wake_planned-requires-clause-movers : goal.wake_planned-requires-clause-movers
 wake_planned-requires-clause-movers c = rw (← c.self.view_is) at c.in_ok-waking.ensures.movers
@@ -24,10 +24,10 @@ wake_planned-requires-clause-movers c = rw (← c.self.view_is) at c.in_ok-wakin
 pub wake_planned-requires-clause-told : goal.wake_planned-requires-clause-told
 wake_planned-requires-clause-told c = (told_whole (the_view c.self.inside) _ c.self.invariant.whole)
 
-named : (c : goal.After-deref-2) → body_named (the_view c.self.inside).plain c.args.handle ≡ Some c.in-Some.body.now
+named : (c : After-deref-2) → body_named (the_view c.self.inside).plain c.args.handle ≡ Some c.in-Some.body.now
 named c = rw (← c.bodies.ensures) (sym c.in-Some.ensures)
 
-going : (c : goal.After-deref-2) → IsGoing (the_view c.self.inside) c.self.inside.sets.acting c.wake_planned.new.sets.acting c.args.handle c.in-Some.body.now c.is_mover-mover.result c.deref-2.result.now
+going : (c : After-deref-2) → IsGoing (the_view c.self.inside) c.self.inside.sets.acting c.wake_planned.new.sets.acting c.args.handle c.in-Some.body.now c.is_mover-mover.result c.deref-2.result.now
 going c =
     is_going (the_view c.self.inside) c.self.inside.sets.acting _ c.args.handle c.in-Some.body.now _ _ c.in_ok-waking.waking.names.items c.self.invariant.whole (named c) c.is_mover-mover.ensures (c.deref-2.ensures.value ∙ rw (← c.self.view_is) at c.in_ok-ties.ensures.ties) (rw (← c.self.view_is) at c.in_ok-waking.ensures.names)
     c.wake_planned.ensures.acting
@@ -46,36 +46,35 @@ clear-requires c = there_still (the_view c.self.inside) c.args.handle c.in-Some.
 
 pub book-requires-clause-fits : goal.book-requires-clause-fits
 book-requires-clause-fits c =
-    Fits-roomy c.reserve.new.self _ (IsRoomy-same _ _ c.in_ok-reserve.ensures.entries c.in_ok-reserve.ensures.settled (IsRoomy-kept (the_view c.self.inside) 0 (kept_of _ _ c.self.invariant.whole)))
-    (omega (arith, c.loss_of.ensures.small_x)) (omega (arith, c.loss_of.ensures.small_y))
+    entry_fits (the_view c.self.inside) _ c.reserve.new.self _ c.self.invariant.whole c.in_ok-reserve.ensures.entries c.in_ok-reserve.ensures.settled (omega (arith, c.loss_of.ensures.small_x)) (omega (arith, c.loss_of.ensures.small_y))
 
 pub invariant_of-self-2 : goal.invariant_of-self-2
 invariant_of-self-2 c =
     let w : World = the_view c.self.inside in
-    let named : body_named w.plain c.args.handle ≡ Some c.in-Some.body.now = rw (← c.bodies.ensures) (sym c.in-Some.ensures) in
-    let going : IsGoing w c.self.inside.sets.acting c.wake_planned.new.sets.acting c.args.handle c.in-Some.body.now c.is_mover-mover.result c.deref-2.result.now =
-    is_going w c.self.inside.sets.acting _ c.args.handle c.in-Some.body.now _ _ c.in_ok-waking.waking.names.items c.self.invariant.whole named c.is_mover-mover.ensures (c.deref-2.ensures.value ∙ rw (← c.self.view_is) at c.in_ok-ties.ensures.ties) (rw (← c.self.view_is) at c.in_ok-waking.ensures.names) c.wake_planned.ensures.acting in
+    let left = (goal.at.invariant_of-self-2 c).After-deref-2 in
+    let is_named : body_named w.plain c.args.handle ≡ Some c.in-Some.body.now = named left in
+    let leaving : IsGoing w c.self.inside.sets.acting c.wake_planned.new.sets.acting c.args.handle c.in-Some.body.now c.is_mover-mover.result c.deref-2.result.now = going left in
     let calls : c.self.inside.calls < 2 ^ 40 = rw (← c.self.view_is) at c.requires in
-    let places = ap (λ (s : JointSlots). s.places) c.drop_joints.ensures.gone in
+    let slot_entries = ap (λ (s : JointSlots). s.slot_entries) c.drop_joints.ensures.gone in
     let joints = ap (λ (s : JointSlots). s.joints) c.drop_joints.ensures.gone in
     let none : body_at c.clear.new.self.bodies c.args.handle.slot ≡ None = ap (λ (bs : List (Option Body)). body_at bs c.args.handle.slot) c.clear.ensures.bodies ∙ item_at-set_none c.wake_planned.new.bodies.bodies c.args.handle.slot in
     core_destroyed w _ _ _ c.self.inside.bodies c.clear.new.self c.args.handle.slot c.in-Some.body.now c.self.invariant
-    (rw (c.book.ensures.entries, c.book.ensures.settled, c.loss_of.ensures.x, c.loss_of.ensures.y, c.mover_momentum-p.ensures, c.in_ok-reserve.ensures.entries, c.in_ok-reserve.ensures.settled, c.clear.ensures.bodies, places, joints, c.drop_of_body.ensures, c.in_ok-reserve_drop.ensures.contacts, c.remove.ensures.taken_back, c.wake_planned.ensures.told, going.bodies, c.leave.ensures.acting, going.gone)
-    (whole w _ _ _ (destroyed_quietly w c.self.inside.sets.acting c.args.handle c.in-Some.body.now (kept_of _ _ c.self.invariant.whole) c.self.invariant.whole.same calls named)))
-    refl refl (named_at w.plain c.args.handle c.in-Some.body.now named) none
+    (rw (c.book.ensures.entries, c.book.ensures.settled, c.loss_of.ensures.x, c.loss_of.ensures.y, c.mover_momentum-p.ensures, c.in_ok-reserve.ensures.entries, c.in_ok-reserve.ensures.settled, c.clear.ensures.bodies, slot_entries, joints, c.drop_of_body.ensures, c.in_ok-reserve_drop.ensures.contacts, c.remove.ensures.taken_back, c.wake_planned.ensures.told, leaving.bodies, c.leave.ensures.acting, leaving.gone)
+    (whole w _ _ _ (destroyed_quietly w c.self.inside.sets.acting c.args.handle c.in-Some.body.now (kept_of _ _ c.self.invariant.whole) c.self.invariant.whole.same calls is_named)))
+    refl refl (named_at w.plain c.args.handle c.in-Some.body.now is_named) none
     (marked_after c.self.inside.bodies c.wake_planned.new.bodies c.clear.new.self c.wake_planned.ensures.marked c.clear.ensures.marked) joints (c.drop_of_body.ensures ∙ ap (contacts_without c.args.handle.slot) c.in_ok-reserve_drop.ensures.contacts)
-    c.self.inside.anchors (tell_fewer c.self.inside.anchors.holds c.self.inside.anchors.lists c.self.inside.sets.acting.ties _ (fewer_left c.is_mover-mover.result c.args.handle.slot c.in_ok-waking.waking.names.items c.deref-2.result.now c.self.inside.sets.acting c.wake_planned.new.sets.acting c.leave.new.sets.acting c.wake_planned.ensures.acting c.leave.ensures.acting) c.self.invariant.anchored)
+    c.self.inside.anchors (complete_with_fewer c.self.inside.anchors.holds c.self.inside.anchors.lists c.self.inside.sets.acting.ties _ (fewer_left c.is_mover-mover.result c.args.handle.slot c.in_ok-waking.waking.names.items c.deref-2.result.now c.self.inside.sets.acting c.wake_planned.new.sets.acting c.leave.new.sets.acting c.wake_planned.ensures.acting c.leave.ensures.acting) c.self.invariant.anchored)
 
 pub returns : goal.returns
 returns c =
     let w : World = the_view c.self.inside in
-    let named : body_named w.plain c.args.handle ≡ Some c.in-Some.body.now = rw (← c.bodies.ensures) (sym c.in-Some.ensures) in
-    let going : IsGoing w c.self.inside.sets.acting c.wake_planned.new.sets.acting c.args.handle c.in-Some.body.now c.is_mover-mover.result c.deref-2.result.now =
-    is_going w c.self.inside.sets.acting _ c.args.handle c.in-Some.body.now _ _ c.in_ok-waking.waking.names.items c.self.invariant.whole named c.is_mover-mover.ensures (c.deref-2.ensures.value ∙ rw (← c.self.view_is) at c.in_ok-ties.ensures.ties) (rw (← c.self.view_is) at c.in_ok-waking.ensures.names) c.wake_planned.ensures.acting in
+    let left = (goal.at.returns c).After-deref-2 in
+    let is_named : body_named w.plain c.args.handle ≡ Some c.in-Some.body.now = named left in
+    let leaving : IsGoing w c.self.inside.sets.acting c.wake_planned.new.sets.acting c.args.handle c.in-Some.body.now c.is_mover-mover.result c.deref-2.result.now = going left in
     let calls : c.self.inside.calls < 2 ^ 40 = rw (← c.self.view_is) at c.requires in
-    let places = ap (λ (s : JointSlots). s.places) c.drop_joints.ensures.gone in
+    let slot_entries = ap (λ (s : JointSlots). s.slot_entries) c.drop_joints.ensures.gone in
     let joints = ap (λ (s : JointSlots). s.joints) c.drop_joints.ensures.gone in
     rw (← c.self.view_is)
-    (destroy_answers w c.args.handle c.in-Some.body.now _ c.leave.new.sets.acting named
-    (rw (c.book.ensures.entries, c.book.ensures.settled, c.loss_of.ensures.x, c.loss_of.ensures.y, c.mover_momentum-p.ensures, c.in_ok-reserve.ensures.entries, c.in_ok-reserve.ensures.settled, c.clear.ensures.bodies, places, joints, c.drop_of_body.ensures, c.in_ok-reserve_drop.ensures.contacts, c.remove.ensures.taken_back, c.wake_planned.ensures.told, going.bodies, c.leave.ensures.acting, going.gone)
-    (destroyed_quietly w c.self.inside.sets.acting c.args.handle c.in-Some.body.now (kept_of _ _ c.self.invariant.whole) c.self.invariant.whole.same calls named)))
+    (destroy_answers w c.args.handle c.in-Some.body.now _ c.leave.new.sets.acting is_named
+    (rw (c.book.ensures.entries, c.book.ensures.settled, c.loss_of.ensures.x, c.loss_of.ensures.y, c.mover_momentum-p.ensures, c.in_ok-reserve.ensures.entries, c.in_ok-reserve.ensures.settled, c.clear.ensures.bodies, slot_entries, joints, c.drop_of_body.ensures, c.in_ok-reserve_drop.ensures.contacts, c.remove.ensures.taken_back, c.wake_planned.ensures.told, leaving.bodies, c.leave.ensures.acting, leaving.gone)
+    (destroyed_quietly w c.self.inside.sets.acting c.args.handle c.in-Some.body.now (kept_of _ _ c.self.invariant.whole) c.self.invariant.whole.same calls is_named)))

@@ -8,7 +8,7 @@ use Rattle.world_rules.proofs.KeptJoints.{live_joint}
 use Rattle.world_core.proofs.CoreLaws.{core_unjoined}
 use Rattle.world_core.proofs.KnownLaws.{marked_after}
 use Rattle.world_core.proofs.FewerTies.{fewer_unjoined}
-use Rattle.solver_sets.proofs.FewerAnchoredLaws.{tell_fewer}
+use Rattle.solver_sets.proofs.FewerAnchoredLaws.{complete_with_fewer}
 use Rattle.world_core.proofs.world.WorldCore.destroy_joint.Goals as goal
 
 pub wake_planned-requires-clause-movers : goal.wake_planned-requires-clause-movers
@@ -39,7 +39,7 @@ invariant_of-self c =
     (whole w _ _ _ (unjoin_left w c.self.inside.sets.acting c.args.handle c.in-Some.joint (kept_of _ _ c.self.invariant.whole) c.self.invariant.whole.same calls (sym c.in-Some.ensures))))
     refl refl (live_joint w c.args.handle c.in-Some.joint (sym c.in-Some.ensures)).1
     (marked_after c.self.inside.bodies c.wake_planned.new.bodies c.mark.new.self c.wake_planned.ensures.marked c.mark.ensures.marked) c.mark.ensures.there c.clear.ensures refl
-    c.self.inside.anchors (tell_fewer c.self.inside.anchors.holds c.self.inside.anchors.lists c.self.inside.sets.acting.ties _ (fewer_unjoined c.args.handle c.joint_movers-movers.result c.in_ok-waking.waking.names.items c.self.inside.sets.acting c.wake_planned.new.sets.acting c.end_with.new.sets.acting c.wake_planned.ensures.acting c.end_with.ensures.acting) c.self.invariant.anchored)
+    c.self.inside.anchors (complete_with_fewer c.self.inside.anchors.holds c.self.inside.anchors.lists c.self.inside.sets.acting.ties _ (fewer_unjoined c.args.handle c.joint_movers-movers.result c.in_ok-waking.waking.names.items c.self.inside.sets.acting c.wake_planned.new.sets.acting c.end_with.new.sets.acting c.wake_planned.ensures.acting c.end_with.ensures.acting) c.self.invariant.anchored)
 
 pub returns : goal.returns
 returns c =

@@ -10,7 +10,7 @@ use Rattle.world_core.proofs.PartLaws.{enable_answers, kept_of, whole, woken_roo
 use Rattle.world_core.proofs.CoreLaws.{core_bodies}
 use Rattle.world_core.proofs.KnownLaws.{marked_after}
 use Rattle.world_core.proofs.FewerTies.{fewer_enabled, fewer_reserved, joints_have_none}
-use Rattle.solver_sets.proofs.FewerAnchoredLaws.{tell_fewer}
+use Rattle.solver_sets.proofs.FewerAnchoredLaws.{complete_with_fewer}
 use Rattle.world_core.proofs.world.WorldCore.enable.Goals as goal
 
 pub wake_planned-requires-clause-movers : goal.wake_planned-requires-clause-movers
@@ -57,7 +57,7 @@ pub begin_each-requires-clause-can : goal.begin_each-requires-clause-can
 begin_each-requires-clause-can c =
     let w : World = the_view c.self.inside in
     let named : body_named w.plain c.args.handle ≡ Some c.in-Some.body.now = rw (← c.bodies.ensures) (sym c.in-Some.ensures) in
-    rw (c.deref-4.ensures.value, c.fill_joint_ties.ensures.ties, c.bodies-4.ensures, c.places.ensures, c.joints-2.ensures, c.enable.ensures.bodies, c.come.ensures.acting, c.is_dynamic-mover.ensures, c.wake_planned.ensures.told, c.wake_planned.ensures.acting, c.in_ok-reserve.ensures.acting, (rw (← c.self.view_is) at c.in_ok-waking.ensures.names), c.deref-2.ensures.value, c.in_ok-joined.ensures.slots, c.bodies-2.ensures, c.joints.ensures)
+    rw (c.deref-4.ensures.value, c.fill_joint_ties.ensures.ties, c.bodies-4.ensures, c.slot_entries.ensures, c.joints-2.ensures, c.enable.ensures.bodies, c.come.ensures.acting, c.is_dynamic-mover.ensures, c.wake_planned.ensures.told, c.wake_planned.ensures.acting, c.in_ok-reserve.ensures.acting, (rw (← c.self.view_is) at c.in_ok-waking.ensures.names), c.deref-2.ensures.value, c.in_ok-joined.ensures.slots, c.bodies-2.ensures, c.joints.ensures)
     (can_enable_from w c.self.inside.sets.acting c.args.handle c.in-Some.body.now c.self.invariant.whole named c.if-body.false).can
 
 pub begin_each-requires-clause-room : goal.begin_each-requires-clause-room
@@ -73,11 +73,11 @@ invariant_of-self-2 c =
     let named : body_named w.plain c.args.handle ≡ Some c.in-Some.body.now = rw (← c.bodies.ensures) (sym c.in-Some.ensures) in
     let calls : c.self.inside.calls < 2 ^ 40 = rw (← c.self.view_is) at c.requires in
     core_bodies (the_view c.self.inside) _ _ _ c.self.inside.bodies c.enable.new.self c.self.invariant
-    (rw (c.begin_each.ensures.acting, c.deref-4.ensures.value, c.fill_joint_ties.ensures.ties, c.bodies-4.ensures, c.places.ensures, c.joints-2.ensures, c.enable.ensures.bodies, c.come.ensures.acting, c.is_dynamic-mover.ensures, c.wake_planned.ensures.told, c.wake_planned.ensures.acting, c.in_ok-reserve.ensures.acting, (rw (← c.self.view_is) at c.in_ok-waking.ensures.names), c.deref-2.ensures.value, c.in_ok-joined.ensures.slots, c.bodies-2.ensures, c.joints.ensures)
+    (rw (c.begin_each.ensures.acting, c.deref-4.ensures.value, c.fill_joint_ties.ensures.ties, c.bodies-4.ensures, c.slot_entries.ensures, c.joints-2.ensures, c.enable.ensures.bodies, c.come.ensures.acting, c.is_dynamic-mover.ensures, c.wake_planned.ensures.told, c.wake_planned.ensures.acting, c.in_ok-reserve.ensures.acting, (rw (← c.self.view_is) at c.in_ok-waking.ensures.names), c.deref-2.ensures.value, c.in_ok-joined.ensures.slots, c.bodies-2.ensures, c.joints.ensures)
     (whole w _ _ _ (enable_left w c.self.inside.sets.acting c.args.handle c.in-Some.body.now (kept_of _ _ c.self.invariant.whole) c.self.invariant.whole.same calls named c.if-body.false)))
     refl refl refl refl
     (marked_after c.self.inside.bodies c.wake_planned.new.bodies c.enable.new.self c.wake_planned.ensures.marked c.enable.ensures.marked)
-    c.self.inside.anchors (tell_fewer c.self.inside.anchors.holds c.self.inside.anchors.lists c.self.inside.sets.acting.ties _ (fewer_reserved c.self.inside.sets.acting c.reserve.new.self.acting c.begin_each.new.self.acting c.in_ok-reserve.ensures.acting
+    c.self.inside.anchors (complete_with_fewer c.self.inside.anchors.holds c.self.inside.anchors.lists c.self.inside.sets.acting.ties _ (fewer_reserved c.self.inside.sets.acting c.reserve.new.self.acting c.begin_each.new.self.acting c.in_ok-reserve.ensures.acting
     (fewer_enabled c.is_dynamic-mover.result c.args.handle.slot c.in_ok-waking.waking.names.items c.deref-4.result.now c.reserve.new.self.acting c.wake_planned.new.sets.acting c.come.new.sets.acting c.begin_each.new.self.acting
     (joints_have_none c.deref-4.result.now c.args.handle.slot _ _ (c.deref-4.ensures.value ∙ c.fill_joint_ties.ensures.ties)) c.wake_planned.ensures.acting c.come.ensures.acting c.begin_each.ensures.acting)) c.self.invariant.anchored)
 
@@ -88,5 +88,5 @@ returns c =
     let calls : c.self.inside.calls < 2 ^ 40 = rw (← c.self.view_is) at c.requires in
     rw (← c.self.view_is)
     (enable_answers w c.args.handle c.in-Some.body.now _ c.begin_each.new.self.acting named
-    (rw (c.begin_each.ensures.acting, c.deref-4.ensures.value, c.fill_joint_ties.ensures.ties, c.bodies-4.ensures, c.places.ensures, c.joints-2.ensures, c.enable.ensures.bodies, c.come.ensures.acting, c.is_dynamic-mover.ensures, c.wake_planned.ensures.told, c.wake_planned.ensures.acting, c.in_ok-reserve.ensures.acting, (rw (← c.self.view_is) at c.in_ok-waking.ensures.names), c.deref-2.ensures.value, c.in_ok-joined.ensures.slots, c.bodies-2.ensures, c.joints.ensures)
+    (rw (c.begin_each.ensures.acting, c.deref-4.ensures.value, c.fill_joint_ties.ensures.ties, c.bodies-4.ensures, c.slot_entries.ensures, c.joints-2.ensures, c.enable.ensures.bodies, c.come.ensures.acting, c.is_dynamic-mover.ensures, c.wake_planned.ensures.told, c.wake_planned.ensures.acting, c.in_ok-reserve.ensures.acting, (rw (← c.self.view_is) at c.in_ok-waking.ensures.names), c.deref-2.ensures.value, c.in_ok-joined.ensures.slots, c.bodies-2.ensures, c.joints.ensures)
     (enable_left w c.self.inside.sets.acting c.args.handle c.in-Some.body.now (kept_of _ _ c.self.invariant.whole) c.self.invariant.whole.same calls named c.if-body.false)))

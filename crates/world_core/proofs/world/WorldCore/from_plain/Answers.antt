@@ -14,9 +14,9 @@ pub invariant_of-result : goal.invariant_of-result
 invariant_of-result c =
     let p = c.args.plain.now in
     let x : Parts = record {
-      places = c.in_ok-from_places.field-0.places;
+      slot_entries = c.in_ok-from_slot_entries.field-0.slot_entries;
       bodies = c.in_ok-from_bodies.field-0.bodies;
-      joint_places = c.in_ok-from_places-2.field-0.places;
+      joint_entries = c.in_ok-from_slot_entries-2.field-0.slot_entries;
       joints = c.in_ok-from_joints.field-0.joints;
       contacts = c.in_ok-from_contacts.field-0.contacts;
       acts = c.in_ok-sets_of.field-0.acting;
@@ -28,9 +28,9 @@ invariant_of-result c =
       events = c.new-4.result;
     } in
     made_core p c.args.totals x c.in_ok-from_bodies.field-0.marks c.requires.sound (record {
-      places_are = c.in_ok-from_places.ensures.places ∙ c.places.ensures;
+      places_are = c.in_ok-from_slot_entries.ensures.slot_entries ∙ c.slot_entries.ensures;
       bodies_are = c.in_ok-from_bodies.ensures.bodies ∙ c.bodies.ensures;
-      joint_places_are = c.in_ok-from_places-2.ensures.places ∙ c.joint_places.ensures;
+      joint_places_are = c.in_ok-from_slot_entries-2.ensures.slot_entries ∙ c.joint_entries.ensures;
       joints_are = c.in_ok-from_joints.ensures.joints ∙ c.joints.ensures;
       contacts_are = c.in_ok-from_contacts.ensures.contacts ∙ c.in_ok-contacts_of.ensures.contacts;
       acts_are = c.in_ok-sets_of.ensures.acting;
@@ -47,9 +47,9 @@ pub returns-clause-made : goal.returns-clause-made
 returns-clause-made c =
     let p = c.args.plain.now in
     let x : Parts = record {
-      places = c.in_ok-from_places.field-0.places;
+      slot_entries = c.in_ok-from_slot_entries.field-0.slot_entries;
       bodies = c.in_ok-from_bodies.field-0.bodies;
-      joint_places = c.in_ok-from_places-2.field-0.places;
+      joint_entries = c.in_ok-from_slot_entries-2.field-0.slot_entries;
       joints = c.in_ok-from_joints.field-0.joints;
       contacts = c.in_ok-from_contacts.field-0.contacts;
       acts = c.in_ok-sets_of.field-0.acting;
@@ -61,9 +61,9 @@ returns-clause-made c =
       events = c.new-4.result;
     } in
     made_same p c.args.totals x c.requires.sound (record {
-      places_are = c.in_ok-from_places.ensures.places ∙ c.places.ensures;
+      places_are = c.in_ok-from_slot_entries.ensures.slot_entries ∙ c.slot_entries.ensures;
       bodies_are = c.in_ok-from_bodies.ensures.bodies ∙ c.bodies.ensures;
-      joint_places_are = c.in_ok-from_places-2.ensures.places ∙ c.joint_places.ensures;
+      joint_places_are = c.in_ok-from_slot_entries-2.ensures.slot_entries ∙ c.joint_entries.ensures;
       joints_are = c.in_ok-from_joints.ensures.joints ∙ c.joints.ensures;
       contacts_are = c.in_ok-from_contacts.ensures.contacts ∙ c.in_ok-contacts_of.ensures.contacts;
       acts_are = c.in_ok-sets_of.ensures.acting;

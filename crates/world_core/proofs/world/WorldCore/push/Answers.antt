@@ -2,15 +2,14 @@ use Rattle.std.proofs.Common.{◌≡◌, ◌<◌, ◌^◌, [], ◌∷◌, Ok, sy
 use Rattle.std.proofs.lemmas.Int.{ints}
 use Rattle.plain_world.specs.Slots as slots
 use Rattle.world_rules.specs.Apply.{pushed}
-use Rattle.world_rules.proofs.BookLemmas.{Fits-roomy}
-use Rattle.world_rules.proofs.KeptChanges.{IsRoomy-kept, IsRoomy-same}
 use Rattle.world_rules.proofs.SoundLaws.{kept_sound}
 use Rattle.world_core.specs.contracts.world.WorldCore.{the_view}
 use Rattle.world_core.proofs.Whole.{HasWoken, has_woken, push_whole, told_whole}
 use Rattle.world_core.proofs.CoreLaws.{core_bodies}
+use Rattle.world_core.proofs.PartLaws.{entry_fits}
 use Rattle.world_core.proofs.KnownLaws.{marked_after}
 use Rattle.world_core.proofs.FewerTies.{fewer_woken}
-use Rattle.solver_sets.proofs.FewerAnchoredLaws.{tell_fewer}
+use Rattle.solver_sets.proofs.FewerAnchoredLaws.{complete_with_fewer}
 use Rattle.world_core.proofs.world.WorldCore.push.Goals as goal
 
 pub wake_planned-requires-clause-movers : goal.wake_planned-requires-clause-movers
@@ -27,13 +26,13 @@ change-requires-clause-slot c = rw (c.wake_planned.ensures.count, ← c.bodies.e
 
 pub book-requires-clause-fits : goal.book-requires-clause-fits
 book-requires-clause-fits c =
-    Fits-roomy c.reserve.new.self _ (IsRoomy-same _ _ c.in_ok-reserve.ensures.entries c.in_ok-reserve.ensures.settled (IsRoomy-kept (the_view c.self.inside) 0 (kept_sound _ c.self.invariant.whole.sound)))
+    entry_fits (the_view c.self.inside) _ c.reserve.new.self _ c.self.invariant.whole c.in_ok-reserve.ensures.entries c.in_ok-reserve.ensures.settled
     (rw c.gain_of.ensures.x (omega (arith, ints))) (rw c.gain_of.ensures.y (omega (arith, ints)))
 
 pub invariant_of-self-2 : goal.invariant_of-self-2
 invariant_of-self-2 c =
     let calls : c.self.inside.calls < 2 ^ 40 = rw (← c.self.view_is) at c.requires in
-    let due : pushed (slots.body_of c.self.inside.handles.places c.self.inside.bodies.bodies c.args.handle) c.args.by c.args.offset ≡ Ok c.in_ok-momenta.momenta = rw (← c.bodies.ensures) (sym c.in_ok-momenta.ensures.value) in
+    let due : pushed (slots.body_of c.self.inside.handles.slot_entries c.self.inside.bodies.bodies c.args.handle) c.args.by c.args.offset ≡ Ok c.in_ok-momenta.momenta = rw (← c.bodies.ensures) (sym c.in_ok-momenta.ensures.value) in
     let woke : HasWoken (the_view c.self.inside) (c.args.handle.slot ∷ []) c.wake_planned.new.sets.acting c.wake_planned.new.bodies.bodies =
     has_woken (the_view c.self.inside) (c.args.handle.slot ∷ []) _ c.self.inside.sets.acting _ _ c.self.invariant.whole (rw (← c.self.view_is) at c.in_ok-waking.ensures.names) c.wake_planned.ensures.acting c.wake_planned.ensures.told in
     core_bodies (the_view c.self.inside) _ _ _ c.self.inside.bodies c.change.new.self c.self.invariant
@@ -41,4 +40,4 @@ invariant_of-self-2 c =
     (push_whole (the_view c.self.inside) c.args.handle c.args.by c.args.offset c.in_ok-momenta.momenta c.self.inside.sets.acting _ _ c.self.invariant.whole calls woke due))
     refl refl refl refl
     (marked_after c.self.inside.bodies c.wake_planned.new.bodies c.change.new.self c.wake_planned.ensures.marked c.change.ensures.marked)
-    c.self.inside.anchors (tell_fewer c.self.inside.anchors.holds c.self.inside.anchors.lists c.self.inside.sets.acting.ties _ (fewer_woken c.in_ok-waking.waking.names.items c.self.inside.sets.acting c.wake_planned.new.sets.acting c.wake_planned.ensures.acting) c.self.invariant.anchored)
+    c.self.inside.anchors (complete_with_fewer c.self.inside.anchors.holds c.self.inside.anchors.lists c.self.inside.sets.acting.ties _ (fewer_woken c.in_ok-waking.waking.names.items c.self.inside.sets.acting c.wake_planned.new.sets.acting c.wake_planned.ensures.acting) c.self.invariant.anchored)

@@ -2,27 +2,25 @@ use Rattle.std.proofs.Common.{◌≡◌, ◌<◌, ◌^◌, ◌+◌, arith, None,
 use Rattle.std.proofs.lemmas.Int.{ints}
 use Rattle.plain_world.specs.Slots.{body_of}
 use Rattle.world_rules.specs.Apply.{mover_refusal}
-use Rattle.world_rules.proofs.BookLemmas.{Fits-roomy}
-use Rattle.world_rules.proofs.KeptChanges.{IsRoomy-kept, IsRoomy-same}
-use Rattle.world_rules.proofs.SoundLaws.{kept_sound}
 use Rattle.world_core.specs.contracts.world.WorldCore.{the_view}
 use Rattle.world_core.proofs.Whole.{rest_booked, sleep_answers, sleep_whole, told_whole}
 use Rattle.world_core.proofs.CoreLaws.{core_bodies}
-use Rattle.world_core.proofs.StepLaws.{settled_found}
+use Rattle.world_core.proofs.PartLaws.{entry_fits}
+use Rattle.world_core.proofs.StepLaws.{consistent_found}
 use Rattle.world_core.proofs.FewerTies.{fewer_slept}
-use Rattle.solver_sets.proofs.FewerAnchoredLaws.{tell_fewer}
+use Rattle.solver_sets.proofs.FewerAnchoredLaws.{complete_with_fewer}
 use Rattle.world_core.proofs.world.WorldCore.sleep.Goals as goal
 
 pub put_to_sleep-rest-requires-clause-movers : goal.put_to_sleep-rest-requires-clause-movers
 put_to_sleep-rest-requires-clause-movers c = rw c.deref.ensures.value c.in_ok-movers.ensures.island
 
-pub put_to_sleep-rest-requires-clause-settled : goal.put_to_sleep-rest-requires-clause-settled
-put_to_sleep-rest-requires-clause-settled c = settled_found (the_view c.self.inside) c.self.inside.sets.acting c.self.inside.sets.acting c.self.invariant.whole refl
+pub put_to_sleep-rest-requires-clause-consistent : goal.put_to_sleep-rest-requires-clause-consistent
+put_to_sleep-rest-requires-clause-consistent c = consistent_found (the_view c.self.inside) c.self.inside.sets.acting c.self.inside.sets.acting c.self.invariant.whole refl
 
 pub book-requires-clause-fits : goal.book-requires-clause-fits
 book-requires-clause-fits c =
     let small = c.put_to_sleep-rest.ensures.small in
-    Fits-roomy c.reserve.new.self _ (IsRoomy-same _ _ c.in_ok-reserve.ensures.entries c.in_ok-reserve.ensures.settled (IsRoomy-kept (the_view c.self.inside) 0 (kept_sound _ c.self.invariant.whole.sound)))
+    entry_fits (the_view c.self.inside) _ c.reserve.new.self _ c.self.invariant.whole c.in_ok-reserve.ensures.entries c.in_ok-reserve.ensures.settled
     (omega (arith, ints, small.x)) (omega (arith, ints, small.y))
 
 pub put_to_sleep-rest-requires-clause-told : goal.put_to_sleep-rest-requires-clause-told
@@ -36,10 +34,10 @@ invariant_of-self-2 c =
     (sleep_whole (the_view c.self.inside) c.args.handle.slot c.self.inside.sets.acting c.put_to_sleep-rest.new.sets.acting _ c.self.invariant.whole calls c.put_to_sleep-rest.ensures.acting c.put_to_sleep-rest.ensures.told))
     refl refl refl refl
     c.put_to_sleep-rest.ensures.marked
-    c.self.inside.anchors (tell_fewer c.self.inside.anchors.holds c.self.inside.anchors.lists c.self.inside.sets.acting.ties _ (fewer_slept c.args.handle.slot c.self.inside.sets.acting c.put_to_sleep-rest.new.sets.acting c.put_to_sleep-rest.ensures.acting) c.self.invariant.anchored)
+    c.self.inside.anchors (complete_with_fewer c.self.inside.anchors.holds c.self.inside.anchors.lists c.self.inside.sets.acting.ties _ (fewer_slept c.args.handle.slot c.self.inside.sets.acting c.put_to_sleep-rest.new.sets.acting c.put_to_sleep-rest.ensures.acting) c.self.invariant.anchored)
 
 pub returns : goal.returns
 returns c =
-    let due : None ≡ mover_refusal (body_of c.self.inside.handles.places c.self.inside.bodies.bodies c.args.handle) = rw c.bodies.ensures at c.in_ok-check_mover.ensures in
+    let due : None ≡ mover_refusal (body_of c.self.inside.handles.slot_entries c.self.inside.bodies.bodies c.args.handle) = rw c.bodies.ensures at c.in_ok-check_mover.ensures in
     rw (← c.self.view_is, c.book.ensures.entries, c.book.ensures.settled, c.in_ok-reserve.ensures.entries, c.in_ok-reserve.ensures.settled, rest_booked (c.self.inside.calls + 1) c.put_to_sleep-rest.new.sets.acting.labels c.self.inside.bodies.bodies c.put_to_sleep-rest.new.bodies.bodies c.put_to_sleep-rest.result c.put_to_sleep-rest.ensures.told c.put_to_sleep-rest.ensures.momentum)
     (sleep_answers (the_view c.self.inside) c.args.handle c.self.inside.sets.acting c.put_to_sleep-rest.new.sets.acting _ c.self.invariant.whole due c.put_to_sleep-rest.ensures.acting c.put_to_sleep-rest.ensures.told)

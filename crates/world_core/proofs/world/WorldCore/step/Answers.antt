@@ -5,9 +5,9 @@ use Rattle.std.proofs.lemmas.Int.{to_z-of_z}
 use Rattle.std.specs.Vec.{vec_capacity}
 use Rattle.fixed_geom.specs.declared.refusal.Refusal.TheVariants.{NoMemory}
 use Rattle.std.specs.List.Sorted.{IsStrictlyIncreasing}
-use Rattle.solver_sets.specs.Anchors.{Tell}
+use Rattle.solver_sets.specs.Anchors.{AreComplete}
 use Rattle.body_handles.specs.declared.handle.Handle.{Handle}
-use Rattle.body_handles.specs.declared.places.Place.{Place}
+use Rattle.body_handles.specs.declared.slot_table.SlotEntry.{SlotEntry}
 use Rattle.body_handles.specs.Orders.{slot_of}
 use Rattle.contacts.specs.declared.constraint.Constraint.{Constraint}
 use Rattle.contacts_base.specs.Contacts.{number_of}
@@ -24,11 +24,11 @@ use Rattle.world_rules.proofs.KeptChanges.{IsRoomy-kept, IsRoomy-same}
 use Rattle.world_rules.proofs.KeptStep.{collided_in}
 use Rattle.world_core.specs.contracts.world.WorldCore.{the_view}
 use Rattle.world_core.proofs.PartLaws.{kept_of, whole}
-use Rattle.world_core.proofs.StepLaws.{AreCounted, AreFound, AreLeft, AreTicks, HasSolved, HasTurned, apart_turned, are_counted, bodies_turned, can_solve_turned, can_turn_found, few_solved, few_turned, has_solved, has_turned, is_refusal, movers_turned, room_found, room_turned, settled_found, settled_turned, slept_rise, step_answers, step_is_left, step_refused, tell_solved, ticks_refused, tied_solved, timers_room, timers_solved, told_solved, woke_rise}
+use Rattle.world_core.proofs.StepLaws.{AreCounted, AreFound, AreLeft, AreTicks, HasSolved, HasChanged, apart_changed, are_counted, bodies_changed, can_solve_changed, can_change_found, few_solved, few_changed, has_solved, has_changed, is_refusal, movers_changed, room_found, room_changed, consistent_found, consistent_changed, slept_rise, step_answers, step_is_left, step_refused, tell_solved, ticks_refused, tied_solved, timers_room, timers_solved, told_solved, woke_rise}
 use Rattle.world_core.proofs.CoreLaws.{core_stepped}
 use Rattle.world_core.proofs.KnownLaws.{marked_after}
 use Rattle.world_core.proofs.FewerTies.{fewer_rested}
-use Rattle.solver_sets.proofs.FewerAnchoredLaws.{tell_fewer}
+use Rattle.solver_sets.proofs.FewerAnchoredLaws.{complete_with_fewer}
 use Rattle.world_core.proofs.world.WorldCore.step.Given as given
 use Rattle.world_core.proofs.world.WorldCore.step.Goals as goal
 
@@ -48,8 +48,8 @@ prepare-requires-clause-bodies g c = (kept_of _ _ c.self.invariant.whole).bodies
 pub prepare-requires-clause-known : goal.prepare-requires-clause-known
 prepare-requires-clause-known g c = c.self.invariant.known
 
-pub prepare-requires-clause-settled : goal.prepare-requires-clause-settled
-prepare-requires-clause-settled g c = settled_found (the_view c.self.inside) c.self.inside.sets.acting c.self.inside.sets.acting c.self.invariant.whole refl
+pub prepare-requires-clause-consistent : goal.prepare-requires-clause-consistent
+prepare-requires-clause-consistent g c = consistent_found (the_view c.self.inside) c.self.inside.sets.acting c.self.inside.sets.acting c.self.invariant.whole refl
 
 pub returns-in_err-prepared : goal.returns-in_err-prepared
 returns-in_err-prepared g c =
@@ -64,10 +64,10 @@ found_at_first : (g : given.Over) (c : goal.After-prepared-2-1 g) → AreFound (
 found_at_first g c = rw (c.in_ok-prepared.ensures.begin, c.in_ok-prepared.ensures.end) at c.in_ok-prepared.ensures.changes
 
 pub carry_out-requires-clause-can : goal.carry_out-requires-clause-can
-carry_out-requires-clause-can g c = can_turn_found (the_view c.self.inside) c.self.inside.sets.acting c.prepare.new.sets.acting c.in_ok-prepared.prepared.changes.items c.self.invariant.whole c.in_ok-prepared.ensures.acting (found_at_first g c)
+carry_out-requires-clause-can g c = can_change_found (the_view c.self.inside) c.self.inside.sets.acting c.prepare.new.sets.acting c.in_ok-prepared.prepared.changes.items c.self.invariant.whole c.in_ok-prepared.ensures.acting (found_at_first g c)
 
-pub carry_out-requires-clause-settled : goal.carry_out-requires-clause-settled
-carry_out-requires-clause-settled g c = settled_found (the_view c.self.inside) c.self.inside.sets.acting c.prepare.new.sets.acting c.self.invariant.whole c.in_ok-prepared.ensures.acting
+pub carry_out-requires-clause-consistent : goal.carry_out-requires-clause-consistent
+carry_out-requires-clause-consistent g c = consistent_found (the_view c.self.inside) c.self.inside.sets.acting c.prepare.new.sets.acting c.self.invariant.whole c.in_ok-prepared.ensures.acting
 
 pub carry_out-requires-clause-room : goal.carry_out-requires-clause-room
 carry_out-requires-clause-room g c =
@@ -88,19 +88,19 @@ carry_out-requires-clause-sleepers g c = rw c.in_ok-prepared.ensures.acting c.in
 
 -- ---- the ticks
 
-turned_then : (g : given.Over) (c : goal.After-solve-arg-7-1 g) → HasTurned (the_view c.self.inside) c.carry_out.new.sets.acting c.carry_out.new.bodies.bodies c.carry_out.new.contacts.contacts
-turned_then g c =
-    has_turned (the_view c.self.inside) c.self.inside.sets.acting c.prepare.new.sets.acting c.carry_out.new.sets.acting c.in_ok-prepared.prepared.changes.items c.carry_out.new.bodies.bodies c.carry_out.new.contacts.contacts c.self.invariant.whole c.in_ok-prepared.ensures.acting (rw (c.in_ok-prepared.ensures.begin, c.in_ok-prepared.ensures.end) at c.in_ok-prepared.ensures.changes)
+changed_then : (g : given.Over) (c : goal.After-solve-arg-7-1 g) → HasChanged (the_view c.self.inside) c.carry_out.new.sets.acting c.carry_out.new.bodies.bodies c.carry_out.new.contacts.contacts
+changed_then g c =
+    has_changed (the_view c.self.inside) c.self.inside.sets.acting c.prepare.new.sets.acting c.carry_out.new.sets.acting c.in_ok-prepared.prepared.changes.items c.carry_out.new.bodies.bodies c.carry_out.new.contacts.contacts c.self.invariant.whole c.in_ok-prepared.ensures.acting (rw (c.in_ok-prepared.ensures.begin, c.in_ok-prepared.ensures.end) at c.in_ok-prepared.ensures.changes)
     c.carry_out.ensures.acting (rw c.in_ok-prepared.ensures.bodies at c.carry_out.ensures.bodies) (c.carry_out.ensures.contacts ∙ c.in_ok-prepared.ensures.due)
 
 pub solve-sums-requires-clause-few : goal.solve-sums-requires-clause-few
-solve-sums-requires-clause-few g c = few_turned (the_view c.self.inside) c.self.inside.sets.acting c.carry_out.new.sets.acting c.carry_out.new.bodies.bodies c.carry_out.new.contacts.contacts c.self.invariant.whole (turned_then g c)
+solve-sums-requires-clause-few g c = few_changed (the_view c.self.inside) c.self.inside.sets.acting c.carry_out.new.sets.acting c.carry_out.new.bodies.bodies c.carry_out.new.contacts.contacts c.self.invariant.whole (changed_then g c)
 
 pub solve-sums-requires-clause-bodies : goal.solve-sums-requires-clause-bodies
-solve-sums-requires-clause-bodies g c = bodies_turned (the_view c.self.inside) c.self.inside.sets.acting c.carry_out.new.sets.acting c.carry_out.new.bodies.bodies c.carry_out.new.contacts.contacts c.self.invariant.whole (turned_then g c)
+solve-sums-requires-clause-bodies g c = bodies_changed (the_view c.self.inside) c.self.inside.sets.acting c.carry_out.new.sets.acting c.carry_out.new.bodies.bodies c.carry_out.new.contacts.contacts c.self.invariant.whole (changed_then g c)
 
 pub solve-sums-requires-clause-can : goal.solve-sums-requires-clause-can
-solve-sums-requires-clause-can g c = rw c.colours.ensures.lists (can_solve_turned (the_view c.self.inside) c.self.inside.sets.acting c.carry_out.new.sets.acting c.carry_out.new.bodies.bodies c.carry_out.new.contacts.contacts c.self.invariant.whole (turned_then g c))
+solve-sums-requires-clause-can g c = rw c.colours.ensures.lists (can_solve_changed (the_view c.self.inside) c.self.inside.sets.acting c.carry_out.new.sets.acting c.carry_out.new.bodies.bodies c.carry_out.new.contacts.contacts c.self.invariant.whole (changed_then g c))
 
 pub solve-sums-requires-clause-ticks : goal.solve-sums-requires-clause-ticks
 solve-sums-requires-clause-ticks g c =
@@ -109,21 +109,21 @@ solve-sums-requires-clause-ticks g c =
     rw counted.count (few_ticks c.args.ticks counted.between)
 
 pub solve-sums-requires-clause-apart : goal.solve-sums-requires-clause-apart
-solve-sums-requires-clause-apart g c = rw c.colours.ensures.lists (apart_turned (the_view c.self.inside) c.self.inside.sets.acting c.carry_out.new.sets.acting c.carry_out.new.bodies.bodies c.carry_out.new.contacts.contacts c.self.invariant.whole (turned_then g c))
+solve-sums-requires-clause-apart g c = rw c.colours.ensures.lists (apart_changed (the_view c.self.inside) c.self.inside.sets.acting c.carry_out.new.sets.acting c.carry_out.new.bodies.bodies c.carry_out.new.contacts.contacts c.self.invariant.whole (changed_then g c))
 
 pub solve-sums-requires-clause-movers : goal.solve-sums-requires-clause-movers
-solve-sums-requires-clause-movers g c = rw c.colours.ensures.lists (movers_turned (the_view c.self.inside) c.self.inside.sets.acting c.carry_out.new.sets.acting c.carry_out.new.bodies.bodies c.carry_out.new.contacts.contacts c.self.invariant.whole (turned_then g c))
+solve-sums-requires-clause-movers g c = rw c.colours.ensures.lists (movers_changed (the_view c.self.inside) c.self.inside.sets.acting c.carry_out.new.sets.acting c.carry_out.new.bodies.bodies c.carry_out.new.contacts.contacts c.self.invariant.whole (changed_then g c))
 
 pub solve-sums-requires-clause-room : goal.solve-sums-requires-clause-room
 solve-sums-requires-clause-room g c =
     let count : length c.in_ok-prepared.prepared.touches.begin.items ≡ length (collided_in (the_view c.self.inside)).begin = ap (λ (keys : List ContactKey). length keys) c.in_ok-prepared.ensures.begin in
-    rw c.colours.ensures.lists (room_turned (the_view c.self.inside) c.self.inside.sets.acting c.prepare.new.sets.acting c.carry_out.new.sets.acting c.carry_out.new.bodies.bodies c.carry_out.new.contacts.contacts (length c.in_ok-prepared.prepared.touches.begin.items) c.prepare.new.rows.room c.self.invariant.whole (turned_then g c) c.in_ok-prepared.ensures.acting count (rw c.in_ok-prepared.ensures.acting c.in_ok-prepared.ensures.for_rows))
+    rw c.colours.ensures.lists (room_changed (the_view c.self.inside) c.self.inside.sets.acting c.prepare.new.sets.acting c.carry_out.new.sets.acting c.carry_out.new.bodies.bodies c.carry_out.new.contacts.contacts (length c.in_ok-prepared.prepared.touches.begin.items) c.prepare.new.rows.room c.self.invariant.whole (changed_then g c) c.in_ok-prepared.ensures.acting count (rw c.in_ok-prepared.ensures.acting c.in_ok-prepared.ensures.for_rows))
 
 -- ---- the sleep phase
 
-turned_left : (g : given.Over) (c : goal.After-split g) → HasTurned (the_view c.self.inside) c.carry_out.new.sets.acting c.carry_out.new.bodies.bodies c.carry_out.new.contacts.contacts
-turned_left g c =
-    has_turned (the_view c.self.inside) c.self.inside.sets.acting c.prepare.new.sets.acting c.carry_out.new.sets.acting c.in_ok-prepared.prepared.changes.items c.carry_out.new.bodies.bodies c.carry_out.new.contacts.contacts c.self.invariant.whole c.in_ok-prepared.ensures.acting (rw (c.in_ok-prepared.ensures.begin, c.in_ok-prepared.ensures.end) at c.in_ok-prepared.ensures.changes)
+changed_left : (g : given.Over) (c : goal.After-split g) → HasChanged (the_view c.self.inside) c.carry_out.new.sets.acting c.carry_out.new.bodies.bodies c.carry_out.new.contacts.contacts
+changed_left g c =
+    has_changed (the_view c.self.inside) c.self.inside.sets.acting c.prepare.new.sets.acting c.carry_out.new.sets.acting c.in_ok-prepared.prepared.changes.items c.carry_out.new.bodies.bodies c.carry_out.new.contacts.contacts c.self.invariant.whole c.in_ok-prepared.ensures.acting (rw (c.in_ok-prepared.ensures.begin, c.in_ok-prepared.ensures.end) at c.in_ok-prepared.ensures.changes)
     c.carry_out.ensures.acting (rw c.in_ok-prepared.ensures.bodies at c.carry_out.ensures.bodies) (c.carry_out.ensures.contacts ∙ c.in_ok-prepared.ensures.due)
 
 solved_left : (g : given.Over) (c : goal.After-split g) → HasSolved (the_view c.self.inside) c.in_ok-ticks.ticks c.solve-sums.new.bodies.bodies c.solve-sums.new.joints.joints c.solve-sums.new.contacts.contacts c.solve-sums.result
@@ -140,13 +140,13 @@ solved_left g c =
       joints = c.solve-sums.ensures.all_joints;
       pairs = c.solve-sums.ensures.pairs;
     } in
-    has_solved (the_view c.self.inside) c.in_ok-ticks.ticks c.self.inside.sets.acting c.carry_out.new.sets.acting c.carry_out.new.bodies.bodies c.solve-sums.new.bodies.bodies c.solve-sums.new.joints.joints c.carry_out.new.contacts.contacts c.solve-sums.new.contacts.contacts c.solve-sums.result c.self.invariant.whole (turned_left g c) to_bodies to_joints to_contacts to_sums are
+    has_solved (the_view c.self.inside) c.in_ok-ticks.ticks c.self.inside.sets.acting c.carry_out.new.sets.acting c.carry_out.new.bodies.bodies c.solve-sums.new.bodies.bodies c.solve-sums.new.joints.joints c.carry_out.new.contacts.contacts c.solve-sums.new.contacts.contacts c.solve-sums.result c.self.invariant.whole (changed_left g c) to_bodies to_joints to_contacts to_sums are
 
 pub rest_ready-rest-requires-clause-tied : goal.rest_ready-rest-requires-clause-tied
-rest_ready-rest-requires-clause-tied g c = tied_solved (the_view c.self.inside) c.in_ok-ticks.ticks c.self.inside.sets.acting c.carry_out.new.sets.acting c.carry_out.new.bodies.bodies c.solve-sums.new.bodies.bodies c.solve-sums.new.joints.joints c.carry_out.new.contacts.contacts c.solve-sums.new.contacts.contacts c.solve-sums.result c.self.invariant.whole (turned_left g c) (solved_left g c)
+rest_ready-rest-requires-clause-tied g c = tied_solved (the_view c.self.inside) c.in_ok-ticks.ticks c.self.inside.sets.acting c.carry_out.new.sets.acting c.carry_out.new.bodies.bodies c.solve-sums.new.bodies.bodies c.solve-sums.new.joints.joints c.carry_out.new.contacts.contacts c.solve-sums.new.contacts.contacts c.solve-sums.result c.self.invariant.whole (changed_left g c) (solved_left g c)
 
 pub rest_ready-rest-requires-clause-told : goal.rest_ready-rest-requires-clause-told
-rest_ready-rest-requires-clause-told g c = told_solved (the_view c.self.inside) c.in_ok-ticks.ticks c.self.inside.sets.acting c.carry_out.new.sets.acting c.carry_out.new.bodies.bodies c.solve-sums.new.bodies.bodies c.solve-sums.new.joints.joints c.carry_out.new.contacts.contacts c.solve-sums.new.contacts.contacts c.solve-sums.result c.self.invariant.whole (turned_left g c) (solved_left g c)
+rest_ready-rest-requires-clause-told g c = told_solved (the_view c.self.inside) c.in_ok-ticks.ticks c.self.inside.sets.acting c.carry_out.new.sets.acting c.carry_out.new.bodies.bodies c.solve-sums.new.bodies.bodies c.solve-sums.new.joints.joints c.carry_out.new.contacts.contacts c.solve-sums.new.contacts.contacts c.solve-sums.result c.self.invariant.whole (changed_left g c) (solved_left g c)
 
 pub rest_ready-rest-requires-clause-few_bodies : goal.rest_ready-rest-requires-clause-few_bodies
 rest_ready-rest-requires-clause-few_bodies g c = few_solved (the_view c.self.inside) c.in_ok-ticks.ticks c.self.inside.sets.acting c.solve-sums.new.bodies.bodies c.solve-sums.new.joints.joints c.solve-sums.new.contacts.contacts c.solve-sums.result c.self.invariant.whole (solved_left g c)
@@ -163,36 +163,36 @@ rest_ready-rest-requires-clause-ticks g c =
 pub rest_ready-rest-requires-clause-timers : goal.rest_ready-rest-requires-clause-timers
 rest_ready-rest-requires-clause-timers g c = rw (timers_room (the_view c.self.inside) c.in_ok-ticks.ticks c.self.inside.sets.acting c.solve-sums.new.bodies.bodies c.solve-sums.new.joints.joints c.solve-sums.new.contacts.contacts c.solve-sums.result c.self.invariant.whole (solved_left g c)) c.in_ok-prepared.ensures.for_timers
 
-pub rest_ready-rest-requires-clause-marks : goal.rest_ready-rest-requires-clause-marks
-rest_ready-rest-requires-clause-marks g c = rw (timers_room (the_view c.self.inside) c.in_ok-ticks.ticks c.self.inside.sets.acting c.solve-sums.new.bodies.bodies c.solve-sums.new.joints.joints c.solve-sums.new.contacts.contacts c.solve-sums.result c.self.invariant.whole (solved_left g c)) c.in_ok-prepared.ensures.for_marks
+pub rest_ready-rest-requires-clause-awake_flags : goal.rest_ready-rest-requires-clause-awake_flags
+rest_ready-rest-requires-clause-awake_flags g c = rw (timers_room (the_view c.self.inside) c.in_ok-ticks.ticks c.self.inside.sets.acting c.solve-sums.new.bodies.bodies c.solve-sums.new.joints.joints c.solve-sums.new.contacts.contacts c.solve-sums.result c.self.invariant.whole (solved_left g c)) c.in_ok-prepared.ensures.for_awake_flags
 
 pub rest_ready-rest-requires-clause-slept : goal.rest_ready-rest-requires-clause-slept
 rest_ready-rest-requires-clause-slept g c = rw (timers_room (the_view c.self.inside) c.in_ok-ticks.ticks c.self.inside.sets.acting c.solve-sums.new.bodies.bodies c.solve-sums.new.joints.joints c.solve-sums.new.contacts.contacts c.solve-sums.result c.self.invariant.whole (solved_left g c)) c.in_ok-prepared.ensures.for_slept
 
-pub rest_ready-rest-requires-clause-places : goal.rest_ready-rest-requires-clause-places
-rest_ready-rest-requires-clause-places g c =
-    let slots : length c.self.inside.handles.places ≡ length c.self.inside.bodies.bodies = (kept_of _ _ c.self.invariant.whole).matched.slots in
-    let there : length c.places-2.result.now ≡ length c.self.inside.handles.places = ap (λ (ps : List Place). length ps) c.places-2.ensures in
+pub rest_ready-rest-requires-clause-slot_entries : goal.rest_ready-rest-requires-clause-slot_entries
+rest_ready-rest-requires-clause-slot_entries g c =
+    let slots : length c.self.inside.handles.slot_entries ≡ length c.self.inside.bodies.bodies = (kept_of _ _ c.self.invariant.whole).matched.slots in
+    let there : length c.slot_entries-2.result.now ≡ length c.self.inside.handles.slot_entries = ap (λ (ps : List SlotEntry). length ps) c.slot_entries-2.ensures in
     let long = timers_room (the_view c.self.inside) c.in_ok-ticks.ticks c.self.inside.sets.acting c.solve-sums.new.bodies.bodies c.solve-sums.new.joints.joints c.solve-sums.new.contacts.contacts c.solve-sums.result c.self.invariant.whole (solved_left g c) in
     omega (arith, slots, there, long)
 
 pub rest_ready-rest-requires-clause-slots : goal.rest_ready-rest-requires-clause-slots
 rest_ready-rest-requires-clause-slots g c =
-    let slots : length c.self.inside.handles.places ≡ length c.self.inside.bodies.bodies = (kept_of _ _ c.self.invariant.whole).matched.slots in
-    let there : length c.places-2.result.now ≡ length c.self.inside.handles.places = ap (λ (ps : List Place). length ps) c.places-2.ensures in
+    let slots : length c.self.inside.handles.slot_entries ≡ length c.self.inside.bodies.bodies = (kept_of _ _ c.self.invariant.whole).matched.slots in
+    let there : length c.slot_entries-2.result.now ≡ length c.self.inside.handles.slot_entries = ap (λ (ps : List SlotEntry). length ps) c.slot_entries-2.ensures in
     omega (arith, slots, there, c.in_ok-prepared.ensures.for_slots)
 
-pub rest_ready-rest-requires-clause-settled : goal.rest_ready-rest-requires-clause-settled
-rest_ready-rest-requires-clause-settled g c = settled_turned (the_view c.self.inside) c.self.inside.sets.acting c.carry_out.new.sets.acting c.carry_out.new.bodies.bodies c.carry_out.new.contacts.contacts c.self.invariant.whole (turned_left g c)
+pub rest_ready-rest-requires-clause-consistent : goal.rest_ready-rest-requires-clause-consistent
+rest_ready-rest-requires-clause-consistent g c = consistent_changed (the_view c.self.inside) c.self.inside.sets.acting c.carry_out.new.sets.acting c.carry_out.new.bodies.bodies c.carry_out.new.contacts.contacts c.self.invariant.whole (changed_left g c)
 
 pub rest_ready-rest-requires-clause-tells : goal.rest_ready-rest-requires-clause-tells
-rest_ready-rest-requires-clause-tells g c = rw (c.joints.ensures, c.split.ensures) (tell_solved (the_view c.self.inside) c.in_ok-ticks.ticks c.self.inside.sets.acting c.carry_out.new.sets.acting c.carry_out.new.bodies.bodies c.solve-sums.new.bodies.bodies c.solve-sums.new.joints.joints c.carry_out.new.contacts.contacts c.solve-sums.new.contacts.contacts c.solve-sums.result c.self.invariant.whole (turned_left g c) (solved_left g c))
+rest_ready-rest-requires-clause-tells g c = rw (c.joints.ensures, c.split.ensures) (tell_solved (the_view c.self.inside) c.in_ok-ticks.ticks c.self.inside.sets.acting c.carry_out.new.sets.acting c.carry_out.new.bodies.bodies c.solve-sums.new.bodies.bodies c.solve-sums.new.joints.joints c.carry_out.new.contacts.contacts c.solve-sums.new.contacts.contacts c.solve-sums.result c.self.invariant.whole (changed_left g c) (solved_left g c))
 
 -- ---- what is recorded
 
-turned_at_last : (g : given.Over) (c : goal.After-record_step-arg-3-1 g) → HasTurned (the_view c.self.inside) c.carry_out.new.sets.acting c.carry_out.new.bodies.bodies c.carry_out.new.contacts.contacts
-turned_at_last g c =
-    has_turned (the_view c.self.inside) c.self.inside.sets.acting c.prepare.new.sets.acting c.carry_out.new.sets.acting c.in_ok-prepared.prepared.changes.items c.carry_out.new.bodies.bodies c.carry_out.new.contacts.contacts c.self.invariant.whole c.in_ok-prepared.ensures.acting (rw (c.in_ok-prepared.ensures.begin, c.in_ok-prepared.ensures.end) at c.in_ok-prepared.ensures.changes)
+changed_at_last : (g : given.Over) (c : goal.After-record_step-arg-3-1 g) → HasChanged (the_view c.self.inside) c.carry_out.new.sets.acting c.carry_out.new.bodies.bodies c.carry_out.new.contacts.contacts
+changed_at_last g c =
+    has_changed (the_view c.self.inside) c.self.inside.sets.acting c.prepare.new.sets.acting c.carry_out.new.sets.acting c.in_ok-prepared.prepared.changes.items c.carry_out.new.bodies.bodies c.carry_out.new.contacts.contacts c.self.invariant.whole c.in_ok-prepared.ensures.acting (rw (c.in_ok-prepared.ensures.begin, c.in_ok-prepared.ensures.end) at c.in_ok-prepared.ensures.changes)
     c.carry_out.ensures.acting (rw c.in_ok-prepared.ensures.bodies at c.carry_out.ensures.bodies) (c.carry_out.ensures.contacts ∙ c.in_ok-prepared.ensures.due)
 
 solved_at_last : (g : given.Over) (c : goal.After-record_step-arg-3-1 g) → HasSolved (the_view c.self.inside) c.in_ok-ticks.ticks c.solve-sums.new.bodies.bodies c.solve-sums.new.joints.joints c.solve-sums.new.contacts.contacts c.solve-sums.result
@@ -209,13 +209,13 @@ solved_at_last g c =
       joints = c.solve-sums.ensures.all_joints;
       pairs = c.solve-sums.ensures.pairs;
     } in
-    has_solved (the_view c.self.inside) c.in_ok-ticks.ticks c.self.inside.sets.acting c.carry_out.new.sets.acting c.carry_out.new.bodies.bodies c.solve-sums.new.bodies.bodies c.solve-sums.new.joints.joints c.carry_out.new.contacts.contacts c.solve-sums.new.contacts.contacts c.solve-sums.result c.self.invariant.whole (turned_at_last g c) to_bodies to_joints to_contacts to_sums are
+    has_solved (the_view c.self.inside) c.in_ok-ticks.ticks c.self.inside.sets.acting c.carry_out.new.sets.acting c.carry_out.new.bodies.bodies c.solve-sums.new.bodies.bodies c.solve-sums.new.joints.joints c.carry_out.new.contacts.contacts c.solve-sums.new.contacts.contacts c.solve-sums.result c.self.invariant.whole (changed_at_last g c) to_bodies to_joints to_contacts to_sums are
 
-fell : (g : given.Over) (c : goal.After-record_step-arg-3-1 g) → c.rest_ready-rest.new.scratch.slept.items ≡ newly_asleep c.self.inside.handles.places (timed_bodies c.in_ok-ticks.ticks c.solve-sums.new.bodies.bodies) c.rest_ready-rest.new.sets.acting.labels
-fell g c = rw c.places-2.ensures at c.rest_ready-rest.ensures.slept
+fell : (g : given.Over) (c : goal.After-record_step-arg-3-1 g) → c.rest_ready-rest.new.scratch.slept.items ≡ newly_asleep c.self.inside.handles.slot_entries (timed_bodies c.in_ok-ticks.ticks c.solve-sums.new.bodies.bodies) c.rest_ready-rest.new.sets.acting.labels
+fell g c = rw c.slot_entries-2.ensures at c.rest_ready-rest.ensures.slept
 
-woken : (g : given.Over) (c : goal.After-record_step-arg-3-1 g) → c.rest_ready-rest.new.scratch.woke.items ≡ newly_awake c.self.inside.handles.places c.self.inside.bodies.bodies c.carry_out.new.sets.acting.labels
-woken g c = rw (← c.rest_ready-rest.ensures.woke, c.places.ensures, c.in_ok-prepared.ensures.bodies) at c.carry_out.ensures.woke
+woken : (g : given.Over) (c : goal.After-record_step-arg-3-1 g) → c.rest_ready-rest.new.scratch.woke.items ≡ newly_awake c.self.inside.handles.slot_entries c.self.inside.bodies.bodies c.carry_out.new.sets.acting.labels
+woken g c = rw (← c.rest_ready-rest.ensures.woke, c.slot_entries.ensures, c.in_ok-prepared.ensures.bodies) at c.carry_out.ensures.woke
 
 pub record_step-requires-clause-roomy : goal.record_step-requires-clause-roomy
 record_step-requires-clause-roomy g c = IsRoomy-same _ _ c.in_ok-prepared.ensures.entries c.in_ok-prepared.ensures.settled (IsRoomy-kept (the_view c.self.inside) 0 (kept_of _ _ c.self.invariant.whole))
@@ -226,13 +226,13 @@ record_step-requires-clause-slept g c =
 
 pub record_step-requires-clause-woke : goal.record_step-requires-clause-woke
 record_step-requires-clause-woke g c =
-    subst (λ (hs : List Handle). IsStrictlyIncreasing (map slot_of hs)) (sym (woken g c)) (woke_rise (the_view c.self.inside) c.self.inside.sets.acting c.carry_out.new.sets.acting c.carry_out.new.bodies.bodies c.carry_out.new.contacts.contacts c.self.invariant.whole (turned_at_last g c))
+    subst (λ (hs : List Handle). IsStrictlyIncreasing (map slot_of hs)) (sym (woken g c)) (woke_rise (the_view c.self.inside) c.self.inside.sets.acting c.carry_out.new.sets.acting c.carry_out.new.bodies.bodies c.carry_out.new.contacts.contacts c.self.invariant.whole (changed_at_last g c))
 
 -- ---- the whole
 
-turned : (g : given.Over) (c : goal.After-drop-prepared-2 g) → HasTurned (the_view c.self.inside) c.carry_out.new.sets.acting c.carry_out.new.bodies.bodies c.carry_out.new.contacts.contacts
-turned g c =
-    has_turned (the_view c.self.inside) c.self.inside.sets.acting c.prepare.new.sets.acting c.carry_out.new.sets.acting c.in_ok-prepared.prepared.changes.items c.carry_out.new.bodies.bodies c.carry_out.new.contacts.contacts c.self.invariant.whole c.in_ok-prepared.ensures.acting (rw (c.in_ok-prepared.ensures.begin, c.in_ok-prepared.ensures.end) at c.in_ok-prepared.ensures.changes)
+after_changes : (g : given.Over) (c : goal.After-drop-prepared-2 g) → HasChanged (the_view c.self.inside) c.carry_out.new.sets.acting c.carry_out.new.bodies.bodies c.carry_out.new.contacts.contacts
+after_changes g c =
+    has_changed (the_view c.self.inside) c.self.inside.sets.acting c.prepare.new.sets.acting c.carry_out.new.sets.acting c.in_ok-prepared.prepared.changes.items c.carry_out.new.bodies.bodies c.carry_out.new.contacts.contacts c.self.invariant.whole c.in_ok-prepared.ensures.acting (rw (c.in_ok-prepared.ensures.begin, c.in_ok-prepared.ensures.end) at c.in_ok-prepared.ensures.changes)
     c.carry_out.ensures.acting (rw c.in_ok-prepared.ensures.bodies at c.carry_out.ensures.bodies) (c.carry_out.ensures.contacts ∙ c.in_ok-prepared.ensures.due)
 
 solved : (g : given.Over) (c : goal.After-drop-prepared-2 g) → HasSolved (the_view c.self.inside) c.in_ok-ticks.ticks c.solve-sums.new.bodies.bodies c.solve-sums.new.joints.joints c.solve-sums.new.contacts.contacts c.solve-sums.result
@@ -249,21 +249,21 @@ solved g c =
       joints = c.solve-sums.ensures.all_joints;
       pairs = c.solve-sums.ensures.pairs;
     } in
-    has_solved (the_view c.self.inside) c.in_ok-ticks.ticks c.self.inside.sets.acting c.carry_out.new.sets.acting c.carry_out.new.bodies.bodies c.solve-sums.new.bodies.bodies c.solve-sums.new.joints.joints c.carry_out.new.contacts.contacts c.solve-sums.new.contacts.contacts c.solve-sums.result c.self.invariant.whole (turned g c) to_bodies to_joints to_contacts to_sums are
+    has_solved (the_view c.self.inside) c.in_ok-ticks.ticks c.self.inside.sets.acting c.carry_out.new.sets.acting c.carry_out.new.bodies.bodies c.solve-sums.new.bodies.bodies c.solve-sums.new.joints.joints c.carry_out.new.contacts.contacts c.solve-sums.new.contacts.contacts c.solve-sums.result c.self.invariant.whole (after_changes g c) to_bodies to_joints to_contacts to_sums are
 
 are_left : (g : given.Over) (c : goal.After-drop-prepared-2 g) → AreLeft (the_view c.self.inside) c.in_ok-ticks.ticks c.carry_out.new.sets.acting c.rest_ready-rest.new.sets.acting c.carry_out.new.bodies.bodies c.solve-sums.new.bodies.bodies c.rest_ready-rest.new.bodies.bodies c.solve-sums.new.joints.joints c.carry_out.new.contacts.contacts c.solve-sums.new.contacts.contacts
     c.solve-sums.result (as_vector c.rest_ready-rest.result) c.record_step.new.events
 are_left g c =
     record {
-      collide = turned g c;
+      collide = after_changes g c;
       ticks = solved g c;
       phase = rw (c.joints.ensures, c.split.ensures) at c.rest_ready-rest.ensures.acting;
       bodies = c.rest_ready-rest.ensures.bodies;
       gain_is = c.rest_ready-rest.ensures.gain;
       begin = c.record_step.ensures.begin ∙ c.in_ok-prepared.ensures.begin;
       end = c.record_step.ensures.end ∙ c.in_ok-prepared.ensures.end;
-      slept = c.record_step.ensures.slept ∙ (rw c.places-2.ensures at c.rest_ready-rest.ensures.slept);
-      woke = c.record_step.ensures.woke ∙ (rw (← c.rest_ready-rest.ensures.woke, c.places.ensures, c.in_ok-prepared.ensures.bodies) at c.carry_out.ensures.woke);
+      slept = c.record_step.ensures.slept ∙ (rw c.slot_entries-2.ensures at c.rest_ready-rest.ensures.slept);
+      woke = c.record_step.ensures.woke ∙ (rw (← c.rest_ready-rest.ensures.woke, c.slot_entries.ensures, c.in_ok-prepared.ensures.bodies) at c.carry_out.ensures.woke);
     }
 
 -- the table of bodies, once its marks were taken away
@@ -285,8 +285,8 @@ invariant_of-self-2 g c =
     (marked_after (cleared c.prepare.new.bodies) c.solve-sums.new.bodies c.rest_ready-rest.new.bodies (marked_after (cleared c.prepare.new.bodies) c.carry_out.new.bodies c.solve-sums.new.bodies c.carry_out.ensures.marked c.solve-sums.ensures.marked) c.rest_ready-rest.ensures.marked)
     c.solve-sums.ensures.forbidden (c.solve-sums.ensures.numbers ∙ ap (λ (es : List ContactEntry). map number_of es) (c.carry_out.ensures.contacts ∙ c.in_ok-prepared.ensures.due))
     c.carry_out.new.anchors
-    (tell_fewer c.carry_out.new.anchors.holds c.carry_out.new.anchors.lists c.carry_out.new.sets.acting.ties _ (fewer_rested _ _ _ c.carry_out.new.sets.acting c.rest_ready-rest.new.sets.acting c.rest_ready-rest.ensures.acting)
-    (c.carry_out.ensures.anchored (subst (λ (a : Acting Constraint). Tell c.self.inside.anchors.holds c.self.inside.anchors.lists a.ties) (sym c.in_ok-prepared.ensures.acting) c.self.invariant.anchored)))
+    (complete_with_fewer c.carry_out.new.anchors.holds c.carry_out.new.anchors.lists c.carry_out.new.sets.acting.ties _ (fewer_rested _ _ _ c.carry_out.new.sets.acting c.rest_ready-rest.new.sets.acting c.rest_ready-rest.ensures.acting)
+    (c.carry_out.ensures.anchored (subst (λ (a : Acting Constraint). AreComplete c.self.inside.anchors.holds c.self.inside.anchors.lists a.ties) (sym c.in_ok-prepared.ensures.acting) c.self.invariant.anchored)))
 
 pub returns : goal.returns
 returns g c =

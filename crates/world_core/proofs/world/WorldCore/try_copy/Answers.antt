@@ -7,9 +7,9 @@ pub invariant_of-result : goal.invariant_of-result
 invariant_of-result c =
     let whole_as = copied_whole
     (record {
-      places = c.in_ok-bodies.bodies.handles.places;
+      slot_entries = c.in_ok-bodies.bodies.handles.slot_entries;
       bodies = c.in_ok-bodies.bodies.table.bodies;
-      joint_places = c.in_ok-joints.joints.handles.places;
+      joint_entries = c.in_ok-joints.joints.handles.slot_entries;
       joints = c.in_ok-joints.joints.table.joints;
       contacts = c.in_ok-constraints.constraints.contacts.contacts;
       acts = c.in_ok-constraints.constraints.sets.acting;
@@ -21,9 +21,9 @@ invariant_of-result c =
       events = c.in_ok-records.records.events;
     })
     (record {
-      places = c.self.inside.handles.places;
+      slot_entries = c.self.inside.handles.slot_entries;
       bodies = c.self.inside.bodies.bodies;
-      joint_places = c.self.inside.joint_handles.places;
+      joint_entries = c.self.inside.joint_handles.slot_entries;
       joints = c.self.inside.joints.joints;
       contacts = c.self.inside.contacts.contacts;
       acts = c.self.inside.sets.acting;
@@ -35,9 +35,9 @@ invariant_of-result c =
       events = c.self.inside.events;
     })
     (λ j. record {
-      places = c.in_ok-bodies.ensures.places j;
+      slot_entries = c.in_ok-bodies.ensures.slot_entries j;
       bodies = c.in_ok-bodies.ensures.bodies j;
-      joint_places = c.in_ok-joints.ensures.places j;
+      joint_entries = c.in_ok-joints.ensures.slot_entries j;
       joints = c.in_ok-joints.ensures.joints j;
       contacts = c.in_ok-constraints.ensures.contacts j;
       acts = c.in_ok-constraints.ensures.acting j;

@@ -3,7 +3,7 @@ use Rattle.world_core.specs.contracts.world.WorldCore.{the_view}
 use Rattle.world_core.proofs.Whole.{HasWoken, has_woken, told_whole, wake_whole}
 use Rattle.world_core.proofs.CoreLaws.{core_bodies}
 use Rattle.world_core.proofs.FewerTies.{fewer_woken}
-use Rattle.solver_sets.proofs.FewerAnchoredLaws.{tell_fewer}
+use Rattle.solver_sets.proofs.FewerAnchoredLaws.{complete_with_fewer}
 use Rattle.world_core.proofs.world.WorldCore.wake.Goals as goal
 
 pub wake_planned-requires-clause-movers : goal.wake_planned-requires-clause-movers
@@ -18,4 +18,4 @@ invariant_of-self c =
     let woke : HasWoken (the_view c.self.inside) (c.args.handle.slot ∷ []) c.wake_planned.new.sets.acting c.wake_planned.new.bodies.bodies =
     has_woken (the_view c.self.inside) (c.args.handle.slot ∷ []) _ c.self.inside.sets.acting _ _ c.self.invariant.whole (rw (← c.self.view_is) at c.in_ok-waking.ensures.names) c.wake_planned.ensures.acting c.wake_planned.ensures.told in
     core_bodies (the_view c.self.inside) _ _ _ c.self.inside.bodies c.wake_planned.new.bodies c.self.invariant (wake_whole (the_view c.self.inside) c.args.handle.slot c.self.inside.sets.acting _ _ c.self.invariant.whole calls woke) refl refl refl refl c.wake_planned.ensures.marked
-    c.self.inside.anchors (tell_fewer c.self.inside.anchors.holds c.self.inside.anchors.lists c.self.inside.sets.acting.ties _ (fewer_woken c.in_ok-waking.waking.names.items c.self.inside.sets.acting c.wake_planned.new.sets.acting c.wake_planned.ensures.acting) c.self.invariant.anchored)
+    c.self.inside.anchors (complete_with_fewer c.self.inside.anchors.holds c.self.inside.anchors.lists c.self.inside.sets.acting.ties _ (fewer_woken c.in_ok-waking.waking.names.items c.self.inside.sets.acting c.wake_planned.new.sets.acting c.wake_planned.ensures.acting) c.self.invariant.anchored)

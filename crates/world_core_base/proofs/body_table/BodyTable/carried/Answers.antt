@@ -5,5 +5,5 @@ use Rattle.world_core_base.proofs.body_table.BodyTable.carried.Goals as goal
 
 pub returns : goal.returns
 returns c =
-    let settled : c.self.inside.awake.pending + c.self.inside.carried.pending ≡ 0 = rw (← c.self.view_is) at c.requires.settled in
-    rw (← c.self.view_is) (c.as_slice.ensures ∙ c.self.invariant.along.exact (omega (arith, settled)) ∙ ap carried_of c.self.invariant.states ∙ carried_places c.self.inside.bodies.items)
+    let flushed : c.self.inside.awake.pending + c.self.inside.carried.pending ≡ 0 = rw (← c.self.view_is) at c.requires.flushed in
+    rw (← c.self.view_is) (c.as_slice.ensures ∙ c.self.invariant.along.exact (omega (arith, flushed)) ∙ ap carried_of c.self.invariant.states ∙ carried_places c.self.inside.bodies.items)

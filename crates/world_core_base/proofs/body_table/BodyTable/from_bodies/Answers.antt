@@ -37,6 +37,6 @@ invariant_of-result-3 c =
 
 pub returns-clause-pending : goal.returns-clause-pending
 returns-clause-pending c =
-    let awake : cond c.awake.inside.settled 0 1 ≡ 0 = rw (← c.awake.view_is) at c.in_ok-awake.ensures.pending in
-    let carried : cond c.carried.inside.settled 0 1 ≡ 0 = rw (← c.carried.view_is) at c.in_ok-carried.ensures.pending in
+    let awake : cond c.awake.inside.flushed 0 1 ≡ 0 = rw (← c.awake.view_is) at c.in_ok-awake.ensures.pending in
+    let carried : cond c.carried.inside.flushed 0 1 ≡ 0 = rw (← c.carried.view_is) at c.in_ok-carried.ensures.pending in
     omega (arith, awake, carried)

@@ -13,13 +13,13 @@ use Rattle.world_core_base.proofs.body_table.BodyTable.run.Goals as goal
 
 pub run_step-sums-requires-clause-awake : goal.run_step-sums-requires-clause-awake
 run_step-sums-requires-clause-awake g c =
-    let settled : c.self.inside.awake.pending + c.self.inside.carried.pending ≡ 0 = rw (← c.self.view_is) at c.requires.settled in
-    c.as_slice.ensures ∙ c.self.invariant.movers.exact (omega (arith, settled))
+    let flushed : c.self.inside.awake.pending + c.self.inside.carried.pending ≡ 0 = rw (← c.self.view_is) at c.requires.flushed in
+    c.as_slice.ensures ∙ c.self.invariant.movers.exact (omega (arith, flushed))
 
 pub run_step-sums-requires-clause-carried : goal.run_step-sums-requires-clause-carried
 run_step-sums-requires-clause-carried g c =
-    let settled : c.self.inside.awake.pending + c.self.inside.carried.pending ≡ 0 = rw (← c.self.view_is) at c.requires.settled in
-    c.as_slice-2.ensures ∙ c.self.invariant.along.exact (omega (arith, settled))
+    let flushed : c.self.inside.awake.pending + c.self.inside.carried.pending ≡ 0 = rw (← c.self.view_is) at c.requires.flushed in
+    c.as_slice-2.ensures ∙ c.self.invariant.along.exact (omega (arith, flushed))
 
 pub run_step-sums-requires-clause-states : goal.run_step-sums-requires-clause-states
 run_step-sums-requires-clause-states g c =
@@ -33,13 +33,13 @@ run_step-sums-requires-clause-courses g c =
 
 pub move_bodies-requires-clause-awake : goal.move_bodies-requires-clause-awake
 move_bodies-requires-clause-awake g c =
-    let settled : c.self.inside.awake.pending + c.self.inside.carried.pending ≡ 0 = rw (← c.self.view_is) at c.requires.settled in
-    c.as_slice-3.ensures ∙ c.self.invariant.movers.exact (omega (arith, settled)) ∙ sym (movers_beside c.self.inside.states.items c.run_step-sums.new.states.items c.run_step-sums.ensures.same)
+    let flushed : c.self.inside.awake.pending + c.self.inside.carried.pending ≡ 0 = rw (← c.self.view_is) at c.requires.flushed in
+    c.as_slice-3.ensures ∙ c.self.invariant.movers.exact (omega (arith, flushed)) ∙ sym (movers_beside c.self.inside.states.items c.run_step-sums.new.states.items c.run_step-sums.ensures.same)
 
 pub move_bodies-requires-clause-carried : goal.move_bodies-requires-clause-carried
 move_bodies-requires-clause-carried g c =
-    let settled : c.self.inside.awake.pending + c.self.inside.carried.pending ≡ 0 = rw (← c.self.view_is) at c.requires.settled in
-    c.as_slice-4.ensures ∙ c.self.invariant.along.exact (omega (arith, settled)) ∙ sym (carried_beside c.self.inside.states.items c.run_step-sums.new.states.items c.run_step-sums.ensures.same)
+    let flushed : c.self.inside.awake.pending + c.self.inside.carried.pending ≡ 0 = rw (← c.self.view_is) at c.requires.flushed in
+    c.as_slice-4.ensures ∙ c.self.invariant.along.exact (omega (arith, flushed)) ∙ sym (carried_beside c.self.inside.states.items c.run_step-sums.new.states.items c.run_step-sums.ensures.same)
 
 pub move_bodies-requires-clause-bodies : goal.move_bodies-requires-clause-bodies
 move_bodies-requires-clause-bodies g c = rw (← c.self.view_is) at c.requires.bodies

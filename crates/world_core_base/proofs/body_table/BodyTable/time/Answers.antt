@@ -15,8 +15,8 @@ time_bodies-requires-clause-bodies c = rw (← c.self.view_is) at c.requires.bod
 
 pub time_bodies-requires-clause-awake : goal.time_bodies-requires-clause-awake
 time_bodies-requires-clause-awake c =
-    let settled : c.self.inside.awake.pending + c.self.inside.carried.pending ≡ 0 = rw (← c.self.view_is) at c.requires.settled in
-    c.as_slice.ensures ∙ c.self.invariant.movers.exact (omega (arith, settled)) ∙ ap movers_of c.self.invariant.states ∙ awake_places c.self.inside.bodies.items
+    let flushed : c.self.inside.awake.pending + c.self.inside.carried.pending ≡ 0 = rw (← c.self.view_is) at c.requires.flushed in
+    c.as_slice.ensures ∙ c.self.invariant.movers.exact (omega (arith, flushed)) ∙ ap movers_of c.self.invariant.states ∙ awake_places c.self.inside.bodies.items
 
 pub invariant_of-self : goal.invariant_of-self
 invariant_of-self c =

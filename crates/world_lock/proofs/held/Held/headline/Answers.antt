@@ -12,7 +12,7 @@ pub returns-clause-what_acts_is_coloured : goal.returns-clause-what_acts_is_colo
 returns-clause-what_acts_is_coloured g c = rw (← c.self.view_is) (acts_coloured c.what_acts_has_a_colour.ensures _ c.journal.ensures.headline.sound)
 
 pub returns-clause-each_has_one_colour : goal.returns-clause-each_has_one_colour
-returns-clause-each_has_one_colour g c = rw (← c.self.view_is) (has_one_colour c.ties_are_named.ensures _ c.journal.ensures.headline.sound)
+returns-clause-each_has_one_colour g c = rw (← c.self.view_is) (has_one_colour c.ties_are_within.ensures _ c.journal.ensures.headline.sound)
 
 pub returns-clause-linked_share_an_island : goal.returns-clause-linked_share_an_island
 returns-clause-linked_share_an_island g c = rw (← c.self.view_is) (share_island _ c.journal.ensures.headline.sound)

@@ -1,8 +1,0 @@
-use Rattle.std.proofs.Common.{arith, rules}
-use Rattle.contacts.proofs.StirringLaws.{quiet_if}
-use Rattle.contacts.proofs.stirring.are_told.Goals as goal
-
-pub returns : goal.returns
-returns g c = λ t.
-    quiet_if c.args.flags.now c.args.marks.now c.args.marked.now c.awake.result.now c.carried.result.now (g.S.ShapesByName.proxies c.args.shapes.now) c.requires (omega arith) (c.if-not-are_flagged.ensures (search rules)) (c.if-not-are_flagged-2.ensures (search rules)) (c.are_flagged-3.ensures t)
-    (rw (c.awake.ensures, c.carried.ensures.value) c.carried.ensures.stirring)

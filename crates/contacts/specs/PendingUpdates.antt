@@ -1,0 +1,32 @@
+-- What a collide makes of the contacts, not yet carried out.
+use Rattle.std.specs.Prelude.{◌≡◌, false, List, [], Option, None, Some, option_map}
+use Rattle.std.specs.Option.{ForSome}
+use Rattle.contacts_base.specs.declared.contact.ContactEntry.{ContactEntry}
+use Rattle.contacts_base.specs.ContactLists.{AreContacts}
+use Rattle.contacts_base.specs.Split.{Split, carried, contacts_in}
+use Rattle.contacts.specs.declared.pending_update.PendingUpdate.{PendingUpdate}
+
+-- what the two lists become by what was noted of them
+abbrev pub after : PendingUpdate → Split → Split
+after d s = carried d.notes.items d.ends.items (option_map (λ es. es.items) d.short) s
+
+abbrev pub whole_or : Option Split → Split → Split
+whole_or None s = s
+whole_or (Some whole) s = whole
+
+-- what the contacts become
+abbrev pub pending_contacts : PendingUpdate → Split → List ContactEntry
+pending_contacts d s = contacts_in (whole_or d.whole (after d s))
+
+-- nothing is pending
+pub record IsNothing (d : PendingUpdate) : Type 0 where
+  pub notes : d.notes.items ≡ []
+  pub ends : d.ends.items ≡ []
+  pub short : d.short ≡ None
+  pub whole : d.whole ≡ None
+
+-- what is pending can be carried out
+pub record IsPendingUpdate (d : PendingUpdate) (s : Split) : Type 0 where
+  pub short : ForSome d.short (λ es. AreContacts es.items)
+  pub contacts : AreContacts (contacts_in (after d s))
+  pub idle : d.any ≡ false → IsNothing d

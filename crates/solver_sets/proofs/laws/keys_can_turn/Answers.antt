@@ -1,5 +1,0 @@
-use Rattle.solver_sets.proofs.CollideLaws.{keys_can_turn}
-use Rattle.solver_sets.proofs.laws.keys_can_turn.Goals as goal
-
-pub returns : goal.returns
-returns c = keys_can_turn

@@ -1,5 +1,0 @@
-use Rattle.solver_sets.proofs.CollideLaws.{same_names}
-use Rattle.solver_sets.proofs.laws.same_names_same_ties.Goals as goal
-
-pub returns : goal.returns
-returns c = same_names

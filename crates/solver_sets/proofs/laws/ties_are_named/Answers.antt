@@ -1,5 +1,0 @@
-use Rattle.solver_sets.proofs.TieLaws.{ties_named}
-use Rattle.solver_sets.proofs.laws.ties_are_named.Goals as goal
-
-pub returns : goal.returns
-returns c = ties_named

@@ -1,4 +1,0 @@
-use Rattle.world_core.proofs.kept_awake.mark_colour.Goals as goal
-
-pub loop-place-preserved : goal.loop-place-preserved
-loop-place-preserved c = λ names timers keep has. c.mark_by.ensures names timers keep (c.loop-place.invariant names timers keep has)

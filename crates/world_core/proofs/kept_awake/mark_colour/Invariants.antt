@@ -1,7 +1,0 @@
-use Rattle.std.proofs.Common.{List, ℕ}
-use Rattle.contacts_base.specs.Split.{contacts_in}
-use Rattle.world_core.specs.Quiet.{HasMarked, KeepMarks}
-use Rattle.world_core.proofs.kept_awake.mark_colour.Given as goal
-
-abbrev pub invariant-loop-place : goal.invariant-loop-place
-invariant-loop-place l = (names timers : List ℕ) → KeepMarks l.islands.labels l.bodies l.joints (contacts_in l.contacts) timers → HasMarked names l.islands.labels timers l.fn.marks.items → HasMarked names l.islands.labels timers l.marks.items

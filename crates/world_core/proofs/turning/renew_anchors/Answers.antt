@@ -1,6 +1,0 @@
-use Rattle.world_core.proofs.FewerTies.{tell_turned}
-use Rattle.world_core.proofs.turning.renew_anchors.Goals as goal
-
-pub returns : goal.returns
-returns c =
-    record { told = λ s same tell. c.renew.ensures.told (tell_turned _ _ _ _ c.args.changes.now s c.args.sets.now.acting same c.add_each.ensures.told tell) }

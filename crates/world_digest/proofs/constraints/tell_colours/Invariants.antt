@@ -1,7 +1,0 @@
-use Rattle.std.proofs.Common.{◌≡◌}
-use Rattle.world_digest.specs.ConstraintWords.{colours_words}
-use Rattle.world_digest.specs.Sums.{absorbed_all}
-use Rattle.world_digest.proofs.constraints.tell_colours.Given as goal
-
-abbrev pub invariant-loop-colour : goal.invariant-loop-colour
-invariant-loop-colour l = l.sums ≡ absorbed_all l.fn.sums (colours_words l.plain.colours l.colour)

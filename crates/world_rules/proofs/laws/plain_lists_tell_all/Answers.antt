@@ -1,5 +1,0 @@
-use Rattle.world_rules.proofs.SameAnswers.{plain_lists_tell_all}
-use Rattle.world_rules.proofs.laws.plain_lists_tell_all.Goals as goal
-
-pub returns : goal.returns
-returns c = plain_lists_tell_all
