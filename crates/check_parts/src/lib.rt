@@ -23,6 +23,8 @@ mod contacts_scenes;
 #[cfg(test)]
 mod contacts_table;
 #[cfg(test)]
+mod crew_maps;
+#[cfg(test)]
 mod definitions;
 #[cfg(test)]
 mod event_feed_lists;

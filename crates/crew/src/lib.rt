@@ -19,6 +19,3 @@ pub use gate::{Gate, OpenGate};
 pub use pieces::map_pieces;
 pub use staying::{Crew, start};
 pub use work::Work;
-
-#[cfg(test)]
-mod tests;

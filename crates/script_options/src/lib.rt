@@ -6,6 +6,3 @@ mod words;
 
 pub use asked::{Instead, Options};
 pub use words::options;
-
-#[cfg(test)]
-mod tests;

@@ -1,6 +1,6 @@
-//! Tests of the program's words.
+//! The program's words, as `script_options` reads them.
 
-use crate::{Instead, Options, options};
+use script_options::{Instead, Options, options};
 use std::alloc::Global;
 use std::test::Fail;
 

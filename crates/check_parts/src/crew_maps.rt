@@ -1,6 +1,6 @@
-//! Tests on threads: each item is worked once, in order of the answers, and pieces do meet.
+//! Maps by `crew` on threads: each item is worked once, in order of the answers, and pieces do meet.
 
-use crate::{Gate, OpenGate, Work, map_pieces, start};
+use crew::{Crew, Gate, OpenGate, Work, map_pieces, start};
 use std::alloc::Global;
 use std::process::Abort;
 use std::sync::Wait;
@@ -129,7 +129,7 @@ fn hold_crew<'s, E, R: Threads + Wait + Abort + Sync>(
 fn map_crew<'s, G: Gate, R: Wait + Abort>(
     rt: &R,
     alloc: Global,
-    crew: &mut crate::Crew<'s, G, Sums<'s>>,
+    crew: &mut Crew<'s, G, Sums<'s>>,
     items: &[(u32, u32)],
     sums: &[u64],
     worked: &'s AtomicU64,
