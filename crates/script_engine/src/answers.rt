@@ -1,8 +1,8 @@
 //! What a request does, and what it is answered.
 
 use crate::calls::{
-    apply, bodies_of, body_of, digest, events_of, filtered_ray, ledger_of, load, places_of,
-    plain_of, ray, region, save, step,
+    apply, bodies_of, body_of, digest, events_of, filtered_ray, ledger_of, load, plain_of, ray,
+    region, save, slot_entries_of, step,
 };
 use crate::crowds::{CrowdPlan, crowd};
 use crate::extended::{Extended, RayRequest};
@@ -121,7 +121,11 @@ fn answer_step<'a, R: AllocGlobal + Threads + Wait + Sync>(
     workers: u64,
 ) -> Answer<'a> {
     match step(rt, world, memory, workers, ticks) {
-        Ok(Reply::Stepped(step)) => Answer::Stepped(step, events_of(world), Some(places_of(world))),
+        Ok(Reply::Stepped(step)) => Answer::Stepped(
+            step,
+            events_of(world),
+            Some(slot_entries_of(world)),
+        ),
         Ok(_) => Answer::Done,
         Err(refusal) => Answer::Refused(refusal),
     }
@@ -131,7 +135,7 @@ fn answer_step<'a, R: AllocGlobal + Threads + Wait + Sync>(
 /// live.
 fn answer_filtered_ray<'a>(world: &'a WorldCore, ray: RayRequest) -> Answer<'a> {
     match filtered_ray(world, ray.from, ray.along, ray.filter) {
-        Ok(hit) if ray.ids => Answer::Hit(hit, Some(places_of(world))),
+        Ok(hit) if ray.ids => Answer::Hit(hit, Some(slot_entries_of(world))),
         Ok(hit) => Answer::Hit(hit, None),
         Err(refusal) => Answer::Refused(refusal),
     }
@@ -140,7 +144,7 @@ fn answer_filtered_ray<'a>(world: &'a WorldCore, ray: RayRequest) -> Answer<'a> 
 /// The shapes over a region, with their bodies' ids. Refused 5 where the region is beyond its limits, and else 1 where memory is wanting.
 fn answer_region_with_ids<'a>(alloc: Global, world: &'a WorldCore, bounds: &Box2) -> Answer<'a> {
     match region(alloc, world, bounds) {
-        Ok(shapes) => Answer::Shapes(shapes, Some(places_of(world))),
+        Ok(shapes) => Answer::Shapes(shapes, Some(slot_entries_of(world))),
         Err(refusal) => Answer::Refused(refusal),
     }
 }
@@ -148,7 +152,7 @@ fn answer_region_with_ids<'a>(alloc: Global, world: &'a WorldCore, bounds: &Box2
 /// The bodies by slot: all, or those alone that are awake.
 fn answer_bodies<'a>(world: &'a WorldCore, awake: bool) -> Answer<'a> {
     Answer::Bodies(BodyList {
-        slot_entries: places_of(world),
+        slot_entries: slot_entries_of(world),
         bodies: bodies_of(world),
         awake,
     })

@@ -98,7 +98,7 @@ pub(crate) fn bodies_of(world: &WorldCore) -> &[Option<Body>] {
 }
 
 /// The slots of bodies that were ever used.
-pub(crate) fn places_of(world: &WorldCore) -> &[SlotEntry] {
+pub(crate) fn slot_entries_of(world: &WorldCore) -> &[SlotEntry] {
     world.slot_entries()
 }
 

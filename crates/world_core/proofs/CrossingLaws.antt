@@ -38,11 +38,11 @@ joints_send = search (crosses, sendable) depth 60 fits 60000
 split_send : IsSend SplitContacts.the_row
 split_send = search (crosses, sendable) depth 60 fits 60000
 
-due_send : IsSend PendingUpdate.the_row
-due_send = search (split_send, crosses, sendable) depth 60 fits 60000
+pending_send : IsSend PendingUpdate.the_row
+pending_send = search (split_send, crosses, sendable) depth 60 fits 60000
 
 contacts_send : IsSend ContactTable.the_row
-contacts_send = search (split_send, due_send, crosses, sendable) depth 60 fits 60000
+contacts_send = search (split_send, pending_send, crosses, sendable) depth 60 fits 60000
 
 anchors_send : IsSend Anchors.the_row
 anchors_send = search (crosses, sendable) depth 60 fits 60000

@@ -22,8 +22,8 @@ use sleep_wake::{Change, Sets};
 use solver_sets::{Anchors, fill_newly_awake};
 use world_core_base::BodyTable;
 
-/// Lets constraints begin and end, each in its turn, settles the colours, lists who has woken by that, tells those, and settles the bodies; all bodies had been told before.
-/// Those who wake are among the slots `asleep`, so that it takes time by these and by what begins and ends. It takes no memory.
+/// Lets constraints begin and end, one after another, flushes the colours, lists who has woken by that, tells those, and flushes the bodies. All
+/// bodies had been told before. Those who wake are among the slots `asleep`, so that it takes time by these and by what begins and ends. It takes no memory.
 fn apply_all_changes(
     sets: &mut Sets<Constraint>,
     bodies: &mut BodyTable,
@@ -44,8 +44,8 @@ fn apply_all_changes(
     ensures acting { sets.new.acting ≡ after_changes constraint_number changes.now sets.old.acting }
     ensures bodies { bodies.new.bodies ≡ told sets.new.acting.labels bodies.old.bodies }
     ensures woke { woke.new.items ≡ newly_awake slot_entries.now bodies.old.bodies sets.new.acting.labels }
-    ensures colours_settled { sets.new.pending ≡ 0 }
-    ensures bodies_settled { bodies.new.pending ≡ 0 }
+    ensures colours_flushed { sets.new.pending ≡ 0 }
+    ensures bodies_flushed { bodies.new.pending ≡ 0 }
     ensures marked { AreMarked bodies.old bodies.new }
 {
     sets.apply_changes(changes);
@@ -87,8 +87,8 @@ pub(crate) fn carry_out(
     ensures acting { sets.new.acting ≡ after_changes constraint_number prepared.now.changes.items sets.old.acting }
     ensures bodies { bodies.new.bodies ≡ told sets.new.acting.labels bodies.old.bodies }
     ensures woke { woke.new.items ≡ newly_awake slot_entries.now bodies.old.bodies sets.new.acting.labels }
-    ensures colours_settled { sets.new.pending ≡ 0 }
-    ensures bodies_settled { bodies.new.pending ≡ 0 }
+    ensures colours_flushed { sets.new.pending ≡ 0 }
+    ensures bodies_flushed { bodies.new.pending ≡ 0 }
     ensures marked { AreMarkedIn bodies.old.bodies (replicate (length bodies.old.marks) false) bodies.new.bodies bodies.new.marks }
     ensures anchored { AreComplete anchors.old.holds anchors.old.lists sets.old.acting.ties → AreComplete anchors.new.holds anchors.new.lists sets.new.acting.ties }
 {

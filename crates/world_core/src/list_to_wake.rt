@@ -64,7 +64,7 @@ fn push_names_of_all(
 }
 
 /// The names of the sleeping islands of the movers of what begins and ends, ascending, each once. Refused 1 where memory is wanting.
-fn list_names(
+fn list_names_of_changes(
     alloc: Global,
     sets: &Sets<Constraint>,
     changes: &[Change<Constraint>],
@@ -90,7 +90,7 @@ pub(crate) fn list_sleepers(
     ensures rising { IfOk result (λ slots. IsStrictlyIncreasing slots.items) }
     ensures memory_only { IsOkUnless result Refusal.NoMemory }
 {
-    let names = list_names(alloc, sets, changes)?;
+    let names = list_names_of_changes(alloc, sets, changes)?;
     let mut slots = list_movers(alloc, sets, &names)?;
     sort_once(&mut slots);
     Ok(slots)

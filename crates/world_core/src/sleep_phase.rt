@@ -45,8 +45,8 @@ pub(crate) fn rest_ready(
     requires tied { AreTied bodies.old.bodies sets.old.acting.labels }
     requires told { AreTold bodies.old.bodies sets.old.acting.labels }
     requires consistent { IsConsistent constraint_number sets.old.acting }
-    requires colours_settled { sets.old.pending ≡ 0 }
-    requires bodies_settled { bodies.old.pending ≡ 0 }
+    requires colours_flushed { sets.old.pending ≡ 0 }
+    requires bodies_flushed { bodies.old.pending ≡ 0 }
     requires tells { ShowMoving (timed_bodies ticks bodies.old.bodies) joints.now (contacts_in contacts.now) sets.old.acting.labels sets.old.acting.lists }
     requires slot_entries { length bodies.old.bodies ≤ length slot_entries.now }
     requires ticks { ticks ≤ 8 }

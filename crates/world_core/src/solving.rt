@@ -63,8 +63,8 @@ pub(crate) fn solve<S: StepSolver>(
     requires few { length bodies.old.bodies ≤ MAX_SLOTS }
     requires bodies { AreBodies bodies.old.bodies }
     requires can { CanGather bodies.old.bodies joints.old.joints contacts.old.contacts colours.now.lists }
-    requires bodies_settled { bodies.old.pending ≡ 0 }
-    requires colours_settled { colours.now.pending ≡ 0 }
+    requires bodies_flushed { bodies.old.pending ≡ 0 }
+    requires colours_flushed { colours.now.pending ≡ 0 }
     requires gravity { IsWithin (2 ^ 16) gravity }
     requires ticks { ticks ≤ 8 }
     requires room { length (all_members colours.now.lists) ≤ rows.old.room }
@@ -83,7 +83,7 @@ pub(crate) fn solve<S: StepSolver>(
     ensures pairs { AreContactsOf bodies.old.bodies contacts.new.contacts }
     ensures marked { AreMarked bodies.old bodies.new }
     ensures forbidden { forbidden_pairs joints.new.joints ≡ forbidden_pairs joints.old.joints }
-    ensures bodies_settled { bodies.new.pending ≡ 0 }
+    ensures bodies_flushed { bodies.new.pending ≡ 0 }
     ensures numbers { map number_of contacts.new.contacts ≡ map number_of contacts.old.contacts }
 {
     let kept = contacts.split();

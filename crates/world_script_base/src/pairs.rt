@@ -6,7 +6,7 @@ use fixed_geom::Vec2;
 #[derive(Clone, Copy)]
 pub(crate) enum Item {
     Coordinate(i64),
-    SlotEntry(Vec2),
+    Point(Vec2),
     Other,
 }
 
@@ -43,7 +43,7 @@ impl Pair {
 
     pub fn ends(&self) -> Option<(Vec2, Vec2)> {
         match (self.count, self.first, self.second) {
-            (2, Item::SlotEntry(first), Item::SlotEntry(second)) => Some((first, second)),
+            (2, Item::Point(first), Item::Point(second)) => Some((first, second)),
             _ => None,
         }
     }

@@ -205,7 +205,7 @@ fn whole_of(text: &str) -> Option<i128> {
 
 fn place_of(pair: Pair) -> Item {
     match pair.vector() {
-        Some(place) => Item::SlotEntry(place),
+        Some(point) => Item::Point(point),
         None => Item::Other,
     }
 }
