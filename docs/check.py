@@ -10,7 +10,8 @@ It tests that each of these is there:
 - a definition `CRATE/File.name`, in WORLD.md also `File.name`, and a method `Type::method` of a type of the repository;
 - the page, the file and the heading to which a link leads;
 
-and that a number of crates or of definitions is one that the sources have. What fails is printed with its page and line.
+and that a number of crates or of definitions is one that the sources have, and a version the one that the program prints.
+What fails is printed with its page and line.
 The last line is `N passed, M failed`.
 """
 
@@ -29,6 +30,9 @@ DEFINED = re.compile(r"^(?:(\w+)/)?([A-Z]\w*)\.([A-Za-z]\w*)$")
 METHOD = re.compile(r"^([A-Z]\w*)::(\w+)(?:\(.*\))?$")
 CRATES = re.compile(r"\b(\d+) (?:of its |Rattle )?crates\b")
 DEFINITIONS = re.compile(r"\b(\d[\d,]*) definitions(?: of (\d[\d,]*) lines)?")
+# The version of README.md, and what the program prints; the code has it in one place.
+VERSION = re.compile(r"(?:^Version |\bworld_script )(\d+\.\d+\.\d+(?:, rules \d+)?)")
+VERSION_IN_CODE = re.compile(r'^const VERSION: &str = "([^"]+)";$', re.M)
 ENDINGS = {"rt", "antt"}
 # CRATE/NAME is short for a file of one of these folders of a crate, without its ending.
 SHORT_FORMS = [(folder, end) for folder in ("src", "specs", "proofs", ".") for end in ("", ".rt", ".antt")]
@@ -58,6 +62,7 @@ class Repository:
                 if item.kind in ("struct", "enum", "trait"):
                     self.types.setdefault(name, set()).add(file.crate)
         self.words = {}
+        self.version = VERSION_IN_CODE.search((TOP / "crates/script_options/src/words.rt").read_text(encoding="utf-8")).group(1)
 
     def crate_counts(self):
         """How many crates there are, and how many each has with those below it."""
@@ -202,6 +207,9 @@ class Check:
         crates = self.repository.crate_counts()
         for found in CRATES.findall(line):
             self.test(int(found) in crates, page, place, f"{found} crates, where there are {max(crates)}")
+        for found in VERSION.findall(line):
+            here = self.repository.version
+            self.test(found in (here, here.split(",")[0]), page, place, f"version {found}, where the program prints {here}")
         if page.name.startswith("DEFINITIONS"):
             return
         for count, lines in DEFINITIONS.findall(line):
