@@ -91,7 +91,7 @@ carry_out-requires-clause-sleepers g c = rw c.in_ok-prepared.ensures.acting c.in
 changed_then : (g : given.Over) (c : goal.After-solve-arg-7-1 g) → HasChanged (the_view c.self.inside) c.carry_out.new.sets.acting c.carry_out.new.bodies.bodies c.carry_out.new.contacts.contacts
 changed_then g c =
     has_changed (the_view c.self.inside) c.self.inside.sets.acting c.prepare.new.sets.acting c.carry_out.new.sets.acting c.in_ok-prepared.prepared.changes.items c.carry_out.new.bodies.bodies c.carry_out.new.contacts.contacts c.self.invariant.whole c.in_ok-prepared.ensures.acting (rw (c.in_ok-prepared.ensures.begin, c.in_ok-prepared.ensures.end) at c.in_ok-prepared.ensures.changes)
-    c.carry_out.ensures.acting (rw c.in_ok-prepared.ensures.bodies at c.carry_out.ensures.bodies) (c.carry_out.ensures.contacts ∙ c.in_ok-prepared.ensures.due)
+    c.carry_out.ensures.acting (rw c.in_ok-prepared.ensures.bodies at c.carry_out.ensures.bodies) (c.carry_out.ensures.contacts ∙ c.in_ok-prepared.ensures.pending)
 
 pub solve-sums-requires-clause-few : goal.solve-sums-requires-clause-few
 solve-sums-requires-clause-few g c = few_changed (the_view c.self.inside) c.self.inside.sets.acting c.carry_out.new.sets.acting c.carry_out.new.bodies.bodies c.carry_out.new.contacts.contacts c.self.invariant.whole (changed_then g c)
@@ -124,7 +124,7 @@ solve-sums-requires-clause-room g c =
 changed_left : (g : given.Over) (c : goal.After-split g) → HasChanged (the_view c.self.inside) c.carry_out.new.sets.acting c.carry_out.new.bodies.bodies c.carry_out.new.contacts.contacts
 changed_left g c =
     has_changed (the_view c.self.inside) c.self.inside.sets.acting c.prepare.new.sets.acting c.carry_out.new.sets.acting c.in_ok-prepared.prepared.changes.items c.carry_out.new.bodies.bodies c.carry_out.new.contacts.contacts c.self.invariant.whole c.in_ok-prepared.ensures.acting (rw (c.in_ok-prepared.ensures.begin, c.in_ok-prepared.ensures.end) at c.in_ok-prepared.ensures.changes)
-    c.carry_out.ensures.acting (rw c.in_ok-prepared.ensures.bodies at c.carry_out.ensures.bodies) (c.carry_out.ensures.contacts ∙ c.in_ok-prepared.ensures.due)
+    c.carry_out.ensures.acting (rw c.in_ok-prepared.ensures.bodies at c.carry_out.ensures.bodies) (c.carry_out.ensures.contacts ∙ c.in_ok-prepared.ensures.pending)
 
 solved_left : (g : given.Over) (c : goal.After-split g) → HasSolved (the_view c.self.inside) c.in_ok-ticks.ticks c.solve-sums.new.bodies.bodies c.solve-sums.new.joints.joints c.solve-sums.new.contacts.contacts c.solve-sums.result
 solved_left g c =
@@ -193,7 +193,7 @@ rest_ready-rest-requires-clause-tells g c = rw (c.joints.ensures, c.split.ensure
 changed_at_last : (g : given.Over) (c : goal.After-record_step-arg-3-1 g) → HasChanged (the_view c.self.inside) c.carry_out.new.sets.acting c.carry_out.new.bodies.bodies c.carry_out.new.contacts.contacts
 changed_at_last g c =
     has_changed (the_view c.self.inside) c.self.inside.sets.acting c.prepare.new.sets.acting c.carry_out.new.sets.acting c.in_ok-prepared.prepared.changes.items c.carry_out.new.bodies.bodies c.carry_out.new.contacts.contacts c.self.invariant.whole c.in_ok-prepared.ensures.acting (rw (c.in_ok-prepared.ensures.begin, c.in_ok-prepared.ensures.end) at c.in_ok-prepared.ensures.changes)
-    c.carry_out.ensures.acting (rw c.in_ok-prepared.ensures.bodies at c.carry_out.ensures.bodies) (c.carry_out.ensures.contacts ∙ c.in_ok-prepared.ensures.due)
+    c.carry_out.ensures.acting (rw c.in_ok-prepared.ensures.bodies at c.carry_out.ensures.bodies) (c.carry_out.ensures.contacts ∙ c.in_ok-prepared.ensures.pending)
 
 solved_at_last : (g : given.Over) (c : goal.After-record_step-arg-3-1 g) → HasSolved (the_view c.self.inside) c.in_ok-ticks.ticks c.solve-sums.new.bodies.bodies c.solve-sums.new.joints.joints c.solve-sums.new.contacts.contacts c.solve-sums.result
 solved_at_last g c =
@@ -233,7 +233,7 @@ record_step-requires-clause-woke g c =
 after_changes : (g : given.Over) (c : goal.After-drop-prepared-2 g) → HasChanged (the_view c.self.inside) c.carry_out.new.sets.acting c.carry_out.new.bodies.bodies c.carry_out.new.contacts.contacts
 after_changes g c =
     has_changed (the_view c.self.inside) c.self.inside.sets.acting c.prepare.new.sets.acting c.carry_out.new.sets.acting c.in_ok-prepared.prepared.changes.items c.carry_out.new.bodies.bodies c.carry_out.new.contacts.contacts c.self.invariant.whole c.in_ok-prepared.ensures.acting (rw (c.in_ok-prepared.ensures.begin, c.in_ok-prepared.ensures.end) at c.in_ok-prepared.ensures.changes)
-    c.carry_out.ensures.acting (rw c.in_ok-prepared.ensures.bodies at c.carry_out.ensures.bodies) (c.carry_out.ensures.contacts ∙ c.in_ok-prepared.ensures.due)
+    c.carry_out.ensures.acting (rw c.in_ok-prepared.ensures.bodies at c.carry_out.ensures.bodies) (c.carry_out.ensures.contacts ∙ c.in_ok-prepared.ensures.pending)
 
 solved : (g : given.Over) (c : goal.After-drop-prepared-2 g) → HasSolved (the_view c.self.inside) c.in_ok-ticks.ticks c.solve-sums.new.bodies.bodies c.solve-sums.new.joints.joints c.solve-sums.new.contacts.contacts c.solve-sums.result
 solved g c =
@@ -283,7 +283,7 @@ invariant_of-self-2 g c =
     c.solve-sums.result (as_vector c.rest_ready-rest.result) c.record_step.new.events c.self.invariant.whole calls few (are_left g c))))
     c.in_ok-prepared.ensures.bodies refl
     (marked_after (cleared c.prepare.new.bodies) c.solve-sums.new.bodies c.rest_ready-rest.new.bodies (marked_after (cleared c.prepare.new.bodies) c.carry_out.new.bodies c.solve-sums.new.bodies c.carry_out.ensures.marked c.solve-sums.ensures.marked) c.rest_ready-rest.ensures.marked)
-    c.solve-sums.ensures.forbidden (c.solve-sums.ensures.numbers ∙ ap (λ (es : List ContactEntry). map number_of es) (c.carry_out.ensures.contacts ∙ c.in_ok-prepared.ensures.due))
+    c.solve-sums.ensures.forbidden (c.solve-sums.ensures.numbers ∙ ap (λ (es : List ContactEntry). map number_of es) (c.carry_out.ensures.contacts ∙ c.in_ok-prepared.ensures.pending))
     c.carry_out.new.anchors
     (complete_with_fewer c.carry_out.new.anchors.holds c.carry_out.new.anchors.lists c.carry_out.new.sets.acting.ties _ (fewer_rested _ _ _ c.carry_out.new.sets.acting c.rest_ready-rest.new.sets.acting c.rest_ready-rest.ensures.acting)
     (c.carry_out.ensures.anchored (subst (λ (a : Acting Constraint). AreComplete c.self.inside.anchors.holds c.self.inside.anchors.lists a.ties) (sym c.in_ok-prepared.ensures.acting) c.self.invariant.anchored)))
