@@ -23,6 +23,7 @@ import shutil
 import sys
 import threading
 import time
+from functools import lru_cache
 from pathlib import Path
 
 HERE = Path(__file__).resolve().parent.parent
@@ -46,6 +47,8 @@ def load_rt(checkout):
         rt.read_files(self)
 
     rt.rtlib.Crate.__init__ = begin_with_files
+    # (a crate asks for the stamps of all below it, each of which does so again)
+    rt.rtlib.Crate.stamp = lru_cache(None)(rt.rtlib.Crate.stamp)
     rt.rtlib.Crate = rt.Crate
     rt.Crate.cuts_libraries = True
     rt.Crate.allowed = rt.handles_of(str(checkout))
@@ -79,7 +82,8 @@ class Chain:
             total, folder = hashlib.sha256(), Path(crate.rlib).parent
             for file in sorted(folder.rglob("*")):
                 if file.is_file() and file.name != "stamp":
-                    total.update(repr((str(file.relative_to(folder)), file.read_bytes())).encode())
+                    total.update(f"{file.relative_to(folder)}\n{file.stat().st_size}\n".encode())
+                    total.update(file.read_bytes())
             self.sums[crate.name] = total.hexdigest()
         return self.sums[crate.name]
 
