@@ -32,7 +32,7 @@ RUST_USE = re.compile(r"^[ \t]*(?P<seen>pub(?:\([^)]*\))?\s+)?use\s+(?P<tree>[^;
 ANTT_USE = re.compile(
     r"^[ \t]*(?P<seen>pub )?(?:ghost )?use (?P<where>[\w.]+)(?:\.\{(?P<names>[^}]*)\}| as (?P<short>[\w']+));?[ \t]*$", re.M
 )
-WORD = re.compile(r"[^\W\d][\w']*")
+WORD = re.compile(r"(?<!\w)[^\W\d][\w']*")
 # A word of a definition, which may have hyphens; a dot before it makes it a field.
 TERM_WORD = re.compile(r"(?<![\w'.-])[^\W\d][\w']*(?:-[\w']+)*")
 RUST_WORDS = set(

@@ -1,3 +1,6 @@
+pub mod Answered
 pub mod Digits
 pub mod Plain
+pub mod Signs
 pub mod Taken
+pub mod Unique

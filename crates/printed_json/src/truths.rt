@@ -2,14 +2,15 @@
 
 ghost use Rattle.std.specs.Prelude.{◌≡◌, IfSome};
 ghost use Rattle.serde_json.specs.Data.{boolean};
-ghost use Rattle.printed_json.specs.Leads.{Leads};
+ghost use Rattle.printed_json.specs.Leads.{IsAny, Leads, Reads};
 
 use crate::text::Text;
 
 impl<'a> Text<'a> {
     /// A truth, after these bytes.
     pub fn truth(&mut self, lead: &[u8]) -> Option<bool>
-        ensures { IfSome result (λ holds. Leads lead.now (boolean holds) self.old.rest.now self.new.rest.now) }
+        ensures text { IfSome result (λ holds. Leads lead.now (boolean holds) self.old.rest.now self.new.rest.now) }
+        ensures reads { Reads boolean IsAny lead.now self.old.rest.now result self.new.rest.now }
     {
         self.expect(lead)?;
         if self.take(b"true") {

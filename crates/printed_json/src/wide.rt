@@ -1,23 +1,20 @@
 //! Whole numbers of up to 128 bits, which stand in the text as texts.
 
-ghost use Rattle.std.specs.Prelude.{◌≡◌, ◌<◌, ◌^◌, ◌++◌, decimal, IfSome, neg_ℤ, pos, unsigned_abs};
+ghost use Rattle.std.specs.Prelude.{◌≡◌, ◌<◌, ◌^◌, ◌++◌, decimal, IfSome, IsSome, neg_ℤ, pos, []};
 ghost use Rattle.std.specs.Fmt.{signed_decimal};
-ghost use Rattle.serde_json.specs.Data.{string};
-ghost use Rattle.printed_json.specs.Leads.{Leads};
+ghost use Rattle.printed_json.specs.Leads.{decimal_of, integer, IsWide, IsWideUnsigned, Leads, natural, Reads};
 
 use crate::text::Text;
 
 /// The greatest number that may have one more digit.
-const BEFORE_A_DIGIT: u128 = 17_014_118_346_046_923_173_168_730_371_588_410_571;
-
-/// How many digits a number has after its first at most.
-const MORE_DIGITS: u8 = 38;
+const BEFORE_A_DIGIT: u128 = 17_014_118_346_046_923_173_168_730_371_588_410_572;
 
 /// A number below zero of this size.
 fn negative_of(size: u128) -> Option<i128>
     ensures negative { IfSome result (λ z. z ≡ neg_ℤ (pos size)) }
     ensures some { IfSome result (λ _. 0 < size) }
     ensures low { IfSome result (λ _. size < 2 ^ 127) }
+    ensures fits { 0 < size → size < 2 ^ 127 → IsSome result }
 {
     match i128::try_from(size) {
         Ok(size) if size > 0 => Some(-size),
@@ -28,6 +25,7 @@ fn negative_of(size: u128) -> Option<i128>
 fn positive_of(size: u128) -> Option<i128>
     ensures positive { IfSome result (λ z. z ≡ pos size) }
     ensures low { IfSome result (λ _. size < 2 ^ 127) }
+    ensures fits { size < 2 ^ 127 → IsSome result }
 {
     i128::try_from(size).ok()
 }
@@ -35,17 +33,15 @@ fn positive_of(size: u128) -> Option<i128>
 impl<'a> Text<'a> {
     /// Takes the digits of a number. No zero stands before others.
     fn wide_digits(&mut self) -> Option<u128>
-        ensures { IfSome result (λ n. self.old.rest.now ≡ decimal n ++ self.new.rest.now) }
+        ensures text { IfSome result (λ n. self.old.rest.now ≡ decimal n ++ self.new.rest.now) }
+        ensures reads { Reads natural IsWideUnsigned [] self.old.rest.now result self.new.rest.now }
     {
         let first = self.digit()?;
         if first == 0 {
             return Some(0);
         }
         let mut number = u128::from(first);
-        for _ in 0..MORE_DIGITS {
-            let Some(digit) = self.digit() else {
-                return Some(number);
-            };
+        while let Some(digit) = self.digit() {
             if number > BEFORE_A_DIGIT {
                 return None;
             }
@@ -56,7 +52,8 @@ impl<'a> Text<'a> {
 
     fn wide_signed(&mut self) -> Option<i128>
         ensures text { IfSome result (λ z. self.old.rest.now ≡ signed_decimal z ++ self.new.rest.now) }
-        ensures size { IfSome result (λ z. unsigned_abs z < 2 ^ 127) }
+        ensures size { IfSome result IsWide }
+        ensures reads { Reads integer IsWide [] self.old.rest.now result self.new.rest.now }
     {
         if self.take(b"-") {
             negative_of(self.wide_digits()?)
@@ -67,7 +64,8 @@ impl<'a> Text<'a> {
 
     /// A number with a sign as a text, after these bytes.
     pub fn decimal(&mut self, lead: &[u8]) -> Option<i128>
-        ensures { IfSome result (λ z. Leads lead.now (string (signed_decimal z)) self.old.rest.now self.new.rest.now) }
+        ensures text { IfSome result (λ z. Leads lead.now (decimal_of z) self.old.rest.now self.new.rest.now) }
+        ensures reads { Reads decimal_of IsWide lead.now self.old.rest.now result self.new.rest.now }
     {
         self.expect(lead)?;
         self.expect(b"\"")?;

@@ -12,4 +12,4 @@ returns c =
     let second : SFits w64 c.in_ok-restitution.restitution = search rules in
     rw c.shape_with.ensures (simp to_z-of_z (circle_holds c.in_ok-category.category c.in_ok-center.center c.in_ok-surround.surround c.in_ok-radius.radius c.in_ok-restitution.restitution _ _ _ _ _ _ _ _
     c.in_ok-category.ensures.small c.in_ok-center.ensures.signed c.in_ok-surround.ensures.fits c.in_ok-radius.ensures.signed c.in_ok-restitution.ensures.signed
-    c.in_ok-expect.ensures c.in_ok-category.ensures.text c.in_ok-center.ensures.text c.in_ok-surround.ensures.text c.in_ok-radius.ensures.text c.in_ok-restitution.ensures.text c.in_ok-expect-2.ensures))
+    c.in_ok-expect.ensures.taken c.in_ok-category.ensures.text c.in_ok-center.ensures.text c.in_ok-surround.ensures.text c.in_ok-radius.ensures.text c.in_ok-restitution.ensures.text c.in_ok-expect-2.ensures.taken))

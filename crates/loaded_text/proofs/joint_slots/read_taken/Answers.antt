@@ -6,4 +6,4 @@ use Rattle.loaded_text.proofs.joint_slots.read_taken.Goals as goal
 
 pub returns : goal.returns
 unfolding escape_byte
-returns c = taken_holds c.in_ok-joint.joint c.in_ok-generation.generation _ _ _ _ _ c.in_ok-generation.ensures.positive (let most = c.in_ok-generation.ensures.most in grind (arith, nat_tests)) c.in_ok-expect.ensures c.in_ok-generation.ensures.text c.in_ok-joint.ensures c.in_ok-expect-2.ensures
+returns c = taken_holds c.in_ok-joint.joint c.in_ok-generation.generation _ _ _ _ _ c.in_ok-generation.ensures.positive (let most = c.in_ok-generation.ensures.most in grind (arith, nat_tests)) c.in_ok-expect.ensures.taken c.in_ok-generation.ensures.text c.in_ok-joint.ensures c.in_ok-expect-2.ensures.taken

@@ -23,4 +23,4 @@ returns c =
       positive = c.in_ok-length.ensures.nonnegative;
       to = rw c.unsigned_abs-4.ensures.value at c.in_ok-to.ensures.within;
     })
-    c.in_ok-expect.ensures c.in_ok-expect-2.ensures c.in_ok-a.ensures.text c.in_ok-b.ensures.text c.in_ok-collide.ensures c.in_ok-colour.ensures.text c.in_ok-from.ensures.text c.in_ok-impulse.ensures.text c.in_ok-length.ensures.text c.in_ok-to.ensures.text c.in_ok-expect-3.ensures))
+    c.in_ok-expect.ensures.taken c.in_ok-expect-2.ensures.taken c.in_ok-a.ensures.text c.in_ok-b.ensures.text c.in_ok-collide.ensures c.in_ok-colour.ensures.text c.in_ok-from.ensures.text c.in_ok-impulse.ensures.text c.in_ok-length.ensures.text c.in_ok-to.ensures.text c.in_ok-expect-3.ensures.taken))

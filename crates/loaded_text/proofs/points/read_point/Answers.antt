@@ -24,6 +24,6 @@ returns c =
       slip = c.in_ok-slip.ensures.size;
     } in
     record {
-      text = simp to_z-of_z (point_holds p _ _ _ _ _ _ _ _ _ _ fits c.in_ok-expect.ensures c.in_ok-candidate.ensures.text c.in_ok-normal.ensures.text c.in_ok-push.ensures.text c.in_ok-ra.ensures.text c.in_ok-rb.ensures.text c.in_ok-separation.ensures.text c.in_ok-slip.ensures.text c.in_ok-expect-2.ensures);
+      text = simp to_z-of_z (point_holds p _ _ _ _ _ _ _ _ _ _ fits c.in_ok-expect.ensures.taken c.in_ok-candidate.ensures.text c.in_ok-normal.ensures.text c.in_ok-push.ensures.text c.in_ok-ra.ensures.text c.in_ok-rb.ensures.text c.in_ok-separation.ensures.text c.in_ok-slip.ensures.text c.in_ok-expect-2.ensures.taken);
       packable = simp to_z-of_z (is_packable p fits);
     }

@@ -6,4 +6,4 @@ pub returns : goal.returns
 unfolding escape_byte
 returns c = contact_holds c.in_ok-first.first c.in_ok-second.second c.in_ok-colour.colour c.in_ok-points.points c.in_ok-touching.touching _ _ _ _ _ _ _ _
     (record { first_slot = c.in_ok-first.ensures.slot; first_index = c.in_ok-first.ensures.index; second_slot = c.in_ok-second.ensures.slot; second_index = c.in_ok-second.ensures.index; colour_is = c.in_ok-colour.ensures.low })
-    c.in_ok-expect.ensures c.in_ok-first.ensures.text c.in_ok-second.ensures.text c.in_ok-colour.ensures.text c.in_ok-points.ensures c.in_ok-touching.ensures c.in_ok-expect-2.ensures
+    c.in_ok-expect.ensures.taken c.in_ok-first.ensures.text c.in_ok-second.ensures.text c.in_ok-colour.ensures.text c.in_ok-points.ensures c.in_ok-touching.ensures c.in_ok-expect-2.ensures.taken

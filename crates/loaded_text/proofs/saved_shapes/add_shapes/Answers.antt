@@ -8,4 +8,4 @@ pub loop-place-preserved : goal.loop-place-preserved
 loop-place-preserved c = shape_more c.loop-place.place c.args.loaded.now _ _ c.in_ok-shape.shape _ _ _ _ c.loop-place.invariant (c.in_ok-more.ensures.more c.if-not-more.false) c.in_ok-shape.ensures c.in_ok-keep_shape.ensures.shapes c.in_ok-keep_shape.ensures.fats
 
 pub returns-then-not-more : goal.returns-then-not-more
-returns-then-not-more c = shapes_end c.args.lead.now c.loop-place.place c.args.loaded.now c.loop-place.loaded _ _ _ _ _ c.in_ok-expect.ensures c.in_ok-expect-2.ensures c.loop-place.invariant (c.in_ok-more.ensures.end c.if-not-more.true)
+returns-then-not-more c = shapes_end c.args.lead.now c.loop-place.place c.args.loaded.now c.loop-place.loaded _ _ _ _ _ c.in_ok-expect.ensures.taken c.in_ok-expect-2.ensures.taken c.loop-place.invariant (c.in_ok-more.ensures.end c.if-not-more.true)

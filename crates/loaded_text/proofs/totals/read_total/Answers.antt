@@ -12,7 +12,7 @@ returns-clause-text c =
     let y = c.in_ok-y.y in
     let first : SFits w128 x = search rules in
     let second : SFits w128 y = search rules in
-    simp to_z-of_z (pair_stands c.args.lead.now (decimal_of x) (decimal_of y) _ _ _ _ _ c.in_ok-expect.ensures c.in_ok-x.ensures.text c.in_ok-y.ensures.text c.in_ok-expect-2.ensures)
+    simp to_z-of_z (pair_stands c.args.lead.now (decimal_of x) (decimal_of y) _ _ _ _ _ c.in_ok-expect.ensures.taken c.in_ok-x.ensures.text c.in_ok-y.ensures.text c.in_ok-expect-2.ensures.taken)
 
 pub returns-clause-small : goal.returns-clause-small
 returns-clause-small c =

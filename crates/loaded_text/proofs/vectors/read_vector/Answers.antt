@@ -11,7 +11,7 @@ returns-clause-text c =
     let y = c.in_ok-y.y in
     let first : SFits w64 x = search rules in
     let second : SFits w64 y = search rules in
-    simp to_z-of_z (pair_stands c.args.lead.now (integer x) (integer y) _ _ _ _ _ c.in_ok-expect.ensures c.in_ok-x.ensures.text c.in_ok-y.ensures.text c.in_ok-expect-2.ensures)
+    simp to_z-of_z (pair_stands c.args.lead.now (integer x) (integer y) _ _ _ _ _ c.in_ok-expect.ensures.taken c.in_ok-x.ensures.text c.in_ok-y.ensures.text c.in_ok-expect-2.ensures.taken)
 
 pub returns-clause-signed : goal.returns-clause-signed
 returns-clause-signed c =
