@@ -48,26 +48,26 @@ pub(crate) fn generation_at(slot_entries: &[SlotEntry], slot: usize) -> u32
     ensures { result ≡ generation_at slot_entries.now slot }
 {
     match slot_entries.get(slot) {
-        Some(entry) => entry.generation,
+        Some(place) => place.generation,
         None => 1,
     }
 }
 
-// Notes that a slot is given out, a new one where it has no entry yet.
+// Marks a slot as given out, which is the next new one where it isn't among the places.
 pub(crate) fn give_out(slot_entries: &mut Vec<SlotEntry>, slot: usize, generation: u32)
     requires room { 1 ≤ vec_capacity slot_entries.old - vec_len slot_entries.old }
     requires generation { generation ≡ generation_at slot_entries.old.items slot }
     ensures slot_entries { slot_entries.new.items ≡ slot_entries_with slot_entries.old.items slot }
     ensures capacity { vec_capacity slot_entries.old ≤ vec_capacity slot_entries.new }
 {
-    let entry = SlotEntry {
+    let place = SlotEntry {
         generation,
         live: true,
     };
     if slot < slot_entries.len() {
-        slot_entries[slot] = entry;
+        slot_entries[slot] = place;
     } else {
-        let _ = slot_entries.push(entry);
+        let _ = slot_entries.push(place);
     }
 }
 
@@ -78,9 +78,9 @@ pub(crate) fn take_back(slot_entries: &mut Vec<SlotEntry>, handle: Handle)
     ensures slot_entries { slot_entries.new.items ≡ slot_entries_without slot_entries.old.items handle }
     ensures capacity { vec_capacity slot_entries.new ≡ vec_capacity slot_entries.old }
 {
-    let entry = &mut slot_entries[handle.slot as usize];
-    entry.generation += 1;
-    entry.live = false;
+    let place = &mut slot_entries[handle.slot as usize];
+    place.generation += 1;
+    place.live = false;
 }
 
 /// The law of the limits: the numbers that definitions take from the code, in digits. The function does nothing; its contract is

@@ -1,12 +1,190 @@
-//! Worlds, worlds that seats share, publishers and readers, by the calls that are made of them, in methods that promise nothing. The checks are generic
-//! over them, so that no proof of this program has to read what they promise or keep, but for those of the methods.
+//! A world by the calls that are made of it, in methods that promise nothing. The checks and the trials are generic over it, so that no proof of this program has to
+//! read what a world promises or keeps, but for those of the methods.
 
-mod of_mirrors;
-mod of_seats;
-mod of_workers;
-mod of_worlds;
+use fixed_geom::Box2;
+use impulse_ledger::Ledger;
+use serde_json::Value;
+use shapes::Shape;
+use std::alloc::Global;
+use world_core::{
+    BodyView, Census, Command, Constraint, Events, Frame, Handle, Item, Plain, Pose, Refusal,
+    Reply, ShapeId, Vec2, WorldCore,
+};
+use world_queries::{Hit, QueryFilter};
 
-pub use of_mirrors::{Reads, Shows, Told, publish_until};
-pub use of_seats::{Called, Left, SeatAnswer, Seen, Shared, Shown, Shut, shown_by};
-pub use of_workers::{step_by_next_workers, step_by_workers};
-pub use of_worlds::{Answer, World, calls_of, first_static, hit_in, over_in};
+/// What a world answers to a command.
+pub type Answer = Result<Reply, Refusal>;
+
+/// The calls of a world.
+pub trait World: Drop {
+    /// A world without bodies.
+    fn empty(alloc: Global, gravity: Vec2) -> Result<Self, Refusal>;
+
+    fn copied(&self) -> Result<Self, Refusal>;
+
+    fn apply(&mut self, command: &Command) -> Answer;
+
+    fn replay(&mut self, alloc: Global, commands: &[Command]) -> Result<Vec<Answer>, Refusal>;
+
+    fn step(&mut self, ticks: i64) -> Answer;
+
+    fn settle(&mut self);
+
+    fn lists(&self) -> Result<Plain, Refusal>;
+
+    fn census(&self) -> Result<Census, Refusal>;
+
+    fn saved(&self) -> Result<Value, Refusal>;
+
+    fn loaded(alloc: Global, value: &Value) -> Result<Self, Refusal>;
+
+    fn frame(&self) -> Result<Frame, Refusal>;
+
+    fn body(&self, handle: Handle) -> Option<BodyView>;
+
+    fn colour(&self, constraint: Constraint) -> Option<u8>;
+
+    fn slots(&self) -> u32;
+
+    /// A shape of an enabled body, and where it is.
+    fn shape(&self, id: ShapeId) -> Option<(Shape, Pose)>;
+
+    fn events(&self) -> &Events;
+
+    fn ledger(&self) -> &Ledger;
+
+    /// What a ray hits first, if its numbers are within their limits.
+    fn hit(&self, from: Vec2, along: Vec2) -> Option<Hit>;
+
+    /// What a ray hits first of the shapes that the filter lets through. Refused 5 where its numbers are beyond their limits.
+    fn hit_through(
+        &self,
+        from: Vec2,
+        along: Vec2,
+        filter: QueryFilter,
+    ) -> Result<Option<Hit>, Refusal>;
+
+    /// The shapes that lie over a box.
+    fn region(&self, alloc: Global, bounds: &Box2) -> Result<Vec<ShapeId>, Refusal>;
+}
+
+impl World for WorldCore {
+    fn empty(alloc: Global, gravity: Vec2) -> Result<WorldCore, Refusal> {
+        WorldCore::new(alloc, gravity)
+    }
+
+    fn copied(&self) -> Result<WorldCore, Refusal> {
+        self.try_copy()
+    }
+
+    fn apply(&mut self, command: &Command) -> Answer {
+        WorldCore::apply(self, command)
+    }
+
+    fn replay(&mut self, alloc: Global, commands: &[Command]) -> Result<Vec<Answer>, Refusal> {
+        WorldCore::replay(self, alloc, commands)
+    }
+
+    fn step(&mut self, ticks: i64) -> Answer {
+        self.step_one(ticks)
+    }
+
+    fn settle(&mut self) {
+        self.settle_ledger();
+    }
+
+    fn lists(&self) -> Result<Plain, Refusal> {
+        self.plain()
+    }
+
+    fn census(&self) -> Result<Census, Refusal> {
+        WorldCore::census(self)
+    }
+
+    fn saved(&self) -> Result<Value, Refusal> {
+        self.save()
+    }
+
+    fn loaded(alloc: Global, value: &Value) -> Result<WorldCore, Refusal> {
+        match WorldCore::load(alloc, value) {
+            Ok(world) => Ok(world),
+            Err(broken) => Err(broken.refusal()),
+        }
+    }
+
+    fn frame(&self) -> Result<Frame, Refusal> {
+        WorldCore::frame(self)
+    }
+
+    fn body(&self, handle: Handle) -> Option<BodyView> {
+        WorldCore::body(self, handle)
+    }
+
+    fn colour(&self, constraint: Constraint) -> Option<u8> {
+        self.colour_of(constraint)
+    }
+
+    fn slots(&self) -> u32 {
+        WorldCore::slots(self)
+    }
+
+    fn shape(&self, id: ShapeId) -> Option<(Shape, Pose)> {
+        match self.shape_of(id) {
+            Some((shape, pose)) => Some((*shape, pose)),
+            None => None,
+        }
+    }
+
+    fn events(&self) -> &Events {
+        WorldCore::events(self)
+    }
+
+    fn ledger(&self) -> &Ledger {
+        WorldCore::ledger(self)
+    }
+
+    fn hit(&self, from: Vec2, along: Vec2) -> Option<Hit> {
+        if world_queries::is_ray(from, along) {
+            world_queries::ray(self, from, along)
+        } else {
+            None
+        }
+    }
+
+    fn hit_through(
+        &self,
+        from: Vec2,
+        along: Vec2,
+        filter: QueryFilter,
+    ) -> Result<Option<Hit>, Refusal> {
+        if world_queries::is_ray(from, along) {
+            world_queries::filtered_ray(self, from, along, filter)
+        } else {
+            Err(Refusal::OutOfRange)
+        }
+    }
+
+    fn region(&self, alloc: Global, bounds: &Box2) -> Result<Vec<ShapeId>, Refusal> {
+        if world_queries::is_region(bounds) {
+            world_queries::region(alloc, self, bounds)
+        } else {
+            Err(Refusal::OutOfRange)
+        }
+    }
+}
+
+/// The first body of the static set.
+pub fn first_static(census: &Census) -> Option<Handle> {
+    match census.static_set().first() {
+        Some(Item::Body(handle)) => Some(*handle),
+        _ => None,
+    }
+}
+
+/// How many calls it accepted.
+pub fn calls_of<W: World>(world: &W) -> Result<u64, Refusal> {
+    match world.lists() {
+        Ok(lists) => Ok(lists.calls()),
+        Err(refusal) => Err(refusal),
+    }
+}

@@ -1,4 +1,4 @@
--- A row of any kind and its two bodies after a visit.
+-- A row of any kind and its two bodies after a turn.
 use Rattle.momenta.specs.declared.state.Ends.{Ends}
 
 pub record RowAfter (R : Type 0) : Type 0 where

@@ -130,14 +130,6 @@ fn read_contacts(
     }
 }
 
-/// Of the rows that have no colour the joints come first. The function does nothing; its contract is the law.
-#[inline(always)]
-fn know_joints_first(rows: &Rows)
-    ensures { joints_first (joints_among rows.now.left) (contacts_among rows.now.left) ≡ rows.now.left }
-{
-    let _ = rows.joints_left();
-}
-
 /// Reads all rows back, each into its colour, where no rows are.
 pub(crate) fn read_rows(
     rows: &Rows,
@@ -191,7 +183,7 @@ pub(crate) fn read_rows(
         joints_at = joints_end;
         contacts_at = contacts_end;
     }
-    know_joints_first(rows);
+    let _ = rows.joints_left();
     read_joints(
         joints,
         joints_at,

@@ -10,15 +10,17 @@ ghost use Rattle.islands.specs.Laws.{AddingKeeps, MergingKeeps, LooseningKeeps, 
 
 mod adding;
 mod islands;
+mod joining;
 mod label;
 mod leaving;
 mod listing;
-mod merge;
+mod merging;
+mod parts;
 mod room;
+mod scattering;
 mod scratch;
-mod split;
+mod splitting;
 mod thread_nodes;
-mod threads;
 
 pub use islands::Islands;
 pub use label::{IslandState, Label, sleeping_name};

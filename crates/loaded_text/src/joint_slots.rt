@@ -1,4 +1,4 @@
-//! The slots of joints, read.
+//! The slots of joints.
 
 ghost use Rattle.std.specs.Prelude.{◌≡◌, ◌∷◌, ◌++◌, [], IfSome};
 ghost use Rattle.loaded_text.specs.Joints.{JointSlotHolds, JointsHold};

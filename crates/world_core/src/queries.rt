@@ -39,20 +39,20 @@ impl WorldCore {
         ensures live { IfSome result (λ handle. IsLive self.now.plain.slot_entries handle) }
     {
         match self.slot_entries().get(slot as usize) {
-            Some(entry) => handle_of(slot, *entry),
+            Some(place) => handle_of(slot, *place),
             None => None,
         }
     }
 }
 
 /// The id of what the slot was given out for, if it is taken.
-fn handle_of(slot: u32, entry: SlotEntry) -> Option<Handle>
-    ensures { result ≡ handle_of slot (Some entry) }
+fn handle_of(slot: u32, place: SlotEntry) -> Option<Handle>
+    ensures { result ≡ handle_of slot (Some place) }
 {
-    if entry.live {
+    if place.live {
         Some(Handle {
             slot,
-            generation: entry.generation,
+            generation: place.generation,
         })
     } else {
         None

@@ -1,4 +1,5 @@
 pub mod World
+pub mod Needs
 pub mod Settled
 pub mod Collide
 pub mod Sets
