@@ -7,9 +7,9 @@ It proves these crates and all below them, or with no name every crate, side by 
 and `--edits` tries the edits of `must-fail/`. `--from` first takes what another checkout has proved of the same text.
 The checkout is that of this script where none is named.
 
-A proof stands as long as the crate's own files and the libraries below are the same, byte for byte. A library has the
-texts of its proofs in it. So after a change of proofs alone the crates above are proved again, too. The libraries lie
-in `crates/*/out`, where `rt check` takes them up. Only `rt ci` is the verdict: run it before a change is merged.
+A proof stands as long as the crate's own files and the libraries below are the same, byte for byte. A change of proofs
+alone leaves a library as it was, so the crates above aren't proved again. The libraries lie in `crates/*/out`, where
+`rt check` takes them up. Only `rt ci` is the verdict: run it before a change is merged.
 
 It calls functions within the kit's command `rt`, and may need a change where another kit has other ones.
 """

@@ -9,7 +9,7 @@ use Rattle.std.proofs.lemmas.List.Sums.{passes_at_first, fails_before_first, pre
 use Rattle.body_handles.specs.declared.slot_table.SlotEntry.{SlotEntry}
 use Rattle.body_handles.specs.SlotEntries.{is_open, lowest}
 
--- some place, for reads past the end
+-- some entry, for reads past the end
 pub no_slot_entry : SlotEntry
 no_slot_entry = record { generation = 0; live = false }
 
@@ -46,13 +46,13 @@ pub lowest-set : (slot_entries : List SlotEntry) (n slot : ℕ) (p : SlotEntry) 
 lowest-set slot_entries n slot p h le = let len = lowest-le-length slot_entries in le-lowest (slice_set slot_entries slot p) n (grind (arith, common_steps))
     (λ k lt. let ne : k ≢ slot = omega arith in rw (get_or-set_other slot_entries slot k p no_slot_entry ne) (closed_below slot_entries n k h lt))
 
--- a write of a place that isn't open, at the lowest open slot
+-- a write of an entry that isn't open, at the lowest open slot
 pub lowest-set_closed : (slot_entries : List SlotEntry) (slot : ℕ) (p : SlotEntry) → slot ≤ lowest slot_entries → slot < length slot_entries → is_open p ≡ false → slot + 1 ≤ lowest (slice_set slot_entries slot p)
 lowest-set_closed slot_entries slot p h within shut =
     let here : get_or (slice_set slot_entries slot p) slot no_slot_entry ≡ p = get_or-set_same slot_entries slot p no_slot_entry within in
     suc-le-lowest (slice_set slot_entries slot p) slot (grind (arith, common_steps)) (lowest-set slot_entries slot slot p h (omega arith)) (rw here shut)
 
--- a new place that isn't open, where none is
+-- a new entry that isn't open, where none is
 pub lowest-push_closed : (slot_entries : List SlotEntry) (p : SlotEntry) → length slot_entries ≤ lowest slot_entries → is_open p ≡ false → length slot_entries + 1 ≤ lowest (slot_entries ++ p ∷ [])
 lowest-push_closed slot_entries p h shut =
     let here : get_or (slot_entries ++ p ∷ []) (length slot_entries) no_slot_entry ≡ p = get_or-append_seam slot_entries p [] no_slot_entry in

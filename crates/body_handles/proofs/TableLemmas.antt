@@ -16,7 +16,7 @@ use Rattle.body_handles.proofs.LowestLemmas.{no_slot_entry, lowest-le-length, lo
 IsSlotEntry-opened : (p : SlotEntry) → is_open p ≡ true → IsSlotEntry p → IsSlotEntry (record { generation = p.generation; live = true })
 IsSlotEntry-opened p shown ok = record { positive = ok.positive; bounded = ok.bounded; takes_back = λ e. grind (arith, common_steps) }
 
--- the place that is given out can be taken back
+-- the entry that is given out can be taken back
 pub IsSlotEntry-given : (slot_entries : List SlotEntry) → All IsSlotEntry slot_entries → IsSlotEntry (record { generation = generation_at slot_entries (lowest slot_entries); live = true })
 IsSlotEntry-given slot_entries all = elim (cases_lt (lowest slot_entries) (length slot_entries)) [
   | inl h ↦ rw (slice_get-get_or slot_entries (lowest slot_entries) no_slot_entry h) (IsSlotEntry-opened _ (passes_at_first is_open slot_entries no_slot_entry h) (all (lowest slot_entries) no_slot_entry h))

@@ -9,12 +9,12 @@ pub data Call : Type 0 where
   Insert : Call
   Remove : Handle → Call
 
--- the places after a call: an insert that is refused changes nothing, and what isn't live is not taken back
+-- the slot entries after a call: an insert that is refused changes nothing, and what isn't live is not taken back
 abbrev pub after_call : Call → List SlotEntry → List SlotEntry
 after_call Insert slot_entries = if nat_lt (lowest slot_entries) MAX_SLOTS then slot_entries_with slot_entries (lowest slot_entries) else slot_entries
 after_call (Remove h) slot_entries = if is_live slot_entries h then slot_entries_without slot_entries h else slot_entries
 
--- the places after a list of calls, the first one first
+-- the slot entries after a list of calls, the first one first
 abbrev pub after_calls : List Call → List SlotEntry → List SlotEntry
 after_calls [] slot_entries = slot_entries
 after_calls (call ∷ calls) slot_entries = after_calls calls (after_call call slot_entries)

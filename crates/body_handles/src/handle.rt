@@ -14,6 +14,12 @@ pub struct Handle {
     pub generation: u32,
 }
 
+/// What is taken where there is no id. It names nothing: generations begin with 1.
+pub const NO_HANDLE: Handle = Handle {
+    slot: 0,
+    generation: 0,
+};
+
 impl Handle {
     /// How two handles compare: by slot, and of one slot by generation. Lists of handles ascend in this order.
     pub fn compare(self, other: Handle) -> Ordering

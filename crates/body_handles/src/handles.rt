@@ -13,7 +13,7 @@ use fixed_geom::Refusal;
 use std::alloc::Global;
 use std::marker::Model;
 
-/// The slots of one kind of item. Contracts see the places by slot (`slot_entries`) and how many more slots may be
+/// The slots of one kind of item. Contracts see the entries by slot (`slot_entries`) and how many more slots may be
 /// added with no memory (`room`).
 #[derive(Drop)]
 pub struct Handles {
@@ -106,7 +106,7 @@ impl Handles {
         ensures value { result ≡ is_live self.now.slot_entries handle }
     {
         match self.slot_entries.get(handle.slot as usize) {
-            Some(place) => place.live && place.generation == handle.generation,
+            Some(entry) => entry.live && entry.generation == handle.generation,
             None => false,
         }
     }

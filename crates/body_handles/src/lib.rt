@@ -18,7 +18,7 @@ mod handles;
 mod ids;
 mod slot_table;
 
-pub use handle::Handle;
+pub use handle::{Handle, NO_HANDLE};
 pub use handles::Handles;
 pub use ids::{Id, handle_of};
 pub use slot_table::{MAX_SLOTS, SlotEntry, WORN_OUT, limits_in_digits};

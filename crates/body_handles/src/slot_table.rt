@@ -48,26 +48,26 @@ pub(crate) fn generation_at(slot_entries: &[SlotEntry], slot: usize) -> u32
     ensures { result ≡ generation_at slot_entries.now slot }
 {
     match slot_entries.get(slot) {
-        Some(place) => place.generation,
+        Some(entry) => entry.generation,
         None => 1,
     }
 }
 
-// Marks a slot as given out, which is the next new one where it isn't among the places.
+// Notes that a slot is given out, a new one where it has no entry yet.
 pub(crate) fn give_out(slot_entries: &mut Vec<SlotEntry>, slot: usize, generation: u32)
     requires room { 1 ≤ vec_capacity slot_entries.old - vec_len slot_entries.old }
     requires generation { generation ≡ generation_at slot_entries.old.items slot }
     ensures slot_entries { slot_entries.new.items ≡ slot_entries_with slot_entries.old.items slot }
     ensures capacity { vec_capacity slot_entries.old ≤ vec_capacity slot_entries.new }
 {
-    let place = SlotEntry {
+    let entry = SlotEntry {
         generation,
         live: true,
     };
     if slot < slot_entries.len() {
-        slot_entries[slot] = place;
+        slot_entries[slot] = entry;
     } else {
-        let _ = slot_entries.push(place);
+        let _ = slot_entries.push(entry);
     }
 }
 
@@ -78,9 +78,9 @@ pub(crate) fn take_back(slot_entries: &mut Vec<SlotEntry>, handle: Handle)
     ensures slot_entries { slot_entries.new.items ≡ slot_entries_without slot_entries.old.items handle }
     ensures capacity { vec_capacity slot_entries.new ≡ vec_capacity slot_entries.old }
 {
-    let place = &mut slot_entries[handle.slot as usize];
-    place.generation += 1;
-    place.live = false;
+    let entry = &mut slot_entries[handle.slot as usize];
+    entry.generation += 1;
+    entry.live = false;
 }
 
 /// The law of the limits: the numbers that definitions take from the code, in digits. The function does nothing; its contract is

@@ -26,24 +26,24 @@ depth_within (suc h) n few f = elim (low_or_high h) [ inl p ↦ omega (arith, p)
 
 -- ---- as many leaves as boxes
 
-as_many : (n : ℕ) (places : List (Option KeyEntry)) (boxes : List (Option Box2)) → AreStanding n places boxes → filled places ≡ boxed boxes
+as_many : (n : ℕ) (entries : List (Option KeyEntry)) (boxes : List (Option Box2)) → AreStanding n entries boxes → filled entries ≡ boxed boxes
 as_many n [] [] h = refl
 as_many n [] (b ∷ boxes) h = absurd h
-as_many n (o ∷ places) [] h = absurd h
-as_many n (None ∷ places) (None ∷ boxes) h = as_many (suc n) places boxes h.1
-as_many n (None ∷ places) (Some b ∷ boxes) h = absurd h.0
-as_many n (Some p ∷ places) (None ∷ boxes) h = absurd h.0
-as_many n (Some p ∷ places) (Some b ∷ boxes) h = ap suc (as_many (suc n) places boxes h.1)
+as_many n (o ∷ entries) [] h = absurd h
+as_many n (None ∷ entries) (None ∷ boxes) h = as_many (suc n) entries boxes h.1
+as_many n (None ∷ entries) (Some b ∷ boxes) h = absurd h.0
+as_many n (Some p ∷ entries) (None ∷ boxes) h = absurd h.0
+as_many n (Some p ∷ entries) (Some b ∷ boxes) h = ap suc (as_many (suc n) entries boxes h.1)
 
-leaves_boxed : (leaves : List Leaf) (places : List (Option KeyEntry)) (boxes : List (Option Box2)) → IsIndex leaves places boxes → length leaves ≡ boxed boxes
-leaves_boxed leaves places boxes h = h.count ∙ as_many 0 places boxes h.standing
+leaves_boxed : (leaves : List Leaf) (entries : List (Option KeyEntry)) (boxes : List (Option Box2)) → IsIndex leaves entries boxes → length leaves ≡ boxed boxes
+leaves_boxed leaves entries boxes h = h.count ∙ as_many 0 entries boxes h.standing
 
 no_leaves : (trees : List Tree) → depth_of trees ≡ 0 → length (leaves_of trees) ≡ 0
 no_leaves [] e = refl
 no_leaves (tree ∷ others) e = absurd (omega (arith, e))
 
-pub none_boxed : (trees : List Tree) (places : List (Option KeyEntry)) (boxes : List (Option Box2)) → IsIndex (leaves_of trees) places boxes → depth_of trees ≡ 0 → boxed boxes ≡ 0
-none_boxed trees places boxes h e = sym (leaves_boxed (leaves_of trees) places boxes h) ∙ no_leaves trees e
+pub none_boxed : (trees : List Tree) (entries : List (Option KeyEntry)) (boxes : List (Option Box2)) → IsIndex (leaves_of trees) entries boxes → depth_of trees ≡ 0 → boxed boxes ≡ 0
+none_boxed trees entries boxes h e = sym (leaves_boxed (leaves_of trees) entries boxes h) ∙ no_leaves trees e
 
-pub enough_boxed : (forks : ℕ) (leaves : List Leaf) (places : List (Option KeyEntry)) (boxes : List (Option Box2)) → IsIndex leaves places boxes → least_leaves forks ≤ length leaves → least_leaves forks ≤ boxed boxes
-enough_boxed forks leaves places boxes h m = subst (λ (n : ℕ). least_leaves forks ≤ n) (leaves_boxed leaves places boxes h) m
+pub enough_boxed : (forks : ℕ) (leaves : List Leaf) (entries : List (Option KeyEntry)) (boxes : List (Option Box2)) → IsIndex leaves entries boxes → least_leaves forks ≤ length leaves → least_leaves forks ≤ boxed boxes
+enough_boxed forks leaves entries boxes h m = subst (λ (n : ℕ). least_leaves forks ≤ n) (leaves_boxed leaves entries boxes h) m

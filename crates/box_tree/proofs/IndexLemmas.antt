@@ -1,4 +1,4 @@
--- The tree, the places and the boxes keep together.
+-- The tree, the entries and the boxes keep together.
 use Rattle.std.proofs.Common.{◌≡◌, ◌≢◌, ℕ, zero, suc, ◌+◌, ◌<◌, ◌≤◌, ◌%◌, Bool, true, false, cond, eqb, List, [], ◌∷◌, ◌++◌, length, filter, Option, Some, None, is_some, inl, inr, refl, ap, sym, ◌∙◌, subst, arith, get_or}
 use Rattle.std.specs.Prelude.{slice_set, slice_index_or}
 use Rattle.std.proofs.lemmas.List.{length-append}
@@ -6,10 +6,10 @@ use Rattle.fixed_geom.specs.Boxes.{overlaps, Contains}
 use Rattle.box_tree_base.specs.Lists.{Each, IsIn, IsAdded}
 use Rattle.box_tree_base.specs.Trees.{IsOther}
 use Rattle.box_tree_base.specs.Roots.{IsMoved}
-use Rattle.box_tree.specs.Tables.{loose_keys, keys_of, place_at, place_of, leaf_of, IsKept}
+use Rattle.box_tree.specs.Tables.{loose_keys, keys_of, entry_at, entry_of, leaf_of, IsKept}
 use Rattle.std.specs.List.{IsDistinct}
 use Rattle.box_tree.specs.BoxLists.{keys_over, box_at, is_over}
-use Rattle.box_tree.specs.Indexes.{IsPlaceOf, IsStanding, AreStanding, filled, IsIndex}
+use Rattle.box_tree.specs.Indexes.{IsEntryOf, IsStanding, AreStanding, filled, IsIndex}
 use Rattle.box_tree.specs.declared.key_entries.TheConstants.{MAX_KEYS}
 use Rattle.fixed_geom.specs.declared.boxes.Box2.{Box2}
 use Rattle.box_tree_base.specs.declared.leaves.Leaf.{Leaf}
@@ -17,75 +17,75 @@ use Rattle.box_tree.specs.declared.key_entries.KeyEntry.{KeyEntry}
 use Rattle.box_tree.proofs.KeptLemmas.{fresh, others_differ, old_in}
 use Rattle.box_tree_base.proofs.WalkLemmas.{overlaps_within}
 
--- ---- places and boxes side by side
+-- ---- entries and boxes side by side
 
-pub standing_at : (n k : ℕ) (places : List (Option KeyEntry)) (boxes : List (Option Box2)) → AreStanding n places boxes → IsStanding (n + k) (place_at places k) (box_at boxes k)
+pub standing_at : (n k : ℕ) (entries : List (Option KeyEntry)) (boxes : List (Option Box2)) → AreStanding n entries boxes → IsStanding (n + k) (entry_at entries k) (box_at boxes k)
 standing_at n k [] [] h = tt
 standing_at n k [] (b ∷ boxes) h = absurd h
-standing_at n k (o ∷ places) [] h = absurd h
-standing_at n zero (o ∷ places) (b ∷ boxes) h = let e : n + 0 ≡ n = omega arith in rw e h.0
-standing_at n (suc k) (o ∷ places) (b ∷ boxes) h = let e : n + suc k ≡ suc n + k = omega arith in rw e (standing_at (suc n) k places boxes h.1)
+standing_at n k (o ∷ entries) [] h = absurd h
+standing_at n zero (o ∷ entries) (b ∷ boxes) h = let e : n + 0 ≡ n = omega arith in rw e h.0
+standing_at n (suc k) (o ∷ entries) (b ∷ boxes) h = let e : n + suc k ≡ suc n + k = omega arith in rw e (standing_at (suc n) k entries boxes h.1)
 
-pub standing_set : (n k : ℕ) (o : Option KeyEntry) (b : Option Box2) (places : List (Option KeyEntry)) (boxes : List (Option Box2)) → AreStanding n places boxes → IsStanding (n + k) o b → AreStanding n (slice_set places k o) (slice_set boxes k b)
+pub standing_set : (n k : ℕ) (o : Option KeyEntry) (b : Option Box2) (entries : List (Option KeyEntry)) (boxes : List (Option Box2)) → AreStanding n entries boxes → IsStanding (n + k) o b → AreStanding n (slice_set entries k o) (slice_set boxes k b)
 standing_set n k o b [] [] h s = tt
 standing_set n k o b [] (c ∷ boxes) h s = absurd h
-standing_set n k o b (p ∷ places) [] h s = absurd h
-standing_set n zero o b (p ∷ places) (c ∷ boxes) h s = let e : n + 0 ≡ n = omega arith in (rw e at s, h.1)
-standing_set n (suc k) o b (p ∷ places) (c ∷ boxes) h s = let e : n + suc k ≡ suc n + k = omega arith in (h.0, standing_set (suc n) k o b places boxes h.1 (rw e at s))
+standing_set n k o b (p ∷ entries) [] h s = absurd h
+standing_set n zero o b (p ∷ entries) (c ∷ boxes) h s = let e : n + 0 ≡ n = omega arith in (rw e at s, h.1)
+standing_set n (suc k) o b (p ∷ entries) (c ∷ boxes) h s = let e : n + suc k ≡ suc n + k = omega arith in (h.0, standing_set (suc n) k o b entries boxes h.1 (rw e at s))
 
-pub standing_length : (n : ℕ) (places : List (Option KeyEntry)) (boxes : List (Option Box2)) → AreStanding n places boxes → length places ≡ length boxes
+pub standing_length : (n : ℕ) (entries : List (Option KeyEntry)) (boxes : List (Option Box2)) → AreStanding n entries boxes → length entries ≡ length boxes
 standing_length n [] [] h = refl
 standing_length n [] (b ∷ boxes) h = absurd h
-standing_length n (o ∷ places) [] h = absurd h
-standing_length n (o ∷ places) (b ∷ boxes) h = ap suc (standing_length (suc n) places boxes h.1)
+standing_length n (o ∷ entries) [] h = absurd h
+standing_length n (o ∷ entries) (b ∷ boxes) h = ap suc (standing_length (suc n) entries boxes h.1)
 
-pub standing_more : (n : ℕ) (places : List (Option KeyEntry)) (boxes : List (Option Box2)) → AreStanding n places boxes → AreStanding n (places ++ None ∷ []) (boxes ++ None ∷ [])
+pub standing_more : (n : ℕ) (entries : List (Option KeyEntry)) (boxes : List (Option Box2)) → AreStanding n entries boxes → AreStanding n (entries ++ None ∷ []) (boxes ++ None ∷ [])
 standing_more n [] [] h = (tt, tt)
 standing_more n [] (b ∷ boxes) h = absurd h
-standing_more n (o ∷ places) [] h = absurd h
-standing_more n (o ∷ places) (b ∷ boxes) h = (h.0, standing_more (suc n) places boxes h.1)
+standing_more n (o ∷ entries) [] h = absurd h
+standing_more n (o ∷ entries) (b ∷ boxes) h = (h.0, standing_more (suc n) entries boxes h.1)
 
 from_zero : (k : ℕ) → 0 + k ≡ k
 from_zero k = omega arith
 
-pub standing_here : (k : ℕ) (places : List (Option KeyEntry)) (boxes : List (Option Box2)) → AreStanding 0 places boxes → IsStanding k (place_at places k) (box_at boxes k)
-standing_here k places boxes h = subst (λ (n : ℕ). IsStanding n (place_at places k) (box_at boxes k)) (from_zero k) (standing_at 0 k places boxes h)
+pub standing_here : (k : ℕ) (entries : List (Option KeyEntry)) (boxes : List (Option Box2)) → AreStanding 0 entries boxes → IsStanding k (entry_at entries k) (box_at boxes k)
+standing_here k entries boxes h = subst (λ (n : ℕ). IsStanding n (entry_at entries k) (box_at boxes k)) (from_zero k) (standing_at 0 k entries boxes h)
 
-pub standing_put : (k : ℕ) (o : Option KeyEntry) (b : Option Box2) (places : List (Option KeyEntry)) (boxes : List (Option Box2)) → AreStanding 0 places boxes → IsStanding k o b → AreStanding 0 (slice_set places k o) (slice_set boxes k b)
-standing_put k o b places boxes h s = standing_set 0 k o b places boxes h (subst (λ (n : ℕ). IsStanding n o b) (sym (from_zero k)) s)
+pub standing_put : (k : ℕ) (o : Option KeyEntry) (b : Option Box2) (entries : List (Option KeyEntry)) (boxes : List (Option Box2)) → AreStanding 0 entries boxes → IsStanding k o b → AreStanding 0 (slice_set entries k o) (slice_set boxes k b)
+standing_put k o b entries boxes h s = standing_set 0 k o b entries boxes h (subst (λ (n : ℕ). IsStanding n o b) (sym (from_zero k)) s)
 
 -- ---- how many there are
 
-pub filled_more : (places : List (Option KeyEntry)) → filled (places ++ None ∷ []) ≡ filled places
+pub filled_more : (entries : List (Option KeyEntry)) → filled (entries ++ None ∷ []) ≡ filled entries
 filled_more [] = refl
-filled_more (None ∷ places) = filled_more places
-filled_more (Some p ∷ places) = ap suc (filled_more places)
+filled_more (None ∷ entries) = filled_more entries
+filled_more (Some p ∷ entries) = ap suc (filled_more entries)
 
-pub filled_few : (places : List (Option KeyEntry)) → filled places ≤ length places
+pub filled_few : (entries : List (Option KeyEntry)) → filled entries ≤ length entries
 filled_few [] = omega arith
-filled_few (None ∷ places) = omega (arith, filled_few places)
-filled_few (Some p ∷ places) = omega (arith, filled_few places)
+filled_few (None ∷ entries) = omega (arith, filled_few entries)
+filled_few (Some p ∷ entries) = omega (arith, filled_few entries)
 
-pub filled_put : (places : List (Option KeyEntry)) (k : ℕ) (p : KeyEntry) → k < length places → place_at places k ≡ None → filled (slice_set places k (Some p)) ≡ suc (filled places)
+pub filled_put : (entries : List (Option KeyEntry)) (k : ℕ) (p : KeyEntry) → k < length entries → entry_at entries k ≡ None → filled (slice_set entries k (Some p)) ≡ suc (filled entries)
 filled_put [] k p lt h = absurd (omega arith)
-filled_put (None ∷ places) zero p lt h = refl
-filled_put (Some q ∷ places) zero p lt h = cc
-filled_put (None ∷ places) (suc k) p lt h = filled_put places k p (omega arith) h
-filled_put (Some q ∷ places) (suc k) p lt h = ap suc (filled_put places k p (omega arith) h)
+filled_put (None ∷ entries) zero p lt h = refl
+filled_put (Some q ∷ entries) zero p lt h = cc
+filled_put (None ∷ entries) (suc k) p lt h = filled_put entries k p (omega arith) h
+filled_put (Some q ∷ entries) (suc k) p lt h = ap suc (filled_put entries k p (omega arith) h)
 
-pub filled_take : (places : List (Option KeyEntry)) (k : ℕ) (p : KeyEntry) → place_at places k ≡ Some p → suc (filled (slice_set places k None)) ≡ filled places
+pub filled_take : (entries : List (Option KeyEntry)) (k : ℕ) (p : KeyEntry) → entry_at entries k ≡ Some p → suc (filled (slice_set entries k None)) ≡ filled entries
 filled_take [] k p h = cc
-filled_take (None ∷ places) zero p h = cc
-filled_take (Some q ∷ places) zero p h = refl
-filled_take (None ∷ places) (suc k) p h = filled_take places k p h
-filled_take (Some q ∷ places) (suc k) p h = ap suc (filled_take places k p h)
+filled_take (None ∷ entries) zero p h = cc
+filled_take (Some q ∷ entries) zero p h = refl
+filled_take (None ∷ entries) (suc k) p h = filled_take entries k p h
+filled_take (Some q ∷ entries) (suc k) p h = ap suc (filled_take entries k p h)
 
-pub filled_same : (places : List (Option KeyEntry)) (k : ℕ) (p q : KeyEntry) → place_at places k ≡ Some p → filled (slice_set places k (Some q)) ≡ filled places
+pub filled_same : (entries : List (Option KeyEntry)) (k : ℕ) (p q : KeyEntry) → entry_at entries k ≡ Some p → filled (slice_set entries k (Some q)) ≡ filled entries
 filled_same [] k p q h = cc
-filled_same (None ∷ places) zero p q h = cc
-filled_same (Some r ∷ places) zero p q h = refl
-filled_same (None ∷ places) (suc k) p q h = filled_same places k p q h
-filled_same (Some r ∷ places) (suc k) p q h = ap suc (filled_same places k p q h)
+filled_same (None ∷ entries) zero p q h = cc
+filled_same (Some r ∷ entries) zero p q h = refl
+filled_same (None ∷ entries) (suc k) p q h = filled_same entries k p q h
+filled_same (Some r ∷ entries) (suc k) p q h = ap suc (filled_same entries k p q h)
 
 added_length : {X : Type 0} (e : X) (old new : List X) → IsAdded e old new → length new ≡ suc (length old)
 added_length e old new a =
@@ -93,8 +93,8 @@ added_length e old new a =
     let m : length (a.front ++ e ∷ a.back) ≡ length a.front + length (e ∷ a.back) = length-append a.front (e ∷ a.back) in
     rw (a.was, a.is) (omega arith)
 
-pub few_leaves : (leaves : List Leaf) (places : List (Option KeyEntry)) (boxes : List (Option Box2)) → IsIndex leaves places boxes → length leaves ≤ MAX_KEYS
-few_leaves leaves places boxes h = omega (arith, h.count, filled_few places, standing_length 0 places boxes h.standing, h.few)
+pub few_leaves : (leaves : List Leaf) (entries : List (Option KeyEntry)) (boxes : List (Option Box2)) → IsIndex leaves entries boxes → length leaves ≤ MAX_KEYS
+few_leaves leaves entries boxes h = omega (arith, h.count, filled_few entries, standing_length 0 entries boxes h.standing, h.few)
 
 -- ---- ranks
 
@@ -102,15 +102,15 @@ rank_standing : (k : ℕ) (p : KeyEntry) (b : Option Box2) → IsStanding k (Som
 rank_standing k p None h = absurd h
 rank_standing k p (Some x) h = h.rank
 
-pub ranked_place : (leaves : List Leaf) (places : List (Option KeyEntry)) (boxes : List (Option Box2)) (k : ℕ) (p : KeyEntry) → IsIndex leaves places boxes → place_at places k ≡ Some p → p.rank % MAX_KEYS ≡ k
-ranked_place leaves places boxes k p h is =
-    let s : IsStanding k (place_at places k) (box_at boxes k) = standing_here k places boxes h.standing in
+pub ranked_entry : (leaves : List Leaf) (entries : List (Option KeyEntry)) (boxes : List (Option Box2)) (k : ℕ) (p : KeyEntry) → IsIndex leaves entries boxes → entry_at entries k ≡ Some p → p.rank % MAX_KEYS ≡ k
+ranked_entry leaves entries boxes k p h is =
+    let s : IsStanding k (entry_at entries k) (box_at boxes k) = standing_here k entries boxes h.standing in
     rank_standing k p (box_at boxes k) (rw is at s)
 
-pub ranked : (leaves : List Leaf) (places : List (Option KeyEntry)) (boxes : List (Option Box2)) (e : Leaf) → IsIndex leaves places boxes → IsIn e leaves → e.rank % MAX_KEYS ≡ e.key
-ranked leaves places boxes e h i =
-    let s : IsStanding e.key (place_at places e.key) (box_at boxes e.key) = standing_here e.key places boxes h.standing in
-    rank_standing e.key (place_of e) (box_at boxes e.key) (rw (h.kept.sound e i) at s)
+pub ranked : (leaves : List Leaf) (entries : List (Option KeyEntry)) (boxes : List (Option Box2)) (e : Leaf) → IsIndex leaves entries boxes → IsIn e leaves → e.rank % MAX_KEYS ≡ e.key
+ranked leaves entries boxes e h i =
+    let s : IsStanding e.key (entry_at entries e.key) (box_at boxes e.key) = standing_here e.key entries boxes h.standing in
+    rank_standing e.key (entry_of e) (box_at boxes e.key) (rw (h.kept.sound e i) at s)
 
 differ_rank : (a b k j : ℕ) → a % MAX_KEYS ≡ k → b % MAX_KEYS ≡ j → j ≢ k → b ≢ a
 differ_rank a b k j p q n = λ e. n (sym q ∙ ap (λ (x : ℕ). x % MAX_KEYS) e ∙ p)
@@ -124,23 +124,23 @@ none_standing k None b h e = refl
 none_standing k (Some p) None h e = absurd h
 none_standing k (Some p) (Some x) h e = cc
 
-pub free_place : (leaves : List Leaf) (places : List (Option KeyEntry)) (boxes : List (Option Box2)) (k : ℕ) → IsIndex leaves places boxes → box_at boxes k ≡ None → place_at places k ≡ None
-free_place leaves places boxes k h e = none_standing k (place_at places k) (box_at boxes k) (standing_here k places boxes h.standing) e
+pub free_entry : (leaves : List Leaf) (entries : List (Option KeyEntry)) (boxes : List (Option Box2)) (k : ℕ) → IsIndex leaves entries boxes → box_at boxes k ≡ None → entry_at entries k ≡ None
+free_entry leaves entries boxes k h e = none_standing k (entry_at entries k) (box_at boxes k) (standing_here k entries boxes h.standing) e
 
 some_standing : (k : ℕ) (o : Option KeyEntry) (b : Option Box2) → IsStanding k o b → is_some b ≡ true → o ≡ None → ⊥
 some_standing k None None h e n = cc
 some_standing k None (Some x) h e n = h
 some_standing k (Some p) b h e n = cc
 
-pub taken_place : (leaves : List Leaf) (places : List (Option KeyEntry)) (boxes : List (Option Box2)) (k : ℕ) → IsIndex leaves places boxes → is_some (box_at boxes k) ≡ true → place_at places k ≡ None → ⊥
-taken_place leaves places boxes k h e n = some_standing k (place_at places k) (box_at boxes k) (standing_here k places boxes h.standing) e n
+pub taken_entry : (leaves : List Leaf) (entries : List (Option KeyEntry)) (boxes : List (Option Box2)) (k : ℕ) → IsIndex leaves entries boxes → is_some (box_at boxes k) ≡ true → entry_at entries k ≡ None → ⊥
+taken_entry leaves entries boxes k h e n = some_standing k (entry_at entries k) (box_at boxes k) (standing_here k entries boxes h.standing) e n
 
-pub new_rank : (leaves : List Leaf) (places : List (Option KeyEntry)) (boxes : List (Option Box2)) (k rank : ℕ) → IsIndex leaves places boxes → place_at places k ≡ None → rank % MAX_KEYS ≡ k → Each (IsOther rank) leaves
-new_rank leaves places boxes k rank h none r = each_other rank k leaves r (λ e i. ranked leaves places boxes e h i) (λ e i. fresh leaves places k h.kept none e i)
+pub new_rank : (leaves : List Leaf) (entries : List (Option KeyEntry)) (boxes : List (Option Box2)) (k rank : ℕ) → IsIndex leaves entries boxes → entry_at entries k ≡ None → rank % MAX_KEYS ≡ k → Each (IsOther rank) leaves
+new_rank leaves entries boxes k rank h none r = each_other rank k leaves r (λ e i. ranked leaves entries boxes e h i) (λ e i. fresh leaves entries k h.kept none e i)
 
-pub moved_rank : (leaves rest : List Leaf) (places : List (Option KeyEntry)) (boxes : List (Option Box2)) (e : Leaf) (rank : ℕ) → IsIndex leaves places boxes → rank % MAX_KEYS ≡ e.key → IsAdded e rest leaves → Each (IsOther rank) rest
-moved_rank leaves rest places boxes e rank h r a =
-    each_other rank e.key rest r (λ x i. ranked leaves places boxes x h (old_in x e rest leaves a i)) (λ x i. others_differ e x a.front a.back (rw a.is at h.kept.distinct) (rw a.was at i))
+pub moved_rank : (leaves rest : List Leaf) (entries : List (Option KeyEntry)) (boxes : List (Option Box2)) (e : Leaf) (rank : ℕ) → IsIndex leaves entries boxes → rank % MAX_KEYS ≡ e.key → IsAdded e rest leaves → Each (IsOther rank) rest
+moved_rank leaves rest entries boxes e rank h r a =
+    each_other rank e.key rest r (λ x i. ranked leaves entries boxes x h (old_in x e rest leaves a i)) (λ x i. others_differ e x a.front a.back (rw a.is at h.kept.distinct) (rw a.was at i))
 
 -- ---- what each call keeps
 
@@ -149,57 +149,57 @@ length_boxes [] k o = refl
 length_boxes (x ∷ boxes) zero o = refl
 length_boxes (x ∷ boxes) (suc k) o = ap suc (length_boxes boxes k o)
 
-pub index_insert : (leaves new : List Leaf) (places : List (Option KeyEntry)) (boxes : List (Option Box2)) (k : ℕ) (p : KeyEntry) (x : Box2) → IsIndex leaves places boxes → k < length boxes → box_at boxes k ≡ None → IsPlaceOf k p x → IsAdded (leaf_of k p) leaves new → IsKept new (slice_set places k (Some p)) → IsIndex new (slice_set places k (Some p)) (slice_set boxes k (Some x))
-index_insert leaves new places boxes k p x h lt free place a kept =
-    let l : length places ≡ length boxes = standing_length 0 places boxes h.standing in
+pub index_insert : (leaves new : List Leaf) (entries : List (Option KeyEntry)) (boxes : List (Option Box2)) (k : ℕ) (p : KeyEntry) (x : Box2) → IsIndex leaves entries boxes → k < length boxes → box_at boxes k ≡ None → IsEntryOf k p x → IsAdded (leaf_of k p) leaves new → IsKept new (slice_set entries k (Some p)) → IsIndex new (slice_set entries k (Some p)) (slice_set boxes k (Some x))
+index_insert leaves new entries boxes k p x h lt free entry a kept =
+    let l : length entries ≡ length boxes = standing_length 0 entries boxes h.standing in
     let n : length new ≡ suc (length leaves) = added_length (leaf_of k p) leaves new a in
-    let f : filled (slice_set places k (Some p)) ≡ suc (filled places) = filled_put places k p (omega arith) (free_place leaves places boxes k h free) in
-    let c : length leaves ≡ filled places = h.count in
+    let f : filled (slice_set entries k (Some p)) ≡ suc (filled entries) = filled_put entries k p (omega arith) (free_entry leaves entries boxes k h free) in
+    let c : length leaves ≡ filled entries = h.count in
     record {
       kept = kept;
-      standing = standing_put k (Some p) (Some x) places boxes h.standing place;
+      standing = standing_put k (Some p) (Some x) entries boxes h.standing entry;
       count = omega arith;
       few = rw (length_boxes boxes k (Some x)) h.few;
     }
 
-pub index_remove : (leaves rest : List Leaf) (places : List (Option KeyEntry)) (boxes : List (Option Box2)) (k : ℕ) (p : KeyEntry) → IsIndex leaves places boxes → place_at places k ≡ Some p → IsAdded (leaf_of k p) rest leaves → IsKept rest (slice_set places k None) → IsIndex rest (slice_set places k None) (slice_set boxes k None)
-index_remove leaves rest places boxes k p h is a kept =
+pub index_remove : (leaves rest : List Leaf) (entries : List (Option KeyEntry)) (boxes : List (Option Box2)) (k : ℕ) (p : KeyEntry) → IsIndex leaves entries boxes → entry_at entries k ≡ Some p → IsAdded (leaf_of k p) rest leaves → IsKept rest (slice_set entries k None) → IsIndex rest (slice_set entries k None) (slice_set boxes k None)
+index_remove leaves rest entries boxes k p h is a kept =
     let n : length leaves ≡ suc (length rest) = added_length (leaf_of k p) rest leaves a in
-    let f : suc (filled (slice_set places k None)) ≡ filled places = filled_take places k p is in
-    let c : length leaves ≡ filled places = h.count in
+    let f : suc (filled (slice_set entries k None)) ≡ filled entries = filled_take entries k p is in
+    let c : length leaves ≡ filled entries = h.count in
     record {
       kept = kept;
-      standing = standing_put k None None places boxes h.standing tt;
+      standing = standing_put k None None entries boxes h.standing tt;
       count = omega arith;
       few = rw (length_boxes boxes k None) h.few;
     }
 
-pub index_move : (leaves new : List Leaf) (places : List (Option KeyEntry)) (boxes : List (Option Box2)) (k : ℕ) (p q : KeyEntry) (x : Box2) → IsIndex leaves places boxes → place_at places k ≡ Some p → IsPlaceOf k q x → IsMoved (leaf_of k p) (leaf_of k q) leaves new → IsKept new (slice_set places k (Some q)) → IsIndex new (slice_set places k (Some q)) (slice_set boxes k (Some x))
-index_move leaves new places boxes k p q x h is place m kept =
+pub index_move : (leaves new : List Leaf) (entries : List (Option KeyEntry)) (boxes : List (Option Box2)) (k : ℕ) (p q : KeyEntry) (x : Box2) → IsIndex leaves entries boxes → entry_at entries k ≡ Some p → IsEntryOf k q x → IsMoved (leaf_of k p) (leaf_of k q) leaves new → IsKept new (slice_set entries k (Some q)) → IsIndex new (slice_set entries k (Some q)) (slice_set boxes k (Some x))
+index_move leaves new entries boxes k p q x h is entry m kept =
     let n : length leaves ≡ suc (length m.rest) = added_length (leaf_of k p) m.rest leaves m.taken in
     let o : length new ≡ suc (length m.rest) = added_length (leaf_of k q) m.rest new m.put in
-    let f : filled (slice_set places k (Some q)) ≡ filled places = filled_same places k p q is in
-    let c : length leaves ≡ filled places = h.count in
+    let f : filled (slice_set entries k (Some q)) ≡ filled entries = filled_same entries k p q is in
+    let c : length leaves ≡ filled entries = h.count in
     record {
       kept = kept;
-      standing = standing_put k (Some q) (Some x) places boxes h.standing place;
+      standing = standing_put k (Some q) (Some x) entries boxes h.standing entry;
       count = omega arith;
       few = rw (length_boxes boxes k (Some x)) h.few;
     }
 
-set_itself : (places : List (Option KeyEntry)) (k : ℕ) (p : KeyEntry) → place_at places k ≡ Some p → slice_set places k (Some p) ≡ places
+set_itself : (entries : List (Option KeyEntry)) (k : ℕ) (p : KeyEntry) → entry_at entries k ≡ Some p → slice_set entries k (Some p) ≡ entries
 set_itself [] k p h = cc
-set_itself (o ∷ places) zero p h = ap (λ (q : Option KeyEntry). q ∷ places) (sym h)
-set_itself (o ∷ places) (suc k) p h = ap (λ (qs : List (Option KeyEntry)). o ∷ qs) (set_itself places k p h)
+set_itself (o ∷ entries) zero p h = ap (λ (q : Option KeyEntry). q ∷ entries) (sym h)
+set_itself (o ∷ entries) (suc k) p h = ap (λ (qs : List (Option KeyEntry)). o ∷ qs) (set_itself entries k p h)
 
 -- the box changes within its loose one
-pub index_stay : (leaves : List Leaf) (places : List (Option KeyEntry)) (boxes : List (Option Box2)) (k : ℕ) (p : KeyEntry) (x : Box2) → IsIndex leaves places boxes → place_at places k ≡ Some p → Contains p.bounds x → IsIndex leaves places (slice_set boxes k (Some x))
-index_stay leaves places boxes k p x h is inside =
-    let place : IsPlaceOf k p x = record { inside = inside; rank = ranked_place leaves places boxes k p h is } in
-    let set : AreStanding 0 (slice_set places k (Some p)) (slice_set boxes k (Some x)) = standing_put k (Some p) (Some x) places boxes h.standing place in
+pub index_stay : (leaves : List Leaf) (entries : List (Option KeyEntry)) (boxes : List (Option Box2)) (k : ℕ) (p : KeyEntry) (x : Box2) → IsIndex leaves entries boxes → entry_at entries k ≡ Some p → Contains p.bounds x → IsIndex leaves entries (slice_set boxes k (Some x))
+index_stay leaves entries boxes k p x h is inside =
+    let entry : IsEntryOf k p x = record { inside = inside; rank = ranked_entry leaves entries boxes k p h is } in
+    let set : AreStanding 0 (slice_set entries k (Some p)) (slice_set boxes k (Some x)) = standing_put k (Some p) (Some x) entries boxes h.standing entry in
     record {
       kept = h.kept;
-      standing = rw (set_itself places k p is) at set;
+      standing = rw (set_itself entries k p is) at set;
       count = h.count;
       few = rw (length_boxes boxes k (Some x)) h.few;
     }
@@ -210,28 +210,28 @@ over_step : (t u : Bool) (n : ℕ) (test : ℕ → Bool) (us vs : List ℕ) → 
 over_step false u n test us vs f e h = rw (f refl) h
 over_step true u n test us vs f e h = rw (e, h) refl
 
-over_from : (b : Box2) (all : List (Option Box2)) (n : ℕ) (places : List (Option KeyEntry)) (boxes : List (Option Box2)) → AreStanding n places boxes → ((j : ℕ) → box_at boxes j ≡ box_at all (n + j)) → filter (λ k. is_over b (box_at all k)) (loose_keys b n places) ≡ keys_over b n boxes
+over_from : (b : Box2) (all : List (Option Box2)) (n : ℕ) (entries : List (Option KeyEntry)) (boxes : List (Option Box2)) → AreStanding n entries boxes → ((j : ℕ) → box_at boxes j ≡ box_at all (n + j)) → filter (λ k. is_over b (box_at all k)) (loose_keys b n entries) ≡ keys_over b n boxes
 over_from b all n [] [] h f = refl
 over_from b all n [] (x ∷ boxes) h f = absurd h
-over_from b all n (o ∷ places) [] h f = absurd h
-over_from b all n (None ∷ places) (None ∷ boxes) h f = over_from b all (suc n) places boxes h.1 (λ j. let e : n + suc j ≡ suc n + j = omega arith in f (suc j) ∙ ap (box_at all) e)
-over_from b all n (None ∷ places) (Some x ∷ boxes) h f = absurd h.0
-over_from b all n (Some p ∷ places) (None ∷ boxes) h f = absurd h.0
-over_from b all n (Some p ∷ places) (Some x ∷ boxes) h f =
+over_from b all n (o ∷ entries) [] h f = absurd h
+over_from b all n (None ∷ entries) (None ∷ boxes) h f = over_from b all (suc n) entries boxes h.1 (λ j. let e : n + suc j ≡ suc n + j = omega arith in f (suc j) ∙ ap (box_at all) e)
+over_from b all n (None ∷ entries) (Some x ∷ boxes) h f = absurd h.0
+over_from b all n (Some p ∷ entries) (None ∷ boxes) h f = absurd h.0
+over_from b all n (Some p ∷ entries) (Some x ∷ boxes) h f =
     let z : n + 0 ≡ n = omega arith in
     let here : box_at all n ≡ Some x = ap (box_at all) (sym z) ∙ sym (f 0) in
-    over_step (overlaps p.bounds b) (overlaps x b) n (λ k. is_over b (box_at all k)) (loose_keys b (suc n) places) (keys_over b (suc n) boxes) (overlaps_within p.bounds x b h.0.inside) (ap (is_over b) here)
-    (over_from b all (suc n) places boxes h.1 (λ j. let e : n + suc j ≡ suc n + j = omega arith in f (suc j) ∙ ap (box_at all) e))
+    over_step (overlaps p.bounds b) (overlaps x b) n (λ k. is_over b (box_at all k)) (loose_keys b (suc n) entries) (keys_over b (suc n) boxes) (overlaps_within p.bounds x b h.0.inside) (ap (is_over b) here)
+    (over_from b all (suc n) entries boxes h.1 (λ j. let e : n + suc j ≡ suc n + j = omega arith in f (suc j) ∙ ap (box_at all) e))
 
-pub over_is_scan : (b : Box2) (leaves : List Leaf) (places : List (Option KeyEntry)) (boxes : List (Option Box2)) → IsIndex leaves places boxes → filter (λ k. is_over b (box_at boxes k)) (loose_keys b 0 places) ≡ keys_over b 0 boxes
-over_is_scan b leaves places boxes h = over_from b boxes 0 places boxes h.standing (λ j. ap (box_at boxes) (sym (from_zero j)))
+pub over_is_scan : (b : Box2) (leaves : List Leaf) (entries : List (Option KeyEntry)) (boxes : List (Option Box2)) → IsIndex leaves entries boxes → filter (λ k. is_over b (box_at boxes k)) (loose_keys b 0 entries) ≡ keys_over b 0 boxes
+over_is_scan b leaves entries boxes h = over_from b boxes 0 entries boxes h.standing (λ j. ap (box_at boxes) (sym (from_zero j)))
 
 -- ---- as the code reads the lists
 
-pub place_read : (places : List (Option KeyEntry)) (k : ℕ) → slice_index_or places k None ≡ place_at places k
-place_read [] k = refl
-place_read (o ∷ places) zero = refl
-place_read (o ∷ places) (suc k) = place_read places k
+pub entry_read : (entries : List (Option KeyEntry)) (k : ℕ) → slice_index_or entries k None ≡ entry_at entries k
+entry_read [] k = refl
+entry_read (o ∷ entries) zero = refl
+entry_read (o ∷ entries) (suc k) = entry_read entries k
 
 pub box_beyond : (boxes : List (Option Box2)) (k : ℕ) → length boxes ≤ k → box_at boxes k ≡ None
 box_beyond [] k h = refl
@@ -243,8 +243,8 @@ box_there [] k o lt h = absurd (omega arith)
 box_there (b ∷ boxes) zero o lt h = sym h
 box_there (b ∷ boxes) (suc k) o lt h = box_there boxes k o (omega arith) h
 
-pub room_for : (leaves : List Leaf) (places : List (Option KeyEntry)) (boxes : List (Option Box2)) (k : ℕ) → IsIndex leaves places boxes → k < length boxes → k < length places
-room_for leaves places boxes k h lt = omega (arith, standing_length 0 places boxes h.standing)
+pub room_for : (leaves : List Leaf) (entries : List (Option KeyEntry)) (boxes : List (Option Box2)) (k : ℕ) → IsIndex leaves entries boxes → k < length boxes → k < length entries
+room_for leaves entries boxes k h lt = omega (arith, standing_length 0 entries boxes h.standing)
 
 none_distinct : IsDistinct eqb (keys_of [])
 unfolding IsDistinct
@@ -259,27 +259,27 @@ no_boxes = record {
 }
 
 -- one key more, with no box
-place_more : (places : List (Option KeyEntry)) (k : ℕ) → place_at (places ++ None ∷ []) k ≡ place_at places k
-place_more [] zero = refl
-place_more [] (suc k) = refl
-place_more (o ∷ places) zero = refl
-place_more (o ∷ places) (suc k) = place_more places k
+entry_more : (entries : List (Option KeyEntry)) (k : ℕ) → entry_at (entries ++ None ∷ []) k ≡ entry_at entries k
+entry_more [] zero = refl
+entry_more [] (suc k) = refl
+entry_more (o ∷ entries) zero = refl
+entry_more (o ∷ entries) (suc k) = entry_more entries k
 
 length_more : (boxes : List (Option Box2)) → length (boxes ++ None ∷ []) ≡ suc (length boxes)
 length_more [] = refl
 length_more (b ∷ boxes) = ap suc (length_more boxes)
 
-pub index_grow : (leaves : List Leaf) (places : List (Option KeyEntry)) (boxes : List (Option Box2)) → IsIndex leaves places boxes → length boxes < MAX_KEYS → IsIndex leaves (places ++ None ∷ []) (boxes ++ None ∷ [])
-index_grow leaves places boxes h lt =
+pub index_grow : (leaves : List Leaf) (entries : List (Option KeyEntry)) (boxes : List (Option Box2)) → IsIndex leaves entries boxes → length boxes < MAX_KEYS → IsIndex leaves (entries ++ None ∷ []) (boxes ++ None ∷ [])
+index_grow leaves entries boxes h lt =
     let n : length (boxes ++ None ∷ []) ≡ suc (length boxes) = length_more boxes in
     record {
       kept = record {
-        sound = λ e i. place_more places e.key ∙ h.kept.sound e i;
-        complete = λ k p q. h.kept.complete k p (sym (place_more places k) ∙ q);
+        sound = λ e i. entry_more entries e.key ∙ h.kept.sound e i;
+        complete = λ k p q. h.kept.complete k p (sym (entry_more entries k) ∙ q);
         distinct = h.kept.distinct;
       };
-      standing = standing_more 0 places boxes h.standing;
-      count = h.count ∙ sym (filled_more places);
+      standing = standing_more 0 entries boxes h.standing;
+      count = h.count ∙ sym (filled_more entries);
       few = omega arith;
     }
 

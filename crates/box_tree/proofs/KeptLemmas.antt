@@ -5,7 +5,7 @@ use Rattle.std.specs.List.{IsDistinct, AllByRecursion}
 use Rattle.std.proofs.lemmas.Bool.{eqb-false, eqb-true, ne_eqb}
 use Rattle.std.proofs.lemmas.Map.Keys.{IsDistinct-head, IsDistinct-tail, IsDistinct-cons}
 use Rattle.box_tree_base.specs.Lists.{IsIn, IsAdded}
-use Rattle.box_tree.specs.Tables.{keys_of, place_at, place_of, leaf_of, IsKept}
+use Rattle.box_tree.specs.Tables.{keys_of, entry_at, entry_of, leaf_of, IsKept}
 use Rattle.box_tree_base.specs.Roots.{IsMoved}
 use Rattle.box_tree_base.specs.declared.leaves.Leaf.{Leaf}
 use Rattle.box_tree.specs.declared.key_entries.KeyEntry.{KeyEntry}
@@ -31,17 +31,17 @@ old_in x e old new a h = rw a.is (middle_in x e a.front a.back (rw a.was at h))
 pub itself_in : {X : Type 0} (e : X) (old new : List X) → IsAdded e old new → IsIn e new
 itself_in e old new a = rw a.is (middle_itself e a.front a.back)
 
-pub set_same : (places : List (Option KeyEntry)) (k : ℕ) (o : Option KeyEntry) → k < length places → place_at (slice_set places k o) k ≡ o
+pub set_same : (entries : List (Option KeyEntry)) (k : ℕ) (o : Option KeyEntry) → k < length entries → entry_at (slice_set entries k o) k ≡ o
 set_same [] k o h = absurd (omega arith)
-set_same (q ∷ places) zero o h = refl
-set_same (q ∷ places) (suc k) o h = set_same places k o (omega arith)
+set_same (q ∷ entries) zero o h = refl
+set_same (q ∷ entries) (suc k) o h = set_same entries k o (omega arith)
 
-set_other : (places : List (Option KeyEntry)) (k j : ℕ) (o : Option KeyEntry) → j ≢ k → place_at (slice_set places k o) j ≡ place_at places j
+set_other : (entries : List (Option KeyEntry)) (k j : ℕ) (o : Option KeyEntry) → j ≢ k → entry_at (slice_set entries k o) j ≡ entry_at entries j
 set_other [] k j o h = refl
-set_other (q ∷ places) zero zero o h = absurd (h refl)
-set_other (q ∷ places) zero (suc j) o h = refl
-set_other (q ∷ places) (suc k) zero o h = refl
-set_other (q ∷ places) (suc k) (suc j) o h = set_other places k j o (λ e. h (ap suc e))
+set_other (q ∷ entries) zero zero o h = absurd (h refl)
+set_other (q ∷ entries) zero (suc j) o h = refl
+set_other (q ∷ entries) (suc k) zero o h = refl
+set_other (q ∷ entries) (suc k) (suc j) o h = set_other entries k j o (λ e. h (ap suc e))
 
 all_middle : (P : ℕ → Type 0) (e : Leaf) (f b : List Leaf) → P e.key → AllByRecursion P (keys_of (f ++ b)) → AllByRecursion P (keys_of (f ++ e ∷ b))
 all_middle P e [] b p a = (p, a)
@@ -86,8 +86,8 @@ others_differ e x (y ∷ f) b d h =
 differ : (p : KeyEntry) → Some p ≡ None → ⊥
 differ p e = cc
 
-pub fresh : (leaves : List Leaf) (places : List (Option KeyEntry)) (k : ℕ) → IsKept leaves places → place_at places k ≡ None → (x : Leaf) → IsIn x leaves → x.key ≢ k
-fresh leaves places k kept none x i = λ e. let s : place_at places k ≡ Some (place_of x) = rw e at (kept.sound x i) in absurd (differ (place_of x) (sym s ∙ none))
+pub fresh : (leaves : List Leaf) (entries : List (Option KeyEntry)) (k : ℕ) → IsKept leaves entries → entry_at entries k ≡ None → (x : Leaf) → IsIn x leaves → x.key ≢ k
+fresh leaves entries k kept none x i = λ e. let s : entry_at entries k ≡ Some (entry_of x) = rw e at (kept.sound x i) in absurd (differ (entry_of x) (sym s ∙ none))
 
 cases_at : (j k : ℕ) (b : Bool) → eqb j k ≡ b → (j ≡ k) ⊎ (j ≢ k)
 cases_at j k true e = inl (eqb-true j k e)
@@ -96,28 +96,28 @@ cases_at j k false e = inr (eqb-false j k e)
 cases_equal : (j k : ℕ) → (j ≡ k) ⊎ (j ≢ k)
 cases_equal j k = cases_at j k (eqb j k) refl
 
-pub kept_add : (leaves new : List Leaf) (places : List (Option KeyEntry)) (k : ℕ) (p : KeyEntry) → IsKept leaves places → k < length places → place_at places k ≡ None → IsAdded (leaf_of k p) leaves new → IsKept new (slice_set places k (Some p))
-kept_add leaves new places k p kept room none a = record {
+pub kept_add : (leaves new : List Leaf) (entries : List (Option KeyEntry)) (k : ℕ) (p : KeyEntry) → IsKept leaves entries → k < length entries → entry_at entries k ≡ None → IsAdded (leaf_of k p) leaves new → IsKept new (slice_set entries k (Some p))
+kept_add leaves new entries k p kept room none a = record {
   sound = λ e i. elim (in_new e (leaf_of k p) leaves new a i) [
-    | inl q ↦ subst (λ (z : Leaf). place_at (slice_set places k (Some p)) z.key ≡ Some (place_of z)) (sym q) (set_same places k (Some p) room)
-    | inr r ↦ set_other places k e.key (Some p) (fresh leaves places k kept none e r) ∙ kept.sound e r
+    | inl q ↦ subst (λ (z : Leaf). entry_at (slice_set entries k (Some p)) z.key ≡ Some (entry_of z)) (sym q) (set_same entries k (Some p) room)
+    | inr r ↦ set_other entries k e.key (Some p) (fresh leaves entries k kept none e r) ∙ kept.sound e r
   ];
   complete = λ j q h. elim (cases_equal j k) [
     | inl same ↦
-        let s : Some p ≡ Some q = sym (set_same places k (Some p) room) ∙ rw same at h in
+        let s : Some p ≡ Some q = sym (set_same entries k (Some p) room) ∙ rw same at h in
         let t : p ≡ q = cc in
         rw (same, sym t) (itself_in (leaf_of k p) leaves new a)
-    | inr other ↦ old_in (leaf_of j q) (leaf_of k p) leaves new a (kept.complete j q (sym (set_other places k j (Some p) other) ∙ h))
+    | inr other ↦ old_in (leaf_of j q) (leaf_of k p) leaves new a (kept.complete j q (sym (set_other entries k j (Some p) other) ∙ h))
   ];
-  distinct = rw a.is (distinct_middle (leaf_of k p) a.front a.back (λ x i. fresh leaves places k kept none x (rw a.was i)) (rw a.was at kept.distinct));
+  distinct = rw a.is (distinct_middle (leaf_of k p) a.front a.back (λ x i. fresh leaves entries k kept none x (rw a.was i)) (rw a.was at kept.distinct));
 }
 
-pub kept_remove : (leaves rest : List Leaf) (places : List (Option KeyEntry)) (e : Leaf) → IsKept leaves places → e.key < length places → IsAdded e rest leaves → IsKept rest (slice_set places e.key None)
-kept_remove leaves rest places e kept room a = record {
-  sound = λ x i. set_other places e.key x.key None (others_differ e x a.front a.back (rw a.is at kept.distinct) (rw a.was at i)) ∙ kept.sound x (old_in x e rest leaves a i);
+pub kept_remove : (leaves rest : List Leaf) (entries : List (Option KeyEntry)) (e : Leaf) → IsKept leaves entries → e.key < length entries → IsAdded e rest leaves → IsKept rest (slice_set entries e.key None)
+kept_remove leaves rest entries e kept room a = record {
+  sound = λ x i. set_other entries e.key x.key None (others_differ e x a.front a.back (rw a.is at kept.distinct) (rw a.was at i)) ∙ kept.sound x (old_in x e rest leaves a i);
   complete = λ j q h. elim (cases_equal j e.key) [
-    | inl same ↦ absurd (differ q (sym (rw same at h) ∙ set_same places e.key None room))
-    | inr other ↦ elim (in_new (leaf_of j q) e rest leaves a (kept.complete j q (sym (set_other places e.key j None other) ∙ h))) [
+    | inl same ↦ absurd (differ q (sym (rw same at h) ∙ set_same entries e.key None room))
+    | inr other ↦ elim (in_new (leaf_of j q) e rest leaves a (kept.complete j q (sym (set_other entries e.key j None other) ∙ h))) [
       | inl is ↦ absurd (other (ap (λ (z : Leaf). z.key) is))
       | inr r ↦ r
     ]
@@ -125,19 +125,19 @@ kept_remove leaves rest places e kept room a = record {
   distinct = rw a.was (distinct_unmiddle e a.front a.back (rw a.is at kept.distinct));
 }
 
-pub set_set : (places : List (Option KeyEntry)) (k : ℕ) (o q : Option KeyEntry) → slice_set (slice_set places k o) k q ≡ slice_set places k q
+pub set_set : (entries : List (Option KeyEntry)) (k : ℕ) (o q : Option KeyEntry) → slice_set (slice_set entries k o) k q ≡ slice_set entries k q
 set_set [] k o q = refl
-set_set (x ∷ places) zero o q = refl
-set_set (x ∷ places) (suc k) o q = ap (λ l. x ∷ l) (set_set places k o q)
+set_set (x ∷ entries) zero o q = refl
+set_set (x ∷ entries) (suc k) o q = ap (λ l. x ∷ l) (set_set entries k o q)
 
-pub length_set : (places : List (Option KeyEntry)) (k : ℕ) (o : Option KeyEntry) → length (slice_set places k o) ≡ length places
+pub length_set : (entries : List (Option KeyEntry)) (k : ℕ) (o : Option KeyEntry) → length (slice_set entries k o) ≡ length entries
 length_set [] k o = refl
-length_set (x ∷ places) zero o = refl
-length_set (x ∷ places) (suc k) o = ap suc (length_set places k o)
+length_set (x ∷ entries) zero o = refl
+length_set (x ∷ entries) (suc k) o = ap suc (length_set entries k o)
 
-pub kept_replace : (leaves new : List Leaf) (places : List (Option KeyEntry)) (e : Leaf) (p : KeyEntry) → IsKept leaves places → e.key < length places → IsMoved e (leaf_of e.key p) leaves new → IsKept new (slice_set places e.key (Some p))
-kept_replace leaves new places e p kept room m =
-    let wide : e.key < length (slice_set places e.key None) = rw (length_set places e.key None) room in
-    let less = kept_remove leaves m.rest places e kept room m.taken in
-    let full = kept_add m.rest new (slice_set places e.key None) e.key p less wide (set_same places e.key None room) m.put in
-    rw (set_set places e.key None (Some p)) at full
+pub kept_replace : (leaves new : List Leaf) (entries : List (Option KeyEntry)) (e : Leaf) (p : KeyEntry) → IsKept leaves entries → e.key < length entries → IsMoved e (leaf_of e.key p) leaves new → IsKept new (slice_set entries e.key (Some p))
+kept_replace leaves new entries e p kept room m =
+    let wide : e.key < length (slice_set entries e.key None) = rw (length_set entries e.key None) room in
+    let less = kept_remove leaves m.rest entries e kept room m.taken in
+    let full = kept_add m.rest new (slice_set entries e.key None) e.key p less wide (set_same entries e.key None room) m.put in
+    rw (set_set entries e.key None (Some p)) at full

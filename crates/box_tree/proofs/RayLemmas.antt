@@ -8,10 +8,10 @@ use Rattle.box_tree_base.specs.Rays.{nearer, first_among, IsHitWithin}
 use Rattle.box_tree_base.specs.declared.leaves.Leaf.{Leaf}
 use Rattle.box_tree_base.specs.declared.rays.Hit.{Hit}
 use Rattle.box_tree.specs.BoxLists.{box_at, first_hit, AreHitsWithin, found_in, asked_hit}
-use Rattle.box_tree.specs.Tables.{keys_of, place_at, place_of, leaf_of}
+use Rattle.box_tree.specs.Tables.{keys_of, entry_at, entry_of, leaf_of}
 use Rattle.box_tree.specs.Indexes.{IsStanding, IsIndex}
 use Rattle.box_tree.specs.declared.key_entries.KeyEntry.{KeyEntry}
-use Rattle.box_tree.proofs.IndexLemmas.{standing_here, taken_place}
+use Rattle.box_tree.proofs.IndexLemmas.{standing_here, taken_entry}
 
 -- ---- the first hit on the keys of a set
 
@@ -184,21 +184,21 @@ standing_some : (k : ℕ) (p : KeyEntry) (b : Option Box2) → IsStanding k (Som
 standing_some k p None h = absurd h
 standing_some k p (Some b) h = refl
 
-there : (leaves : List Leaf) (places : List (Option KeyEntry)) (boxes : List (Option Box2)) (k : ℕ) (o : Option KeyEntry) → IsIndex leaves places boxes → place_at places k ≡ o → (o ≡ None → ⊥) → IsIn k (keys_of leaves)
-there leaves places boxes k None h e f = absurd (f refl)
-there leaves places boxes k (Some p) h e f = key_in (leaf_of k p) leaves (h.kept.complete k p e)
+there : (leaves : List Leaf) (entries : List (Option KeyEntry)) (boxes : List (Option Box2)) (k : ℕ) (o : Option KeyEntry) → IsIndex leaves entries boxes → entry_at entries k ≡ o → (o ≡ None → ⊥) → IsIn k (keys_of leaves)
+there leaves entries boxes k None h e f = absurd (f refl)
+there leaves entries boxes k (Some p) h e f = key_in (leaf_of k p) leaves (h.kept.complete k p e)
 
-pub first_is_scan : (hit : ℕ → Option ℕ) (leaves : List Leaf) (places : List (Option KeyEntry)) (boxes : List (Option Box2)) → IsIndex leaves places boxes → first_among hit leaves None ≡ first_hit hit 0 boxes None
-first_is_scan hit leaves places boxes h =
+pub first_is_scan : (hit : ℕ → Option ℕ) (leaves : List Leaf) (entries : List (Option KeyEntry)) (boxes : List (Option Box2)) → IsIndex leaves entries boxes → first_among hit leaves None ≡ first_hit hit 0 boxes None
+first_is_scan hit leaves entries boxes h =
     let to : (k : ℕ) → IsIn k (keys_of leaves) → IsIn k (keys_in 0 boxes) = λ k i.
     let t = has_key k leaves i in
-    let s : IsStanding t.leaf.key (place_at places t.leaf.key) (box_at boxes t.leaf.key) = standing_here t.leaf.key places boxes h.standing in
-    let w = in_keys 0 t.leaf.key boxes (standing_some t.leaf.key (place_of t.leaf) (box_at boxes t.leaf.key) (rw (h.kept.sound t.leaf t.among) at s)) in
+    let s : IsStanding t.leaf.key (entry_at entries t.leaf.key) (box_at boxes t.leaf.key) = standing_here t.leaf.key entries boxes h.standing in
+    let w = in_keys 0 t.leaf.key boxes (standing_some t.leaf.key (entry_of t.leaf) (box_at boxes t.leaf.key) (rw (h.kept.sound t.leaf t.among) at s)) in
     let z : 0 + t.leaf.key ≡ k = omega (arith, t.key) in
     rw z at w in
     let from : (k : ℕ) → IsIn k (keys_in 0 boxes) → IsIn k (keys_of leaves) = λ k i.
     let t = key_at 0 k boxes i in
-    let w = there leaves places boxes t.at (place_at places t.at) h refl (λ e. taken_place leaves places boxes t.at h t.some e) in
+    let w = there leaves entries boxes t.at (entry_at entries t.at) h refl (λ e. taken_entry leaves entries boxes t.at h t.some e) in
     let z : t.at ≡ k = omega (arith, t.key) in
     rw z at w in
     among_keys hit leaves None ∙ same_keys hit (keys_of leaves) (keys_in 0 boxes) to from ∙ sym (scan_keys hit 0 boxes None)
@@ -213,11 +213,11 @@ loose_within : (reaches : Box2 → Bool) (hit : ℕ → Option ℕ) (k : ℕ) (p
 loose_within reaches hit k p None law s f e = absurd s
 loose_within reaches hit k p (Some b) law s f e = f b refl (law p.bounds b s.inside e)
 
-pub leaves_within : (reaches : Box2 → Bool) (hit : ℕ → Option ℕ) (leaves : List Leaf) (places : List (Option KeyEntry)) (boxes : List (Option Box2)) → ((outer inner : Box2) → Contains outer inner → reaches outer ≡ false → reaches inner ≡ false) → IsIndex leaves places boxes → AreHitsWithin reaches hit boxes → Each (IsHitWithin reaches hit) leaves
-leaves_within reaches hit leaves places boxes law h within =
+pub leaves_within : (reaches : Box2 → Bool) (hit : ℕ → Option ℕ) (leaves : List Leaf) (entries : List (Option KeyEntry)) (boxes : List (Option Box2)) → ((outer inner : Box2) → Contains outer inner → reaches outer ≡ false → reaches inner ≡ false) → IsIndex leaves entries boxes → AreHitsWithin reaches hit boxes → Each (IsHitWithin reaches hit) leaves
+leaves_within reaches hit leaves entries boxes law h within =
     each_from (IsHitWithin reaches hit) leaves (λ leaf i.
-    let s : IsStanding leaf.key (place_at places leaf.key) (box_at boxes leaf.key) = standing_here leaf.key places boxes h.standing in
-    loose_within reaches hit leaf.key (place_of leaf) (box_at boxes leaf.key) law (rw (h.kept.sound leaf i) at s) (λ b e m. within leaf.key b e m))
+    let s : IsStanding leaf.key (entry_at entries leaf.key) (box_at boxes leaf.key) = standing_here leaf.key entries boxes h.standing in
+    loose_within reaches hit leaf.key (entry_of leaf) (box_at boxes leaf.key) law (rw (h.kept.sound leaf i) at s) (λ b e m. within leaf.key b e m))
 
 -- ---- a key's own box is asked first
 

@@ -66,9 +66,9 @@ flipped : (x y : ℕ) (b : Bool) → eqb x y ≡ b → b ≡ eqb y x
 flipped x y true e = sym (eq-eqb y x (sym (eqb-true x y e)))
 flipped x y false e = let q : x ≢ y = eqb-false x y e in sym (ne_eqb y x (omega arith))
 
-pub sorted_is_loose : (b : Box2) (leaves : List Leaf) (places : List (Option KeyEntry)) (zs : List ℕ) → IsKept leaves places → IsPermutation (keys_over b leaves) zs → IsSorted nat_cmp zs → zs ≡ loose_keys b 0 places
-sorted_is_loose b leaves places zs kept p s =
-    found_is_loose b leaves places zs kept
+pub sorted_is_loose : (b : Box2) (leaves : List Leaf) (entries : List (Option KeyEntry)) (zs : List ℕ) → IsKept leaves entries → IsPermutation (keys_over b leaves) zs → IsSorted nat_cmp zs → zs ≡ loose_keys b 0 entries
+sorted_is_loose b leaves entries zs kept p s =
+    found_is_loose b leaves entries zs kept
     (rising_from zs (IsNonDecreasingBy-from_sort (λ x. x) zs s) (IsDistinct-IsPermutation eqb (λ x y. flipped x y (eqb x y) refl) (keys_over b leaves) zs p (distinct_over b leaves kept.distinct)))
     (λ k h. moved k zs (keys_over b leaves) (IsPermutation-sym _ _ p) h)
     (λ k h. moved k (keys_over b leaves) zs p h)

@@ -19,7 +19,7 @@ pub struct BoxTree {
     // The tree: a list of at most one.
     root: Vec<Tree>,
     // Where each key stands in the tree, with a loose box round its own.
-    places: Vec<Option<KeyEntry>>,
+    entries: Vec<Option<KeyEntry>>,
     boxes: Vec<Option<Box2>>,
 }
 
@@ -43,7 +43,7 @@ impl BoxTree {
     {
         BoxTree {
             root: Vec::new(alloc),
-            places: Vec::new(alloc),
+            entries: Vec::new(alloc),
             boxes: Vec::new(alloc),
         }
     }
@@ -55,9 +55,9 @@ impl BoxTree {
         ensures refused { OnErr result (self.new ≡ self.old) }
         ensures memory_only { IsOkUnless result Refusal.NoMemory }
     {
-        self.places.reserve(1)?;
+        self.entries.reserve(1)?;
         self.boxes.push(None)?;
-        index::push_none(&mut self.places);
+        index::push_none(&mut self.entries);
         Ok(())
     }
 
@@ -88,7 +88,7 @@ impl BoxTree {
         let alloc = *self.boxes.allocator();
         index::insert(
             &mut self.root,
-            &mut self.places,
+            &mut self.entries,
             &mut self.boxes,
             key,
             bounds,
@@ -102,15 +102,15 @@ impl BoxTree {
         requires { is_some (box_at self.old key) ≡ true }
         ensures { self.new ≡ slice_set self.old key None }
     {
-        let Some(place) = index::place_in(&self.places, key) else {
+        let Some(entry) = index::entry_in(&self.entries, key) else {
             unreachable!()
         };
         index::remove(
             &mut self.root,
-            &mut self.places,
+            &mut self.entries,
             &mut self.boxes,
             key,
-            &place,
+            &entry,
         );
     }
 
@@ -120,15 +120,15 @@ impl BoxTree {
         requires { is_some (box_at self.old key) ≡ true }
         ensures { self.new ≡ slice_set self.old key (Some bounds.now) }
     {
-        let Some(place) = index::place_in(&self.places, key) else {
+        let Some(entry) = index::entry_in(&self.entries, key) else {
             unreachable!()
         };
         index::replace(
             &mut self.root,
-            &mut self.places,
+            &mut self.entries,
             &mut self.boxes,
             key,
-            &place,
+            &entry,
             bounds,
         );
     }
@@ -139,7 +139,7 @@ impl BoxTree {
         ensures memory_only { IsOkUnless result Refusal.NoMemory }
     {
         let alloc = *self.boxes.allocator();
-        Ok(index::overlapping(&self.root, &self.places, &self.boxes, wanted, alloc)?)
+        Ok(index::overlapping(&self.root, &self.entries, &self.boxes, wanted, alloc)?)
     }
 
     /// The ray's nearest hit over all keys that have a box, of two as near that of the lesser key. A key is hit only where
@@ -173,13 +173,13 @@ impl BoxTree {
     {
         let alloc = *self.boxes.allocator();
         let root = roots::try_copy(&self.root, alloc)?;
-        let mut places = Vec::new(alloc);
-        places.extend_from_slice(&self.places)?;
+        let mut entries = Vec::new(alloc);
+        entries.extend_from_slice(&self.entries)?;
         let mut boxes = Vec::new(alloc);
         boxes.extend_from_slice(&self.boxes)?;
         Ok(BoxTree {
             root,
-            places,
+            entries,
             boxes,
         })
     }

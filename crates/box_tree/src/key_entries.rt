@@ -8,7 +8,7 @@ use fixed_geom::{Box2, Vec2};
 /// Keys are below this: eight shapes for each of 65,536 bodies.
 pub const MAX_KEYS: u32 = 1 << 19;
 
-/// A key's place in the tree, and a loose box round its own.
+/// A key's rank in the tree, and a loose box round its own.
 #[derive(Clone, Copy)]
 pub(crate) struct KeyEntry {
     pub rank: u64,
@@ -73,7 +73,7 @@ fn rank_of(key: u32, bounds: &Box2) -> u64
     code * (MAX_KEYS as u64) + (key as u64)
 }
 
-/// A place for a key that has this box.
+/// An entry for a key that has this box.
 pub(crate) fn key_entry_for(key: u32, bounds: &Box2) -> KeyEntry
     requires { key < MAX_KEYS }
     ensures rank { result.rank % MAX_KEYS ≡ key }
@@ -93,7 +93,7 @@ fn are_near(a: u64, b: u64) -> bool {
     a >> CELL == b >> CELL
 }
 
-/// A place for a key that stood at another and has this box now. It keeps its rank while its corner stays in one cell, so that
+/// An entry for a key that had another and has this box now. It keeps its rank while its corner stays in one cell, so that
 /// its leaf stays where it is in the tree.
 pub(crate) fn key_entry_after(key: u32, old: &KeyEntry, bounds: &Box2) -> KeyEntry
     requires room { key < MAX_KEYS }
@@ -101,14 +101,14 @@ pub(crate) fn key_entry_after(key: u32, old: &KeyEntry, bounds: &Box2) -> KeyEnt
     ensures rank { result.rank % MAX_KEYS ≡ key }
     ensures inside { Contains result.bounds bounds.now }
 {
-    let place = key_entry_for(key, bounds);
-    if are_near(place.rank, old.rank) {
+    let entry = key_entry_for(key, bounds);
+    if are_near(entry.rank, old.rank) {
         KeyEntry {
             rank: old.rank,
-            bounds: place.bounds,
+            bounds: entry.bounds,
         }
     } else {
-        place
+        entry
     }
 }
 

@@ -1,3 +1,5 @@
+//! Rows of contacts between two bodies, worked by hand.
+
 ghost use Rattle.std.specs.Prelude.{◌≡◌, ◌^◌, ◌≤◌, ◌≤ℤ◌, pos, unsigned_abs};
 ghost use Rattle.fixed_geom.specs.Vectors.{IsWithin};
 ghost use Rattle.momenta.specs.ImpulseBounds.{AreStates, IsState};

@@ -222,8 +222,8 @@ fn lifted(alloc: Global, y: i64) -> Result<Changes, Refusal> {
     collide(alloc, &resting(alloc)?, &mut lying_at(alloc, y)?)
 }
 
-/// What comes of a lift: how many contacts were made, are gone, begin and end, whether the capsule's contact is the only one of these, and the contact
-/// that is there then.
+/// What comes of a lift: how many contacts were made, are gone, begin and end, whether the capsule's contact is the only one of these, and the
+/// contact that is there then.
 fn told(alloc: Global, y: i64) -> Result<([usize; 4], bool, Option<ContactEntry>), Refusal> {
     let changes = lifted(alloc, y)?;
     Ok((

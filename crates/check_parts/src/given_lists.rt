@@ -22,7 +22,7 @@ use world_core_base::{BodyTable, JointTable};
 
 const NONE: Total = Total { x: 0, y: 0 };
 
-const PLACES: [SlotEntry; 2] = [
+const SLOT_ENTRIES: [SlotEntry; 2] = [
     SlotEntry {
         generation: 2,
         live: true,
@@ -33,14 +33,14 @@ const PLACES: [SlotEntry; 2] = [
     },
 ];
 
-fn handles_of_places(alloc: Global) -> Result<Handles, Refusal> {
-    Handles::from_slot_entries(alloc, PLACES.as_slice())
+fn handles_of_slot_entries(alloc: Global) -> Result<Handles, Refusal> {
+    Handles::from_slot_entries(alloc, SLOT_ENTRIES.as_slice())
 }
 
 #[test]
-fn places_give_the_lowest_free_slot_out_first(rt: HostRuntime) -> Result<(), Fail> {
-    let mut handles = handles_of_places(rt.alloc())?;
-    same_items(&rt, handles.slot_entries(), &PLACES);
+fn given_slot_entries_give_the_lowest_free_slot_out_first(rt: HostRuntime) -> Result<(), Fail> {
+    let mut handles = handles_of_slot_entries(rt.alloc())?;
+    same_items(&rt, handles.slot_entries(), &SLOT_ENTRIES);
     let second = Handle {
         slot: 1,
         generation: 5,

@@ -1,3 +1,5 @@
+//! How one body moves, and what two bodies give one another along a line, worked by hand.
+
 ghost use Rattle.std.specs.Prelude.{◌≡◌, ◌^◌, ◌≤◌, ◌≤ℤ◌, pos, true, unsigned_abs};
 ghost use Rattle.fixed_geom.specs.Vectors.{IsWithin};
 ghost use Rattle.momenta.specs.ImpulseBounds.{AreStates, IsLine, IsState};

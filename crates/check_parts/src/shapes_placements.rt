@@ -449,7 +449,7 @@ fn expect(rt: &impl Abort, rows: &[Row]) {
 }
 
 #[test]
-fn shapes_that_are_placed_touch(rt: HostRuntime) {
+fn shapes_touch_as_they_stand(rt: HostRuntime) {
     expect(&rt, &CORES_ALONG_ONE_ANOTHER);
     expect(&rt, &CORES_ACROSS_ONE_ANOTHER);
     expect(&rt, &ENDS_THAT_MEET);

@@ -1,13 +1,13 @@
 //! Reads saved worlds and parts of them, one a line, and writes each again.
 //!
-//! A line is the version's number, a tab, the part's word or `world`, a tab and the value. What is told of it is the value that was written, or the number
-//! of the first clause that was found broken. The word `text` stands for a world whose text is written with no value between. The word `quick` stands for
-//! one whose text is read with no value of it: what is told then is how much it has.
+//! A line is the version's number, a tab, the part's word or `world`, a tab and the value. What is told of it is the value that was written, or the
+//! number of the first clause that was found broken. The word `text` stands for a world whose text is written with no value between. The word `quick`
+//! stands for one whose text is read with no value of it: what is told then is how much it has.
 #![tactic(auto)]
 
-mod parts;
+mod saved_parts;
 
-use parts::{Part, rewritten, sizes};
+use saved_parts::{Part, rewritten, sizes};
 use serde_json::Value;
 use std::alloc::Global;
 use std::io;

@@ -1,4 +1,4 @@
--- The colour law: the turns of a colour, made one by one, are those made at once.
+-- The colour law: the visits of a colour, made one by one, are those made at once.
 use Rattle.std.proofs.Common.{◌≡◌, ◌≢◌, ℕ, zero, suc, Bool, true, false, List, [], ◌∷◌, Some, map, get_or, set, arith, refl, sym, ap, ap₂, ◌∙◌, subst}
 use Rattle.std.specs.List.{slice_get}
 use Rattle.std.proofs.lemmas.List.{get_or-set_other, set-get_or}
@@ -21,7 +21,7 @@ put_else ss i j s false apart same = ap (λ (x : BodyState). get_or (set ss i x)
 not_one : (ss : List BodyState) (i j : ℕ) → is_mover ss i ≡ true → is_mover ss j ≡ false → i ≢ j
 not_one ss i j moves still e = let clash : true ≡ false = sym moves ∙ ap (is_mover ss) e ∙ still in cc clash
 
--- a turn leaves the bodies in other slots alone, and those that don't move
+-- a visit leaves the bodies in other slots alone, and those that don't move
 visit_else : {R : Type 0} (at : R → Slots) (before now : List BodyState) (r : R) (made : Ends) (j : ℕ) → AreSameBodies (ends_of at before r) made → ends_of at now r ≡ ends_of at before r
     → (is_mover before (at r).a ≡ true → (at r).a ≢ j) → (is_mover before (at r).b ≡ true → (at r).b ≢ j) → get_or (with_ends at now r made) j nobody ≡ get_or now j nobody
 visit_else at before now r made j fair ends apart_a apart_b =
@@ -74,11 +74,11 @@ share_from at f (r ∷ rs) before now colour fair same =
     let more = share_from at f rs before (after at f now r) (rest_colour at before r rs colour) (rest_fair at f before r rs fair) (still_same at f before now r rs colour fair same) in
     ap₂ plus here more
 
--- on a colour the turns one by one are those at the bodies before it
+-- on a colour the visits one by one are those at the bodies before it
 pub results_mapped : {R : Type 0} (at : R → Slots) (f : R → Ends → RowAfter R) (states : List BodyState) (rows : List R) → IsColour at states rows → AreVisitsFair at f states rows → results at f states rows ≡ map (visit_of at f states) rows
 results_mapped at f states rows colour fair = results_from at f rows states states colour fair (λ k e h. refl)
 
--- with or without a colour: the turns one by one, written back, are the pass
+-- with or without a colour: the visits one by one, written back, are the pass
 scatter_results : {R : Type 0} (at : R → Slots) (f : R → Ends → RowAfter R) (states : List BodyState) (rows : List R) → scatter at states rows (results at f states rows) ≡ passed at f states rows
 scatter_results at f states [] = refl
 scatter_results at f states (r ∷ rs) = scatter_results at f (after at f states r) rs
@@ -87,7 +87,7 @@ rows_results : {R : Type 0} (at : R → Slots) (f : R → Ends → RowAfter R) (
 rows_results {R} at f states [] = refl
 rows_results {R} at f states (r ∷ rs) = ap (λ (l : List R). (visit_of at f states r).row ∷ l) (rows_results at f (after at f states r) rs)
 
--- mapping the turn over a colour at the bodies before it, and writing the results back, is the pass one by one
+-- mapping the visit over a colour at the bodies before it, and writing the results back, is the pass one by one
 pub colour_law : {R : Type 0} (at : R → Slots) → ColoursAreAtOnce at
 colour_law {R} at f states rows colour fair =
     let mapped = results_mapped at f states rows colour fair in

@@ -1,4 +1,4 @@
--- A turn that leaves a row and its bodies as they are leaves all bodies so, and gives nothing.
+-- A visit that leaves a row and its bodies as they are leaves all bodies so, and gives nothing.
 use Rattle.std.proofs.Common.{◌≡◌, sym, Bool, true, false, List, length, get_or, refl}
 use Rattle.std.proofs.lemmas.List.{set-get_or}
 use Rattle.fixed_geom.specs.Vectors.{minus, zero_vector}
@@ -13,7 +13,7 @@ use Rattle.colour_solver.specs.RowVisits.{IsRowOn, after, ends_of, got, got_by, 
 use Rattle.colour_solver.proofs.VisitLaws.{state_at}
 use Rattle.colour_solver.proofs.VectorLaws.{minus_same}
 
--- what a turn does at a row where it is idle
+-- what a visit does at a row where it is idle
 abbrev pub IsIdle : {R : Type 0} → (R → Ends → RowAfter R) → R → Type 0
 IsIdle f r = (e : Ends) → AreStates e → f r e ≡ record { row = r; ends = e }
 

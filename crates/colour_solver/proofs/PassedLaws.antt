@@ -84,7 +84,7 @@ passed_on {R} at is f ss ts us rows more visited rest given extra first next = r
 one_of : {X : Type 0} (P : X → Type 0) (x : X) → P x → All P (x ∷ [])
 one_of P x here = All-cons P x [] here (All-nil P)
 
--- the turn of one row
+-- the visit of one row
 pub passed_one : {R : Type 0} (at : R → Slots) (is : R → Type 0) (f : R → Ends → RowAfter R) (ss ts : List BodyState) (r t : R) (given : Vec2) → ts ≡ after at f ss r → t ≡ (visit_of at f ss r).row
     → given ≡ got (ends_of at ss r) (visit_of at f ss r).ends → AreAllStates ts → IsRowOn at is (length ts) t → AreSameStates ss ts
     → total ts ≡ plus (total ss) given → IsPassed at is f ss (r ∷ []) ts (t ∷ []) given

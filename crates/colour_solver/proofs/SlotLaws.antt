@@ -1,4 +1,4 @@
--- What turns keep of rows: where their bodies stand, and which kind they are of.
+-- What visits keep of rows: where their bodies stand, and which kind they are of.
 use Rattle.std.proofs.Common.{◌≡◌, ℕ, zero, suc, List, [], ◌∷◌, Option, Some, None, map, refl, ap₂, ◌∙◌}
 use Rattle.fixed_geom.specs.declared.vectors.Vec2.{Vec2}
 use Rattle.momenta.specs.declared.state.BodyState.{BodyState}
@@ -49,7 +49,7 @@ contact_bounced_slots : (r : ContactRow) (e : Ends) → contact_slots (row_bounc
 unfolding row_bounced
 contact_bounced_slots r e = points_slots (point_bounced r.bodies.restitution) r e
 
--- a turn leaves a row's bodies where they stand
+-- a visit leaves a row's bodies where they stand
 pub visit_slots : (phase : Phase) (r : ConstraintRow) (e : Ends) → constraint_slots (constraint_visit phase r e).row ≡ constraint_slots r
 visit_slots Warm (Joint r) e = joint_warmed_slots r e
 visit_slots Warm (Contact r) e = contact_warmed_slots r e
@@ -60,7 +60,7 @@ visit_slots Bounce (Contact r) e = contact_bounced_slots r e
 
 -- ---- a pass
 
--- what each turn keeps of its row stays in the whole list
+-- what each visit keeps of its row stays in the whole list
 pub passed_same : {R X : Type 0} (at : R → Slots) (f : R → Ends → RowAfter R) (k : R → X) → ((r : R) (e : Ends) → k (f r e).row ≡ k r) → (ss : List BodyState) (rs : List R) → map k (rows_passed at f ss rs) ≡ map k rs
 passed_same at f k same ss [] = refl
 passed_same {R} {X} at f k same ss (r ∷ rs) = ap₂ (λ (x : X) (l : List X). x ∷ l) (same r (ends_of at ss r)) (passed_same at f k same (after at f ss r) rs)

@@ -1,4 +1,4 @@
--- What the turn of one row keeps, and what it adds to the movers' momentum.
+-- What the visit of one row keeps, and what it adds to the movers' momentum.
 use Rattle.std.proofs.Common.{◌≡◌, ◌≢◌, ℕ, zero, suc, ◌<◌, ◌≤◌, ◌*◌, ◌^◌, Bool, true, false, List, [], ◌∷◌, ◌++◌, length, get_or, set, ℤ, ◌+ℤ◌, unsigned_abs, cond, arith, refl, sym, ap, ap₂, ◌∙◌, subst, inl, inr}
 use Rattle.std.proofs.lemmas.Bool.{cases_Bool}
 use Rattle.std.proofs.lemmas.Int.{ints}
@@ -68,7 +68,7 @@ gained e after same kept =
     ap₂ plus (ap (λ (t : Bool). cond t after.a.motion.p zero_vector) same.a.movable) (ap (λ (t : Bool). cond t after.b.motion.p zero_vector) same.b.movable)
     ∙ gained_by e.a.movable e.b.movable e.a.motion.p e.b.motion.p after.a.motion.p after.b.motion.p (λ ha hb. same_vector _ _ (kept.x ha hb) (kept.y ha hb))
 
--- two bodies, in the slots i and j of which they are known, replaced by what their turn makes of them
+-- two bodies, in the slots i and j of which they are known, replaced by what their visit makes of them
 told : (before one both pa pb pa1 pb1 at got : Vec2) → plus one pa ≡ plus before pa1 → plus both at ≡ plus one pb1 → at ≡ pb → plus pa1 pb1 ≡ plus (plus pa pb) got → both ≡ plus before got
 told before one both pa pb pa1 pb1 at got first second e sum =
     same_vector both _ (omega (arith, ints, same_x first, same_x second, same_x e, same_x sum)) (omega (arith, ints, same_y first, same_y second, same_y e, same_y sum))

@@ -1,4 +1,4 @@
--- A colour: rows no two of which share a mover. Their turns may be made at once, each with the bodies as they are before all of them.
+-- A colour: rows no two of which share a mover. Their visits may be made at once, each with the bodies as they are before all of them.
 use Rattle.std.specs.Prelude.{◌≡◌, ◌≢◌, ◌<◌, ℕ, Bool, true, List, [], ◌∷◌, Some, map, All, slice_get, slice_index_or}
 use Rattle.fixed_geom.specs.Vectors.{plus, zero_vector}
 use Rattle.fixed_geom.specs.declared.vectors.Vec2.{Vec2}
@@ -30,14 +30,14 @@ IsColour {R} at states rows = (i j : ℕ) (r e : R) → i < j → slice_get rows
 abbrev pub AreColours : List BodyState → ColourRows ConstraintRow → Type 0
 AreColours states r = All (λ rs. IsColour constraint_slots states rs) r.colours
 
--- ---- the turns one by one, and at once
+-- ---- the visits one by one, and at once
 
--- the turns of a pass, in order, each with the bodies as those before it left them
+-- the visits of a pass, in order, each with the bodies as those before it left them
 abbrev pub results : {R : Type 0} → (R → Slots) → (R → Ends → RowAfter R) → List BodyState → List R → List (RowAfter R)
 results at f states [] = []
 results at f states (r ∷ rs) = visit_of at f states r ∷ results at f (after at f states r) rs
 
--- turns that are there already, written back
+-- visits that are there already, written back
 abbrev pub scatter : {R : Type 0} → (R → Slots) → List BodyState → List R → List (RowAfter R) → List BodyState
 scatter at states [] visits = states
 scatter at states (r ∷ rs) [] = states
@@ -48,11 +48,11 @@ abbrev pub share_at_once : {R : Type 0} → (R → Slots) → (R → Ends → Ro
 share_at_once at f states [] = zero_vector
 share_at_once at f states (r ∷ rs) = plus (got (ends_of at states r) (visit_of at f states r).ends) (share_at_once at f states rs)
 
--- each turn leaves alone what an impulse does: an immovable body above all
+-- each visit leaves alone what an impulse does: an immovable body above all
 abbrev pub AreVisitsFair : {R : Type 0} → (R → Slots) → (R → Ends → RowAfter R) → List BodyState → List R → Type 0
 AreVisitsFair at f states rows = All (λ r. AreSameBodies (ends_of at states r) (visit_of at f states r).ends) rows
 
--- the turns made at once are those made one by one, and so is all that comes of them
+-- the visits made at once are those made one by one, and so is all that comes of them
 pub record IsAtOnce {R : Type 0} (at : R → Slots) (f : R → Ends → RowAfter R) (states : List BodyState) (rows : List R) : Type 0 where
   pub visits : results at f states rows ≡ map (visit_of at f states) rows
   pub bodies : scatter at states rows (map (visit_of at f states) rows) ≡ passed at f states rows

@@ -1,4 +1,4 @@
--- Inner: the rows of joints and contacts among those that take turns.
+-- Inner: the rows of joints and contacts among those that are visited.
 use Rattle.std.specs.Prelude.{ℕ, Bool, true, false, List, Option, Some, None}
 use Rattle.std.specs.List.{filter_map}
 use Rattle.momenta.specs.declared.state.Ends.{Ends}
@@ -57,18 +57,18 @@ joints_among rs = filter_map joint_in rs
 abbrev pub contacts_among : List ConstraintRow → List ContactRow
 contacts_among rs = filter_map contact_in rs
 
--- ---- turns
+-- ---- visits
 
--- the joint's row and its bodies after a turn
+-- the joint's row and its bodies after a visit
 abbrev pub visited_joint : JointAfter → RowAfter JointRow
 visited_joint t = record { row = t.row; ends = t.ends }
 
--- the turn of a row of either kind, from the turns of each
+-- the visit of a row of either kind, from the visits of each
 abbrev pub either_visit : (JointRow → Ends → JointAfter) → (ContactRow → Ends → RowAfter ContactRow) → ConstraintRow → Ends → RowAfter ConstraintRow
 either_visit f g (Joint r) e = record { row = Joint (f r e).row; ends = (f r e).ends }
 either_visit f g (Contact r) e = record { row = Contact (g r e).row; ends = (g r e).ends }
 
--- the same, where what a turn leaves of a joint is said as of any row
+-- the same, where what a visit leaves of a joint is said as of any row
 abbrev pub joint_after : RowAfter JointRow → JointAfter
 joint_after t = record { row = t.row; ends = t.ends }
 

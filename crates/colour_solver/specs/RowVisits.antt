@@ -1,4 +1,4 @@
--- Inner: a pass over rows in solve order: the left fold of one turn, and what the immovable bodies have given. A row may be of any kind: what is known of it is
+-- Inner: a pass over rows in solve order: the left fold of one visit, and what the immovable bodies have given. A row may be of any kind: what is known of it is
 -- where its two bodies stand.
 use Rattle.std.specs.Prelude.{◌≡◌, ℕ, Bool, ◌<◌, ◌≢◌, ◌-◌, cond, List, [], ◌∷◌, length, take, drop, All, slice_set, slice_index_or}
 use Rattle.fixed_geom.specs.Vectors.{minus, plus, zero_vector}
@@ -23,19 +23,19 @@ with_ends at states r e = slice_set (slice_set states (at r).a e.a) (at r).b e.b
 abbrev pub ends_64 : {R : Type 0} → (R → Slots) → List BodyState → R → MomentaPair64 → Ends
 ends_64 at states r n = ends_with (slice_index_or states (at r).a nobody) (slice_index_or states (at r).b nobody) n
 
--- the turn of one row, the bodies standing so
+-- the visit of one row, the bodies standing so
 abbrev pub visit_of : {R : Type 0} → (R → Slots) → (R → Ends → RowAfter R) → List BodyState → R → RowAfter R
 visit_of at f states r = f r (ends_of at states r)
 
 abbrev pub after : {R : Type 0} → (R → Slots) → (R → Ends → RowAfter R) → List BodyState → R → List BodyState
 after at f states r = with_ends at states r (visit_of at f states r).ends
 
--- the bodies after all turns, one after another
+-- the bodies after all visits, one after another
 abbrev pub passed : {R : Type 0} → (R → Slots) → (R → Ends → RowAfter R) → List BodyState → List R → List BodyState
 passed at f states [] = states
 passed at f states (r ∷ rs) = passed at f (after at f states r) rs
 
--- the rows after their turns
+-- the rows after their visits
 abbrev pub rows_passed : {R : Type 0} → (R → Slots) → (R → Ends → RowAfter R) → List BodyState → List R → List R
 rows_passed at f states [] = []
 rows_passed at f states (r ∷ rs) = (visit_of at f states r).row ∷ rows_passed at f (after at f states r) rs
@@ -71,7 +71,7 @@ AreRowsOn at is n rows = All (IsRowOn at is n) rows
 abbrev pub between : {R : Type 0} → ℕ → ℕ → List R → List R
 between n e rows = take (e - n) (drop n rows)
 
--- the turns f of the rows, from the bodies before them on, leave these bodies and these rows, and the movers with so much more momentum
+-- the visits f of the rows, from the bodies before them on, leave these bodies and these rows, and the movers with so much more momentum
 pub record IsPassed {R : Type 0} (at : R → Slots) (is : R → Type 0) (f : R → Ends → RowAfter R) (before : List BodyState) (rows : List R) (now : List BodyState) (visited : List R) (given : Vec2) : Type 0 where
   pub states : now ≡ passed at f before rows
   pub rows_are : visited ≡ rows_passed at f before rows
@@ -81,9 +81,9 @@ pub record IsPassed {R : Type 0} (at : R → Slots) (is : R → Type 0) (f : R �
   pub same : AreSameStates before now
   pub momentum : total now ≡ plus (total before) given
 
--- ---- a turn in 64 bits
+-- ---- a visit in 64 bits
 
--- the turn t has left the row r, and the bodies a and b with the momenta n
+-- the visit t has left the row r, and the bodies a and b with the momenta n
 pub record IsVisit64 {R : Type 0} (is : R → Type 0) (t : RowAfter R) (a b : BodyState) (r : R) (n : MomentaPair64) : Type 0 where
   pub value : t ≡ record { row = r; ends = ends_with a b n }
   pub row : is r

@@ -354,7 +354,7 @@ impl Rows {
         contacts_behind(&self.contacts, &self.ends)
     }
 
-    /// Puts a row that took its turns elsewhere back into its place, which has a row of its kind. Answers where the next one stands.
+    /// Puts a row that was visited elsewhere back into its place, which has a row of its kind. Answers where the next one stands.
     #[inline(always)]
     pub fn put(&mut self, place: RowPlace, row: &ConstraintRow) -> RowPlace
         requires inside { place.joints + place.contacts < length (all_rows self.old) }
@@ -391,7 +391,7 @@ impl Rows {
         self.contacts.as_slice()
     }
 
-    /// One pass over all rows in solve order, the one turn made of joints and the other of contacts, each with the bodies as those before
+    /// One pass over all rows in solve order, the one visit made of joints and the other of contacts, each with the bodies as those before
     /// it left them; each row stays in its colour. Answers what immovable bodies have given to the movers (mass·u/tick).
     pub fn pass<J: Visit<JointRow>, C: Visit<ContactRow>>(
         &mut self,

@@ -1,4 +1,4 @@
-//! The turns of joints and contacts: the warm start, the impulses, and the restitution, which a joint has none of.
+//! The visits of joints and contacts: the warm start, the impulses, and the restitution, which a joint has none of.
 
 ghost use Rattle.std.specs.Prelude.{◌≡◌};
 ghost use Rattle.joint_rows.specs.Rows.{joint_solved, joint_warmed};
@@ -17,7 +17,7 @@ use joint_rows::{
 };
 use momenta::{BodyState, Ends, Exerted64, MomentaPair64};
 
-/// Writes what a turn in 64 bits has made of a joint's impulse into its row. Answers the momenta of its bodies.
+/// Writes what a visit in 64 bits has made of a joint's impulse into its row. Answers the momenta of its bodies.
 #[inline(always)]
 fn put_impulse(row: &mut JointRow, visited: Exerted64) -> MomentaPair64
     ensures row { row.new ≡ with_impulse row.old visited.total }
@@ -36,7 +36,7 @@ fn put_point(point: &mut PointRow, impulses: PointImpulses)
     point.tangent_impulse = impulses.tangent;
 }
 
-/// Writes what a turn in 64 bits has made of a contact's impulses into its row. Answers the momenta of its bodies.
+/// Writes what a visit in 64 bits has made of a contact's impulses into its row. Answers the momenta of its bodies.
 #[inline(always)]
 fn put_impulses(row: &mut ContactRow, visited: RowAfter64) -> MomentaPair64
     ensures row { row.new ≡ with_row_impulses row.old visited.first visited.second }

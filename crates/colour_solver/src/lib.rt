@@ -1,4 +1,5 @@
-//! A step on arrays: the bodies by slot and the joints and the touching contacts in solve order, colour after colour, with the passes of a tick over both.
+//! A step on arrays: the bodies by slot and the joints and the touching contacts in solve order, colour after colour, with the passes of a tick over
+//! both.
 //!
 //! A step works on two dense arrays (`BodyState`, `ConstraintRow`), runs its ticks over them (`run_step`) and writes back what came of it,
 //! as Box2D v3 does with its body states and contact constraints. So the inner loops look nothing up, and a step that is refused before
@@ -7,16 +8,16 @@
 //! movers alone, or over those of the bodies that are carried along.
 #![tactic(auto)]
 
-pub mod colour_rows;
-pub mod constraint_passes;
-pub mod constraint_row;
-pub mod constraint_visits;
+mod colour_rows;
+mod constraint_passes;
+mod constraint_row;
+mod constraint_visits;
 mod courses;
-pub mod passes;
-pub mod phase;
-pub mod row_visits;
-pub mod step_solver;
-pub mod ticks;
+mod passes;
+mod phase;
+mod row_visits;
+mod step_solver;
+mod ticks;
 
 pub use colour_rows::{RowPlace, Rows};
 pub use constraint_passes::Passes;

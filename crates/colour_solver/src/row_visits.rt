@@ -1,4 +1,4 @@
-//! Rows that take turns: each row's two bodies take its turn, one row after another, in solve order.
+//! Rows that are visited: each with its two bodies, one row after another, in solve order.
 
 ghost use Rattle.std.specs.Prelude.{◌≡◌, ◌≢◌, ◌^◌, ◌<◌, ◌≤◌, true, None, length, take, drop, IfSome};
 ghost use Rattle.momenta.specs.declared.state.Ends.{Ends};
@@ -45,7 +45,7 @@ pub trait Visit<R: Row> {
     fn is_idle(&self, row: &R) -> bool
         ensures { result ≡ true → (e : Ends) → AreStates e → visit self.now row.now e ≡ record { row = row.now; ends = e } };
 
-    /// The same turn in 64 bits, where there is room: it is written into the row, and the momenta that the two bodies then have are
+    /// The same visit in 64 bits, where there is room: it is written into the row, and the momenta that the two bodies then have are
     /// the answer. Where there is none, the row stays as it is.
     fn visit_64(&self, row: &mut R, a: &BodyState, b: &BodyState) -> Option<MomentaPair64>
         requires row { R.is_row row.old }
@@ -99,7 +99,7 @@ fn put_momenta(body: &mut BodyState, after: &BodyState)
     body.motion.l = after.motion.l;
 }
 
-/// The turn of one row that has something to do, with its two bodies as they stand. Answers what the immovable one has
+/// The visit of one row that has something to do, with its two bodies as they stand. Answers what the immovable one has
 /// given, if one is.
 #[inline(never)]
 fn visit_bodies<R: Row, T: Visit<R>>(states: &mut Vec<BodyState>, row: &mut R, visit: &T) -> Gain
@@ -138,7 +138,7 @@ fn put_64(body: &mut BodyState, now: Momenta64)
     body.motion.l = i128::from(now.l);
 }
 
-/// Puts the momenta that a turn has given the bodies in these slots in their places. Answers what the immovable one has given, if one is.
+/// Puts the momenta that a visit has given the bodies in these slots in their places. Answers what the immovable one has given, if one is.
 #[inline(always)]
 fn put_visit(states: &mut Vec<BodyState>, slots: Slots, now: MomentaPair64) -> Gain
     requires states { AreAllStates states.old.items }
@@ -158,7 +158,7 @@ fn put_visit(states: &mut Vec<BodyState>, slots: Slots, now: MomentaPair64) -> G
     given
 }
 
-/// The turn of one row in 64 bits, where there is room.
+/// The visit of one row in 64 bits, where there is room.
 #[inline(always)]
 fn visit_row_64<R: Row, T: Visit<R>>(
     states: &[BodyState],
@@ -175,7 +175,7 @@ fn visit_row_64<R: Row, T: Visit<R>>(
     visit.visit_64(row, &states[slots.a as usize], &states[slots.b as usize])
 }
 
-/// The turn of one row with its two bodies among `states`, as the definition has it. Answers what an immovable body has given
+/// The visit of one row with its two bodies among `states`, as the definition has it. Answers what an immovable body has given
 /// (mass·u/tick), by which the movers' momentum grows.
 #[inline(always)]
 pub fn solve_one<R: Row, T: Visit<R>>(states: &mut Vec<BodyState>, row: &mut R, visit: &T) -> Gain
@@ -231,8 +231,8 @@ pub fn pass_rows<R: Row, T: Visit<R>>(
     given
 }
 
-/// The colour law: of rows no two of which share a mover, the turns may be made at once, each with the bodies as they are
-/// before all of them; written back, they give the bodies, the rows and the sums that one turn after another gives. So a colour
+/// The colour law: of rows no two of which share a mover, the visits may be made at once, each with the bodies as they are
+/// before all of them; written back, they give the bodies, the rows and the sums that one visit after another gives. So a colour
 /// may be solved in parallel (as Box2D v3's graph colours are). The function does nothing; its contract is the law.
 pub fn colours_at_once<R: Row>()
     ensures { ColoursAreAtOnce R.slots }

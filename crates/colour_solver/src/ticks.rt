@@ -29,7 +29,7 @@ pub struct StepSums {
 
 /// A tick of gravity.
 #[derive(Clone, Copy)]
-pub struct Pull {
+pub(crate) struct Pull {
     pub gravity: Vec2,
 }
 
@@ -47,7 +47,7 @@ impl Change for Pull {
 
 /// The speed limit.
 #[derive(Clone, Copy)]
-pub struct Limit;
+pub(crate) struct Limit;
 
 impl Change for Limit {
     ghost after = { λ _ m s. speed_clamped m s };
@@ -64,7 +64,7 @@ impl Change for Limit {
 
 /// The move.
 #[derive(Clone, Copy)]
-pub struct Move;
+pub(crate) struct Move;
 
 impl Change for Move {
     ghost after = { λ _ m s. advanced m s };
@@ -79,8 +79,8 @@ impl Change for Move {
     }
 }
 
-/// One tick of the awake movers and the constraints: gravity, the speed limit, the warm start, the solver's pass, the speed limit again, the move; and then of
-/// the bodies that are carried along. Adds to the sums so far.
+/// One tick of the awake movers and the constraints: gravity, the speed limit, the warm start, the solver's pass, the speed limit again, the move;
+/// and then of the bodies that are carried along. Adds to the sums so far.
 #[tactic(auto, unfolding(crate::specs::Ticks::tick))]
 fn tick<P: Passes>(
     states: &mut Vec<BodyState>,

@@ -1,4 +1,4 @@
--- The turn of a row is what the definition makes of its contact.
+-- The visit of a row is what the definition makes of its contact.
 use Rattle.std.proofs.Common.{◌≡◌, ◌∙◌, ◌^◌, Bool, true, false, cond, Option, Some, None, ℤ, pos, neg_ℤ, ◌+ℤ◌, ◌-ℤ◌, ◌*ℤ◌, int_lt, refl, sym, ap, subst}
 use Rattle.std.specs.Prelude.{option_map}
 use Rattle.fixed_geom.specs.Numbers.{rdiv}
@@ -137,7 +137,7 @@ same_separation : (springy : Bool) (s e : Ends) (p : ContactPoint) → rows.sepa
 unfolding rows.separation_now point_row
 same_separation springy s e p = refl
 
--- what a turn of the point's row makes is what the definition makes of the point
+-- what a visit of the point's row makes is what the definition makes of the point
 record IsAlike (springy : Bool) (s : Ends) (f : ContactPoint → Ends → SolvedPoint) (g : PointRow → Ends → PointAfter) : Type 0 where
   value : (p : ContactPoint) (e : Ends) → AreMovedFrom s e → g (point_row springy s p) e ≡ row_point springy s (f p e)
   masses : (p : ContactPoint) (e : Ends) → AreMovedFrom e (f p e).ends

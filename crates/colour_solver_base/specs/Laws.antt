@@ -20,7 +20,7 @@ pub record AreMovedFrom (start e : Ends) : Type 0 where
   pub a : IsMovedFrom start.a e.a
   pub b : IsMovedFrom start.b e.b
 
--- what the turn of a contact's row has made of the row and its bodies is what s says of the contact and its bodies
+-- what the visit of a contact's row has made of the row and its bodies is what s says of the contact and its bodies
 pub record IsRowOf (b : Bodies) (start : Ends) (s : SolvedContact) (t : RowAfter ContactRow) : Type 0 where
   pub row : row_from b start s.contact.first s.contact.second ≡ Some t.row
   pub ends : t.ends ≡ s.ends

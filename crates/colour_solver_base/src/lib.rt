@@ -5,11 +5,11 @@
 //! bias velocity beyond a slop, and sub-steps, here with whole numbers.
 #![tactic(auto)]
 
-pub mod laws;
-pub mod limits;
-pub mod row;
-pub mod row_64;
-pub mod solve;
+mod laws;
+mod limits;
+mod row;
+mod row_64;
+mod solve;
 
 pub use laws::rows_are_contacts;
 pub use limits::{BOUNCE_SPEED, MAX_BIAS, SLOP, limits_in_digits};

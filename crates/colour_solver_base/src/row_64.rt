@@ -31,9 +31,9 @@ const NO_IMPULSES: PointImpulses = PointImpulses {
     tangent: 0,
 };
 
-/// Those of a point after its turn, and the momenta of the two bodies.
+/// Those of a point after its visit, and the momenta of the two bodies.
 #[derive(Clone, Copy, Debug, PartialEq, Eq)]
-pub struct PointAfter64 {
+pub(crate) struct PointAfter64 {
     pub impulses: PointImpulses,
     pub now: MomentaPair64,
 }
@@ -188,7 +188,7 @@ fn solve_point_64(
     }
 }
 
-/// The contact in a solver pass after the turn of its first point: that of the second follows, if there is one.
+/// The contact in a solver pass after the visit of its first point: that of the second follows, if there is one.
 #[tactic(auto, unfolding(crate::specs::Rows::row_solved))]
 #[inline(always)]
 fn solve_second_64(

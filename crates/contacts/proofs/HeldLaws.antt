@@ -1,4 +1,4 @@
--- What is due where nothing is, and the places of the contacts of which a body may stir.
+-- What is pending where nothing is, and the places of the contacts of which a body may stir.
 use Rattle.std.proofs.Common.{◌≡◌, refl, sym, subst}
 use Rattle.contacts_base.specs.ContactLists.{AreContacts}
 use Rattle.contacts_base.specs.Split.{Split, contacts_in}

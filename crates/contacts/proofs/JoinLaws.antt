@@ -201,7 +201,7 @@ touches_ascend moved pairs ps s notes ends new all long_begin long_end short_beg
 
 -- ---- both lists together
 
--- all that is said of what is due, and of which contacts begin and end to touch
+-- all that is said of what is pending, and of which contacts begin and end to touch
 pub record IsDone (pairs : List BodyPair) (ps : List Proxy) (s : Split) (notes : List Renewal) (ends : List ℕ) (short : Option (List ContactEntry)) (begin end : List ContactKey) : Type 0 where
   pub short_is : ForSome short (λ es. AreContacts es)
   pub contacts : AreContacts (contacts_in (carried notes ends short s))

@@ -50,9 +50,9 @@ struct Beside {
 /// A contact for each pair of near shapes. Contracts see the list of them (`contacts`), and what it becomes when the last collide is carried
 /// out (`pending`).
 ///
-/// They are kept as a long list and a short one: where a contact comes or goes the long list stands, and the places in it hold. The two
-/// are made one when the collides since the last time have looked at as many contacts beside the long list as it has, so that this costs no more than was
-/// spent before it.
+/// They are kept as a long list and a short one: where a contact comes or goes the long list stands, and the places in it hold. The two are made one
+/// when the collides since the last time have looked at as many contacts beside the long list as it has, so that this costs no more than was spent
+/// before it.
 #[derive(Drop)]
 pub struct ContactTable {
     contacts: SplitContacts,
@@ -292,8 +292,8 @@ impl ContactTable {
         self.contacts.to_entries(alloc)
     }
 
-    /// Makes ready for the drop of the contacts of a body, which then needs no pass over the long list. The first drop since that list was made has one, which
-    /// costs less than the index that all later ones ask. Refused 1 where memory is wanting.
+    /// Makes ready for the drop of the contacts of a body, which then needs no pass over the long list. The first drop since that list was made has
+    /// one, which costs less than the index that all later ones ask. Refused 1 where memory is wanting.
     pub fn reserve_drop(&mut self) -> Result<(), Refusal>
         ensures contacts { self.new.contacts ≡ self.old.contacts }
         ensures pending { self.new.pending ≡ self.old.pending }

@@ -151,12 +151,12 @@ impl PairSweep {
         Ok(near)
     }
 
-    /// The contacts of the near pairs whose bodies aren't among the forbidden pairs, and what changed; `old` are the contacts until now. Refused 1 where memory is wanting.
-    /// They are listed in the memory of `room`, whatever is in it.
+    /// The contacts of the near pairs whose bodies aren't among the forbidden pairs, and what changed; `old` are the contacts until now. Refused 1
+    /// where memory is wanting. They are listed in the memory of `room`, whatever is in it.
     ///
-    /// A contact is evaluated anew if one of its two bodies stirs, and else stays as it is. A pair that had a contact keeps its surface, and the impulses of its points by their candidates; a
-    /// new pair gets a contact with what its shapes' surfaces mix to. A contact ends that touched and doesn't any more, also where its shapes are no longer
-    /// near or its bodies may no longer collide.
+    /// A contact is evaluated anew if one of its two bodies stirs, and else stays as it is. A pair that had a contact keeps its surface, and the
+    /// impulses of its points by their candidates; a new pair gets a contact with what its shapes' surfaces mix to. A contact ends that touched and
+    /// doesn't any more, also where its shapes are no longer near or its bodies may no longer collide.
     pub fn update_contacts<F: ForbiddenPairs>(
         &mut self,
         room: Vec<ContactEntry>,

@@ -7,18 +7,18 @@ ghost use Rattle.contacts.specs.PendingUpdates.{IsPendingUpdate, IsNothing, pend
 use contacts_base::{ContactEntry, ContactKey, Renewal, SplitContacts};
 use std::alloc::Global;
 
-/// What a collide makes of the contacts, not yet carried out: of the long list what becomes of the contacts at some places, and which of them are over; and
-/// the short list anew, if one of it changes or contacts come. Or all contacts anew.
+/// What a collide makes of the contacts, not yet carried out: of the long list what becomes of the contacts at some places, and which of them are
+/// over; and the short list anew, if one of it changes or contacts come. Or all contacts anew.
 #[derive(Drop)]
-pub struct PendingUpdate {
+pub(crate) struct PendingUpdate {
     // What contacts of the long list become.
-    pub notes: Vec<Renewal>,
+    pub(crate) notes: Vec<Renewal>,
     // The places in the long list of those that go.
-    pub ends: Vec<usize>,
-    pub short: Option<Vec<ContactEntry>>,
-    pub whole: Option<SplitContacts>,
+    pub(crate) ends: Vec<usize>,
+    pub(crate) short: Option<Vec<ContactEntry>>,
+    pub(crate) whole: Option<SplitContacts>,
     // Whether there may be anything of these.
-    pub any: bool,
+    pub(crate) any: bool,
 }
 
 /// The keys of the contacts that begin to touch and of those that end, each list ascending.
@@ -30,7 +30,7 @@ pub struct Touches {
 
 impl PendingUpdate {
     /// Nothing is pending.
-    pub fn new(alloc: Global) -> PendingUpdate
+    pub(crate) fn new(alloc: Global) -> PendingUpdate
         ensures idle { result.any ≡ false }
         ensures nothing { IsNothing result }
     {
@@ -45,7 +45,7 @@ impl PendingUpdate {
 
     /// Nothing is pending any more.
     #[inline(always)]
-    pub fn clear(&mut self)
+    pub(crate) fn clear(&mut self)
         requires { self.old.any ≡ false → IsNothing self.old }
         ensures idle { self.new.any ≡ false }
         ensures nothing { IsNothing self.new }

@@ -19,8 +19,7 @@ use crate::fates::{Fate, ShapesById, begun_key, ended_key};
 use crate::forbidden::ForbiddenPairs;
 use crate::pending_update::Touches;
 use crate::stirring::fate_in;
-use contacts_base::merge::{merge, push_below};
-use contacts_base::{ContactEntry, ContactKey};
+use contacts_base::{ContactEntry, ContactKey, merge, push_below};
 use fixed_geom::Refusal;
 use std::alloc::Global;
 

@@ -1,5 +1,5 @@
-//! The contacts after a collide, from what is known of the near pairs: only fresh pairs are looked for, and of the long list of contacts those alone of which a
-//! body may stir. Contacts that come go into the short list, which is made anew.
+//! The contacts after a collide, from what is known of the near pairs: only fresh pairs are looked for, and of the long list of contacts those alone
+//! of which a body may stir. Contacts that come go into the short list, which is made anew.
 
 ghost use Rattle.std.specs.Prelude.{◌≡◌, All, IfOk, OnOk, false, true};
 ghost use Rattle.std.specs.Result.{IsOkUnless};
@@ -24,8 +24,7 @@ use crate::pending_update::{PendingUpdate, Touches};
 use crate::rebuild::{Rebuilt, rebuild};
 use crate::stirring::{Stirring, is_one_flagged};
 use crate::survey::look_over;
-use contacts_base::merge::merge;
-use contacts_base::{ContactEntry, ContactKey, SplitContacts};
+use contacts_base::{ContactEntry, ContactKey, SplitContacts, merge};
 use fixed_geom::Refusal;
 use std::alloc::Global;
 

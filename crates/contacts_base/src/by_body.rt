@@ -1,5 +1,5 @@
-//! The places of a body's contacts in a list that ascends by key: those whose first body it is stand side by side, and those whose second one it is are told by
-//! an index.
+//! The places of a body's contacts in a list that ascends by key: those whose first body it is stand side by side, and those whose second one it is
+//! are told by an index.
 
 ghost use Rattle.std.specs.Prelude.{◌≡◌, ◌++◌, ◌+◌, ◌*◌, ◌^◌, ◌<◌, ◌≤◌, All, IsTrue, OnOk, false, filter, length, map};
 ghost use Rattle.std.specs.List.{AllWithin};
@@ -257,8 +257,8 @@ impl BodyIndex {
         Ok(())
     }
 
-    /// Adds the places of the contacts of the body in a slot: of those whose first body it is, and then of those whose second one it is. Refused 1 where memory is
-    /// wanting.
+    /// Adds the places of the contacts of the body in a slot: of those whose first body it is, and then of those whose second one it is. Refused 1
+    /// where memory is wanting.
     pub fn push_places(
         &self,
         places: &mut Vec<usize>,

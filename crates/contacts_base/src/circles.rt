@@ -33,7 +33,7 @@ fn is_longer(way: Vec2, reach: i64) -> bool
 
 /// Whether two circles are apart. Where they aren't known to be, nothing is said.
 #[inline(always)]
-pub fn are_discs_apart(a: Disc, b: Disc) -> bool
+pub(crate) fn are_discs_apart(a: Disc, b: Disc) -> bool
     requires first { IsDisc a }
     requires second { IsDisc b }
     ensures { result ≡ true → (a.radius +ℤ b.radius) <ℤ span (minus b.center a.center) }

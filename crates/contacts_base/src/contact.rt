@@ -121,7 +121,7 @@ fn start_of(entries: &[ContactEntry], hint: usize, wanted: u128) -> usize
 /// The search begins at `hint` if that place isn't beyond it, and costs the less the nearer that is: one search after another,
 /// each from where the one before it ended, goes through the list once.
 #[inline(always)]
-pub fn seek(entries: &[ContactEntry], hint: usize, key: ContactKey) -> usize
+pub(crate) fn seek(entries: &[ContactEntry], hint: usize, key: ContactKey) -> usize
     requires { AreKeysRising entries.now }
     ensures { IsFirstFrom entries.now (key_number key) result }
 {
@@ -151,8 +151,8 @@ fn seek_further(entries: &[ContactEntry], hint: usize, key: ContactKey) -> usize
     seek(entries, hint, key)
 }
 
-/// `seek` for one key after another of a list that has mostly the same: the contact is looked for at the hint, which is the place where the last search ended,
-/// and at the next, before it is searched for.
+/// `seek` for one key after another of a list that has mostly the same: the contact is looked for at the hint, which is the place where the last
+/// search ended, and at the next, before it is searched for.
 #[inline(always)]
 pub fn seek_next(entries: &[ContactEntry], hint: usize, key: ContactKey) -> usize
     requires { AreKeysRising entries.now }

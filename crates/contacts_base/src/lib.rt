@@ -2,24 +2,29 @@
 //! points, and the definitions of near pairs and of the contacts that come of them.
 #![tactic(auto)]
 
+mod ascending;
 mod by_body;
-pub mod circles;
-pub mod contact;
-pub mod contacts;
-pub mod evaluation;
+mod circles;
+mod contact;
+mod contacts;
+mod evaluation;
 mod flags;
-pub mod key;
-pub mod limits;
-pub mod merge;
-pub mod near;
-pub mod packed;
-pub mod split;
-pub mod surface;
+mod key;
+mod limits;
+mod near;
+mod packed;
+mod split;
+mod surface;
 
+pub use ascending::{Numbered, merge, push_below};
 pub use contact::{Contact, ContactEntry, ContactPoint, contact_at, seek_next};
 pub use contacts::{Contacts, put_contact};
 pub use evaluation::{Impulses, contact_of, evaluate};
 pub use key::{ContactKey, ShapeId};
+pub use limits::{
+    MAX_FRICTION, MAX_NORMAL, MAX_NORMAL_IMPULSE, MAX_OFFSET, MAX_RESTITUTION, MAX_SEPARATION,
+    MAX_TANGENT_IMPULSE, limits_agree, limits_in_digits,
+};
 pub use near::{Proxy, code_of, is_near, one_stirs};
 pub use packed::PackedContact;
 pub use split::{Hint, Renewal, SplitContacts};

@@ -13,7 +13,7 @@ use std::marker::Model;
 
 /// A point of a contact, or none, in 48 bytes. Contracts see an option of the point.
 #[derive(Clone, Copy, Debug, PartialEq, Eq)]
-pub struct PackedPoint {
+pub(crate) struct PackedPoint {
     normal_impulse: i64,
     tangent_impulse: i64,
     normal_x: i32,

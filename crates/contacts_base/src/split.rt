@@ -8,11 +8,11 @@ ghost use Rattle.contacts_base.specs.ContactLists.{AreContacts, impulses_given};
 ghost use Rattle.contacts_base.specs.Merge.{merged};
 ghost use Rattle.contacts_base.specs.Split.{AreSlotsBelow, carried, contacts_in, counting, counting_at, or_kept, places_of, renewed};
 
+use crate::ascending::push_below;
 use crate::by_body::BodyIndex;
 use crate::contact::seek;
 use crate::contacts::{has_slot, put_contact, set_points};
 use crate::flags::CountedFlags;
-use crate::merge::push_below;
 use crate::{ContactEntry, ContactKey, Impulses, PackedContact, contact_at};
 use fixed_geom::Refusal;
 use std::alloc::Global;
@@ -266,8 +266,8 @@ impl SplitContacts {
         self.long.get(place)
     }
 
-    /// The contact with this key. The search begins at the hint, whatever that is, and the hint becomes where it ended: one search after another goes through the
-    /// lists once.
+    /// The contact with this key. The search begins at the hint, whatever that is, and the hint becomes where it ended: one search after another goes
+    /// through the lists once.
     #[inline(always)]
     pub fn find(&self, hint: &mut Hint, key: ContactKey) -> Option<&ContactEntry>
         ensures { option_copied result ≡ lookup (contacts_in self.now) key }
@@ -278,8 +278,8 @@ impl SplitContacts {
         }
     }
 
-    /// Gives the points of the contact with this key these impulses, in mass·u/tick. Without any for the second point that stays as it is, and so do all
-    /// contacts where there is none with the key. It is looked for at `place` of the long list first.
+    /// Gives the points of the contact with this key these impulses, in mass·u/tick. Without any for the second point that stays as it is, and so do
+    /// all contacts where there is none with the key. It is looked for at `place` of the long list first.
     #[inline(always)]
     pub fn set_impulses(
         &mut self,
@@ -356,8 +356,8 @@ impl SplitContacts {
         self.spare = long;
     }
 
-    /// Makes the index of the long list by body, if it isn't made: `push_places_of` and `drop_of_body` then cost by the body's own contacts. Refused 1
-    /// where memory is wanting. Changes no contact.
+    /// Makes the index of the long list by body, if it isn't made: `push_places_of` and `drop_of_body` then cost by the body's own contacts. Refused
+    /// 1 where memory is wanting. Changes no contact.
     pub fn index_bodies(&mut self) -> Result<(), Refusal>
         ensures value { self.new ≡ self.old }
         ensures memory_only { IsOkUnless result Refusal.NoMemory }
@@ -372,8 +372,8 @@ impl SplitContacts {
         self.index.are_slots_below(&self.long, count)
     }
 
-    /// Adds the places in the long list of the contacts of the body in a slot: of those whose first body it is, and then of those whose second one it is. Some may be over. Refused 1
-    /// where memory is wanting.
+    /// Adds the places in the long list of the contacts of the body in a slot: of those whose first body it is, and then of those whose second one it
+    /// is. Some may be over. Refused 1 where memory is wanting.
     pub fn push_places_of(&self, places: &mut Vec<usize>, slot: u32) -> Result<(), Refusal>
         ensures pushed { OnOk result (places.new.items ≡ places.old.items ++ places_of slot self.now.long) }
         ensures memory_only { IsOkUnless result Refusal.NoMemory }
@@ -381,8 +381,8 @@ impl SplitContacts {
         self.index.push_places(places, &self.long, slot)
     }
 
-    /// The contacts of the long list get the points that were noted of them, those at the places `ends` are over, and the short list becomes this one, if
-    /// there is one. Takes no memory.
+    /// The contacts of the long list get the points that were noted of them, those at the places `ends` are over, and the short list becomes this
+    /// one, if there is one. Takes no memory.
     pub fn carry_out(&mut self, notes: &[Renewal], ends: &[usize], short: Option<Vec<ContactEntry>>)
         requires short { ForSome short (λ entries. AreContacts entries.items) }
         requires contacts { AreContacts (contacts_in (carried notes.now ends.now (option_map (λ entries. entries.items) short) self.old)) }

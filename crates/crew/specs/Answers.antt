@@ -1,4 +1,4 @@
--- The answers at items, and those that are still open.
+-- The answers at items, and those that are awaited.
 use Rattle.std.specs.Prelude.{◌≡◌, Bool, true, List, [], ◌++◌, Option, Some, None, map, reverse, All}
 use Rattle.std.specs.List.{flat_map}
 
@@ -16,9 +16,9 @@ abbrev pub owed : {W X Y : Type 0} → (W → X → Y) → W → List X → List
 owed answer work items outs = outs ++ answers answer work (reverse items)
 
 -- what comes of a piece that may have been handed out
-abbrev pub open_answers : {Y : Type 0} → Option (List Y) → List Y
-open_answers None = []
-open_answers (Some ys) = ys
+abbrev pub awaited_answers : {Y : Type 0} → Option (List Y) → List Y
+awaited_answers None = []
+awaited_answers (Some ys) = ys
 
 -- what each gives, one behind the other
 abbrev pub gathered : {D Y : Type 0} → List D → (D → List Y) → List Y

@@ -11,7 +11,7 @@ pub(crate) const OVER: u64 = u64::MAX;
 /// How many rounds there are before they are counted from 1 again.
 const ROUNDS: u64 = 1 << 62;
 
-/// Few, since two threads that share a processor would wait out each other's turns.
+/// Few, since two threads that share a processor would wait out each other's rounds.
 const SPINS: u32 = 64;
 
 const YIELDS: u32 = 1_000;

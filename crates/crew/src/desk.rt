@@ -3,7 +3,7 @@
 ghost use Rattle.std.specs.Prelude.{◌≡◌, ◌++◌, ◌+◌, ◌≤◌, true, None, length, vec_len, vec_capacity};
 ghost use Rattle.std.specs.Arc.{arc_value};
 ghost use Rattle.crossbeam_queue.specs.Passes.{view, IsPassOf};
-ghost use Rattle.crew.specs.Answers.{AreAccepted, answers, open_answers};
+ghost use Rattle.crew.specs.Answers.{AreAccepted, answers, awaited_answers};
 ghost use Rattle.crew.specs.Mailbox.{is_asked};
 
 use crate::post::{MailboxPass, Post};
@@ -75,7 +75,7 @@ where
     )
         requires many { count ≤ vec_len items.old }
         requires accepted { AreAccepted W.accepts (arc_value work.now) items.old.items }
-        ensures open { answers W.answer (arc_value work.now) items.new.items ++ open_answers (view self.new.pass).ask ≡ answers W.answer (arc_value work.now) items.old.items }
+        ensures awaited { answers W.answer (arc_value work.now) items.new.items ++ awaited_answers (view self.new.pass).ask ≡ answers W.answer (arc_value work.now) items.old.items }
         ensures accepted { AreAccepted W.accepts (arc_value work.now) items.new.items }
         ensures capacity { vec_capacity items.new ≡ vec_capacity items.old }
     {
@@ -101,7 +101,7 @@ where
         self.asked = true;
     }
 
-    /// Adds the open answers to `out`, which has room for them.
+    /// Adds the answers that are awaited to `out`, which has room for them.
     pub(crate) fn collect<R: Wait, G: Gate>(
         &mut self,
         rt: &R,
@@ -109,8 +109,8 @@ where
         round: u64,
         out: &mut Vec<W::Out>,
     )
-        requires room { vec_len out.old + length (open_answers (view self.old.pass).ask) ≤ vec_capacity out.old }
-        ensures out { out.new.items ≡ out.old.items ++ open_answers (view self.old.pass).ask }
+        requires room { vec_len out.old + length (awaited_answers (view self.old.pass).ask) ≤ vec_capacity out.old }
+        ensures out { out.new.items ≡ out.old.items ++ awaited_answers (view self.old.pass).ask }
         ensures capacity { vec_capacity out.old ≤ vec_capacity out.new }
     {
         if !self.asked {

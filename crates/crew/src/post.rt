@@ -107,7 +107,7 @@ where
         unreachable!()
     }
 
-    /// A worker's turn in a round.
+    /// A worker's part in a round.
     fn work_round<R: Wait, G: Gate>(&self, rt: &R, gate: &G, pass: &mut MailboxPass<W>)
         requires pass { IsPassOf self.now.mailbox pass.old × (view pass.old ≡ hand false None) }
         ensures pass { IsPassOf self.now.mailbox pass.new × (view pass.new ≡ hand false None) }
@@ -119,7 +119,7 @@ where
     }
 }
 
-/// What a worker's thread runs: a turn in each round, until the crew ends.
+/// What a worker's thread runs: one round after another, until the crew ends.
 pub(crate) fn serve<R: Wait, G: Gate, W: Work + Drop>(
     rt: &R,
     gate: &G,

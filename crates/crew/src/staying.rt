@@ -3,7 +3,7 @@
 ghost use Rattle.std.specs.Prelude.{◌≡◌, ◌++◌, ◌+◌, ◌≤◌, [], true, false, None, length, vec_len, vec_capacity, IfOk, IfErr};
 ghost use Rattle.std.specs.Arc.{arc_value};
 ghost use Rattle.crossbeam_queue.specs.Passes.{view, IsPassOf};
-ghost use Rattle.crew.specs.Answers.{AreAccepted, answers, open_answers, gathered};
+ghost use Rattle.crew.specs.Answers.{AreAccepted, answers, awaited_answers, gathered};
 ghost use Rattle.crew.specs.Mailbox.{hand};
 ghost use Rattle.crew.specs.Refusals.{IsStartRefusal};
 
@@ -107,7 +107,7 @@ where
     W::Item: Drop,
     W::Out: Drop,
     requires accepted { AreAccepted W.accepts (arc_value work.now) items.old.items }
-    ensures open { answers W.answer (arc_value work.now) items.new.items ++ gathered desks.new (λ d. open_answers (view d.pass).ask) ≡ answers W.answer (arc_value work.now) items.old.items }
+    ensures awaited { answers W.answer (arc_value work.now) items.new.items ++ gathered desks.new (λ d. awaited_answers (view d.pass).ask) ≡ answers W.answer (arc_value work.now) items.old.items }
     ensures accepted { AreAccepted W.accepts (arc_value work.now) items.new.items }
     ensures capacity { vec_capacity items.new ≡ vec_capacity items.old }
 {
@@ -132,8 +132,8 @@ fn collect_all<R: Wait, G: Gate, W: Work + Drop>(
 where
     W::Item: Drop,
     W::Out: Drop,
-    requires room { vec_len out.old + length (gathered desks.old (λ d. open_answers (view d.pass).ask)) ≤ vec_capacity out.old }
-    ensures out { out.new.items ≡ out.old.items ++ gathered desks.old (λ d. open_answers (view d.pass).ask) }
+    requires room { vec_len out.old + length (gathered desks.old (λ d. awaited_answers (view d.pass).ask)) ≤ vec_capacity out.old }
+    ensures out { out.new.items ≡ out.old.items ++ gathered desks.old (λ d. awaited_answers (view d.pass).ask) }
     ensures capacity { vec_capacity out.old ≤ vec_capacity out.new }
 {
     match desks.split_first_mut() {

@@ -1,4 +1,4 @@
--- A colour's turns, made at once by workers and then written back, are the pass one by one.
+-- A colour's visits, made at once by workers and then written back, are the pass one by one.
 use Rattle.std.proofs.Common.{◌≡◌, ℕ, zero, suc, List, [], ◌∷◌, length, map, get_or, set, refl, sym, ap, ap₂, ◌∙◌, subst}
 use Rattle.std.proofs.lemmas.List.{length-set}
 use Rattle.std.proofs.lemmas.List.Elements.{All-cons, All-head, All-nil, All-tail}
@@ -33,7 +33,7 @@ same_put s t h = sym (λ i. record {
 pub ends_put : (e t : Ends) → AreSameBodies e t → ends_with e (momenta_of t) ≡ t
 ends_put e t h = λ i. record { a = same_put e.a t.a h.a i; b = same_put e.b t.b h.b i }
 
--- ---- the turn of one row
+-- ---- the visit of one row
 
 module _ {R : Type 0} (at : R → Slots) (is : R → Type 0) (f : R → Ends → RowAfter R) (lawful : AreVisitsLawful at f) where
   ends_states : (ss : List BodyState) (r : R) → AreAllStates ss → IsRowOn at is (length ss) r → AreStates (ends_of at ss r)
@@ -76,7 +76,7 @@ module _ {R : Type 0} (at : R → Slots) (is : R → Type 0) (f : R → Ends →
   behind : (a b c v w : Vec2) → b ≡ plus a v → c ≡ plus b w → c ≡ plus a (plus v w)
   behind a b c v w h k = k ∙ (ap (λ (u : Vec2). plus u w) h ∙ sym (plus_assoc a v w))
 
-  -- the pass is a pass: what is known of it follows from what is known of each turn
+  -- the pass is a pass: what is known of it follows from what is known of each visit
   pub passed_is : (rs : List R) (ss : List BodyState) → AreAllStates ss → AreRowsOn at is (length ss) rs → AreRowsOn at is (length ss) (rows_passed at f ss rs)
       → IsPassed at is f ss rs (passed at f ss rs) (rows_passed at f ss rs) (share at f ss rs)
   passed_is [] ss all on rows = record { states = refl; rows_are = refl; share_is = refl; all_states = all; all_rows = rows; same = same_still ss; momentum = sym (plus_zero (total ss)) }
@@ -96,7 +96,7 @@ module _ {R : Type 0} (at : R → Slots) (is : R → Type 0) (f : R → Ends →
         momentum = behind (total ss) (total us) (total (passed at f us rs)) (got (ends_of at ss r) (visit_of at f ss r).ends) (share at f us rs) x.momentum more.momentum;
       }
 
-  -- the momenta that the turns leave, put into the bodies row by row, are the pass
+  -- the momenta that the visits leave, put into the bodies row by row, are the pass
   abbrev rows_in : List (RowAfter R) → List R
   rows_in ts = map (λ (t : RowAfter R). t.row) ts
 
@@ -143,7 +143,7 @@ module _ {R : Type 0} (at : R → Slots) (is : R → Type 0) (f : R → Ends →
   fair_at (r ∷ rs) ss all on =
       All-cons (λ r. AreSameBodies (ends_of at ss r) (visit_of at f ss r).ends) r rs (one ss r all (All-head (IsRowOn at is (length ss)) r rs on)).fair.same (fair_at rs ss all (All-tail (IsRowOn at is (length ss)) r rs on))
 
-  -- each turn of a colour made at the bodies before it, and the momenta put into their places
+  -- each visit of a colour made at the bodies before it, and the momenta put into their places
   pub colour_passed : (ss : List BodyState) (rs visited : List R) (ms : List MomentaPair) (now : List BodyState) (given : Vec2) → AreAllStates ss → AreRowsOn at is (length ss) rs → IsColour at ss rs
       → visited ≡ map (λ (r : R). (visit_of at f ss r).row) rs → ms ≡ map (λ (r : R). momenta_of (visit_of at f ss r).ends) rs → AreRowsOn at is (length ss) visited
       → now ≡ put_all at ss visited ms → given ≡ given_all at ss visited ms → IsPassed at is f ss rs now visited given

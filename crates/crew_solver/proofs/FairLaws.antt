@@ -1,4 +1,4 @@
--- What every turn keeps: from one impulse to a whole row.
+-- What every visit keeps: from one impulse to a whole row.
 use Rattle.std.proofs.Common.{◌≡◌, Bool, true, false, cond, Option, Some, None, ℤ, refl, inl, inr}
 use Rattle.std.proofs.lemmas.Bool.{cases_Bool}
 use Rattle.fixed_geom.specs.Vectors.{opposite}
@@ -26,7 +26,7 @@ use Rattle.colour_solver.specs.declared.phase.Phase.TheVariants.{Bounce, Solve, 
 use Rattle.colour_solver.specs.Phases.{constraint_visit, contact_visit, joint_visit}
 use Rattle.crew_solver.specs.Visited.{AreVisitsLawful, IsFair}
 
--- ---- nothing, and one turn after another
+-- ---- nothing, and one visit after another
 
 pub still : (e : Ends) → AreStates e → IsFair e e
 still e h = record { states = h; same = same_bodies e; kept = same_momentum e }

@@ -1,4 +1,4 @@
--- The pieces of a colour after a map of their turns: what they are as one list of rows, and the pass that putting their momenta makes.
+-- The pieces of a colour after a map of their visits: what they are as one list of rows, and the pass that putting their momenta makes.
 use Rattle.std.proofs.Common.{◌≡◌, ℕ, zero, suc, ◌≤◌, ◌^◌, List, [], ◌∷◌, ◌++◌, Some, ◌-◌, ◌/◌, length, map, take, drop, length-drop, slice_get, All, arith, refl, sym, ap, ap₂, ◌∙◌, subst}
 use Rattle.std.proofs.lemmas.List.{append-nil, append_assoc, length-map, map-append, take-append-drop, take_all, take_at}
 use Rattle.std.proofs.lemmas.List.Concat.{flat_map-append}

@@ -1,4 +1,4 @@
--- The turns of a colour, made at once by several workers: what a worker answers for a row, and what is made of the answers.
+-- The visits of a colour, made at once by several workers: what a worker answers for a row, and what is made of the answers.
 use Rattle.std.specs.Prelude.{◌≡◌, ◌≤◌, ◌^◌, ◌++◌, ℕ, Bool, nat_eq, List, [], ◌∷◌, Some, All, length, map, slice_get, take}
 use Rattle.std.specs.List.{flat_map}
 use Rattle.fixed_geom.specs.Vectors.{IsWithin, plus, zero_vector}
@@ -14,15 +14,15 @@ use Rattle.colour_solver.specs.ColourRows.{ColourRows}
 use Rattle.colour_solver.specs.RowVisits.{ends_of, got, visit_of, with_ends}
 use Rattle.crew_solver.specs.declared.momenta_pair.MomentaPair.{MomentaPair}
 
--- ---- what every turn keeps
+-- ---- what every visit keeps
 
--- a turn leaves two bodies within their limits, alone but for their momenta, and the momentum of two movers as it was
+-- a visit leaves two bodies within their limits, alone but for their momenta, and the momentum of two movers as it was
 pub record IsFair (e after : Ends) : Type 0 where
   pub states : AreStates after
   pub same : AreSameBodies e after
   pub kept : IsMomentumKept e after
 
--- so do all turns, and a row's bodies stay where they stand
+-- so do all visits, and a row's bodies stay where they stand
 pub record AreVisitsLawful {R : Type 0} (at : R → Slots) (f : R → Ends → RowAfter R) : Type 0 where
   pub fair : (r : R) (e : Ends) → AreStates e → IsFair e (f r e).ends
   pub slots : (r : R) (e : Ends) → at (f r e).row ≡ at r
@@ -70,18 +70,18 @@ IsSmallSoFar at states given rows ms = (k : ℕ) → k ≤ length rows → IsWit
 
 -- ---- pieces
 
--- what contracts see of a piece: how many bodies there are, its rows, and the momenta of the bodies of each after its turn
+-- what contracts see of a piece: how many bodies there are, its rows, and the momenta of the bodies of each after its visit
 pub record PieceRows (R : Type 0) : Type 0 where
   pub bodies : ℕ
   pub rows : List R
   pub visited : List MomentaPair
 
--- the bodies, and the turn that is made of rows
+-- the bodies, and the visit that is made of rows
 pub record VisitAt (T : Type 0) : Type 0 where
   pub states : List BodyState
   pub visit : T
 
--- a piece after the turns of its rows, each with the bodies as they are before all of them
+-- a piece after the visits of its rows, each with the bodies as they are before all of them
 abbrev pub worked : {R : Type 0} → (R → Slots) → (R → Ends → RowAfter R) → List BodyState → PieceRows R → PieceRows R
 worked {R} at f states p = record {
   bodies = p.bodies;

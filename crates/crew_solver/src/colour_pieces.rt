@@ -20,7 +20,7 @@ use std::alloc::Global;
 use std::marker::Model;
 use std::sync::Wait;
 
-/// The fewest rows that a piece is worth: with fewer, handing it out takes longer than its turns.
+/// The fewest rows that a piece is worth: with fewer, handing it out takes longer than its visits.
 const LEAST_ROWS: usize = 64;
 
 /// The rows of a colour in consecutive pieces. Contracts see the pieces.

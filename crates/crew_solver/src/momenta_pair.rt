@@ -2,7 +2,7 @@
 
 use momenta::Momenta;
 
-/// The momenta that a turn leaves the two bodies of a row with.
+/// The momenta that a visit leaves the two bodies of a row with.
 #[derive(Clone, Copy, Debug, PartialEq, Eq)]
 pub struct MomentaPair {
     pub a: Momenta,

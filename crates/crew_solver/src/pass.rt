@@ -28,7 +28,7 @@ fn know_rows_stand<R: Row>(pieces: &[Piece<R>], bodies: usize)
     }
 }
 
-/// The turns of all rows by the crew, each with the bodies as they are before all of them.
+/// The visits of all rows by the crew, each with the bodies as they are before all of them.
 fn visit_pieces<'s, H: Wait, G: Gate, R: Row, T: Visit<R> + Copy>(
     rt: &H,
     alloc: Global,
@@ -54,7 +54,7 @@ fn visit_pieces<'s, H: Wait, G: Gate, R: Row, T: Visit<R> + Copy>(
     mem::swap(pieces, spare);
 }
 
-/// One pass over the rows of a colour, which stand in pieces: the turn is made of each, the workers of the crew having a piece at a time.
+/// One pass over the rows of a colour, which stand in pieces: the visit is made of each, the workers of the crew having a piece at a time.
 /// It is the pass one row after another, each with the bodies as those before it left them. `spare` is a list with as much room. Answers
 /// what immovable bodies have given to the movers (mass·u/tick). It takes no memory that it couldn't do without, and is never refused.
 pub fn pass_pieces<'s, H: Wait, G: Gate, R: Row, T: Visit<R> + Copy>(

@@ -1,4 +1,4 @@
-//! A piece of a colour: rows that one worker turns, and the momenta that its turns leave their bodies with.
+//! A piece of a colour: rows that one worker visits, and the momenta that its visits leave their bodies with.
 
 ghost use Rattle.std.specs.Prelude.{◌≡◌, ◌≤◌, All, length, map, vec_len, vec_capacity, IfOk};
 ghost use Rattle.std.specs.Result.{IsOkUnless};
@@ -16,7 +16,7 @@ use momenta::{BodyState, Ends, Momenta, MomentaPair64};
 use std::alloc::Global;
 use std::marker::Model;
 
-/// Rows of one colour, in order, whose bodies are below a number, and what their turns answer. Contracts see all three.
+/// Rows of one colour, in order, whose bodies are below a number, and what their visits answer. Contracts see all three.
 pub struct Piece<R: Row> {
     bodies: usize,
     rows: Vec<R>,
@@ -62,7 +62,7 @@ fn momenta_of(a: &BodyState, b: &BodyState) -> MomentaPair
     }
 }
 
-/// The momenta of two bodies that a turn in 64 bits has answered.
+/// The momenta of two bodies that a visit in 64 bits has answered.
 #[inline(always)]
 fn widened(now: MomentaPair64) -> MomentaPair
     ensures { (a : BodyState) (b : BodyState) → result ≡ momenta_of (ends_with a b now) }
@@ -79,7 +79,7 @@ fn widened(now: MomentaPair64) -> MomentaPair
     }
 }
 
-/// The turn of a row in full width.
+/// The visit of a row in full width.
 #[inline(never)]
 fn visit_wide<R: Row, T: Visit<R>>(
     row: &mut R,
@@ -101,7 +101,7 @@ fn visit_wide<R: Row, T: Visit<R>>(
     momenta_of(&ends.a, &ends.b)
 }
 
-/// The turn of a row with its two bodies. Answers the momenta that it leaves them with.
+/// The visit of a row with its two bodies. Answers the momenta that it leaves them with.
 #[inline(always)]
 fn visit_between<R: Row, T: Visit<R>>(
     row: &mut R,
@@ -127,7 +127,7 @@ fn visit_between<R: Row, T: Visit<R>>(
     }
 }
 
-/// The turn of one row, the bodies standing so. Answers the momenta that it leaves its two bodies with.
+/// The visit of one row, the bodies standing so. Answers the momenta that it leaves its two bodies with.
 #[inline(always)]
 fn visit_one<R: Row, T: Visit<R>>(states: &[BodyState], row: &mut R, visit: &T) -> MomentaPair
     requires states { AreAllStates states.now }
@@ -146,7 +146,7 @@ fn visit_one<R: Row, T: Visit<R>>(states: &[BodyState], row: &mut R, visit: &T) 
     )
 }
 
-/// The turns of rows, the bodies standing so.
+/// The visits of rows, the bodies standing so.
 fn visit_rows<R: Row, T: Visit<R>>(
     states: &[BodyState],
     rows: &mut Vec<R>,
@@ -196,7 +196,7 @@ impl<R: Row> Piece<R> {
         self.rows.as_slice()
     }
 
-    /// The momenta of the bodies of each row after its turn.
+    /// The momenta of the bodies of each row after its visit.
     pub fn visited(&self) -> &[MomentaPair]
         ensures visited { result.now ≡ self.now.visited }
         ensures within { All IsPairWithin result.now }
@@ -204,7 +204,7 @@ impl<R: Row> Piece<R> {
         self.visited.as_slice()
     }
 
-    /// The turns of its rows, each with the bodies as they are before all of them.
+    /// The visits of its rows, each with the bodies as they are before all of them.
     pub fn visit_all<T: Visit<R>>(&mut self, states: &[BodyState], visit: &T)
         requires states { AreAllStates states.now }
         requires bodies { self.old.bodies ≡ length states.now }

@@ -1,4 +1,4 @@
-//! The momenta that turns have answered, put into the bodies in the rows' order.
+//! The momenta that visits have answered, put into the bodies in the rows' order.
 
 ghost use Rattle.std.specs.Prelude.{◌≡◌, ◌≢◌, ◌^◌, ◌<◌, All, length};
 ghost use Rattle.fixed_geom.specs.Vectors.{IsWithin, plus};

@@ -1,4 +1,4 @@
-//! Rows that took their turns in pieces, put back into their places.
+//! Rows that were visited in pieces, put back into their places.
 
 ghost use Rattle.std.specs.Prelude.{◌≡◌, length, map};
 ghost use Rattle.std.specs.List.{flat_map};

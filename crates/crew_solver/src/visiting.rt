@@ -1,4 +1,4 @@
-//! What a worker of a pass works with: the bodies, and the turn that it makes of rows.
+//! What a worker of a pass works with: the bodies, and the visit that it makes of rows.
 
 ghost use Rattle.std.specs.Prelude.{◌≡◌};
 ghost use Rattle.colour_solver.specs.States.{AreAllStates};
@@ -10,7 +10,7 @@ use crew::Work;
 use momenta::BodyState;
 use std::marker::{Model, PhantomData};
 
-/// The bodies, which the workers share for reading, and the turn of a pass over rows.
+/// The bodies, which the workers share for reading, and the visit of a pass over rows.
 pub struct Visiting<R: Row, T: Visit<R> + Copy> {
     states: Vec<BodyState>,
     visit: T,
@@ -39,7 +39,7 @@ impl<R: Row, T: Visit<R> + Copy> Drop for Visiting<R, T> {
 }
 
 impl<R: Row, T: Visit<R> + Copy> Visiting<R, T> {
-    /// This turn, with these bodies.
+    /// This visit, with these bodies.
     pub fn new(states: Vec<BodyState>, visit: T) -> Visiting<R, T>
         requires { AreAllStates states.items }
         ensures states { result.states ≡ states.items }

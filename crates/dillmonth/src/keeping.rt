@@ -15,7 +15,7 @@ use world_core::WorldCore;
 use world_desk::Desk;
 
 /// The version of the calls and of the structs: what `DM_VERSION` of the header is.
-pub const VERSION: u32 = 1;
+pub(crate) const VERSION: u32 = 1;
 
 /// The version of the library, to be compared with the header's.
 #[unsafe(no_mangle)]

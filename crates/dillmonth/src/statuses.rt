@@ -8,19 +8,19 @@ use world_core::Broken;
 use world_desk::Unread;
 
 /// The call did what it says. Refusals have the numbers 1 to 15.
-pub const DONE: u32 = 0;
+pub(crate) const DONE: u32 = 0;
 
 /// There is no world.
-pub const NO_WORLD: u32 = 32;
+pub(crate) const NO_WORLD: u32 = 32;
 
 /// A kind or a form that is none.
-pub const BAD_KIND: u32 = 33;
+pub(crate) const BAD_KIND: u32 = 33;
 
 /// A command of a batch names shapes beyond those of the batch.
-pub const BAD_SPAN: u32 = 34;
+pub(crate) const BAD_SPAN: u32 = 34;
 
 /// The bytes are no text in UTF-8, or no JSON.
-pub const BAD_TEXT: u32 = 35;
+pub(crate) const BAD_TEXT: u32 = 35;
 
 /// The number of a refusal, 1 to 15.
 pub(crate) fn status_of(refusal: Refusal) -> u32

@@ -106,8 +106,8 @@ impl Events {
         }
     }
 
-    /// Makes these lists the events in place of those that there are, each made ascending as by [`Events::from_lists`]. The lists of bodies go over with their
-    /// memory, and what is left in their place is the memory of the lists before. It takes no memory.
+    /// Makes these lists the events in place of those that there are, each made ascending as by [`Events::from_lists`]. The lists of bodies go over
+    /// with their memory, and what is left in their place is the memory of the lists before. It takes no memory.
     pub fn renew(
         &mut self,
         begin: Vec<ContactKey>,

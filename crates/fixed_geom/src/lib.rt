@@ -23,18 +23,18 @@
 //! | `span`, `unit_along` | `span_64`, `unit_along_64`, inside | components up to 2^31, whose squares have room |
 #![tactic(auto)]
 
-pub mod boxes;
-pub mod facings;
-pub mod inverses;
-pub mod limits;
-pub mod products;
-pub mod products_64;
-pub mod quotients;
-pub mod reciprocals;
-pub mod refusal;
-pub mod roots;
-pub mod shares_64;
-pub mod vectors;
+mod boxes;
+mod facings;
+mod inverses;
+mod limits;
+mod products;
+mod products_64;
+mod quotients;
+mod reciprocals;
+mod refusal;
+mod roots;
+mod shares_64;
+mod vectors;
 
 pub use boxes::{Box2, contains, grow, overlaps};
 pub use facings::{MAX_FACING, MIN_FACING, Rot, is_facing, rotate, rotate_64, turn};

@@ -39,7 +39,7 @@ neither_set a b i h =
     let m : max (bit_at a i) (bit_at b i) ≡ 0 = sym (bit_at_or a b i) ∙ h in
     (omega (arith, m), omega (arith, m))
 
--- the overflow is set beside any marks
+-- the overflow is set beside any bits
 pub overflow_set : (a : ℕ) → bit_at (bit_or a (2 ^ COLOURS)) COLOURS ≡ 0 → ⊥
 overflow_set a h =
     let none : bit_at (2 ^ COLOURS) COLOURS ≡ 0 = (neither_set a (2 ^ COLOURS) COLOURS h).1 in

@@ -27,7 +27,7 @@ below_at {C} lists i n slots ms count lt below is =
     let here : i < length lists = omega (arith, count, lt) in
     subst P (sym is) (below i [] here)
 
--- the marks of one member more
+-- the bits of one member more
 any_front : {C : Type 0} (ms : List (Member C)) (i : ℕ) (m : Member C) (slot : ℕ) → i < length ms → m ≡ get_or ms i m → any_has_mover (take (i + 1) ms) slot ≡ (has_mover m.movers slot || any_has_mover (take i ms) slot)
 any_front {C} ms i m slot lt is =
     let p : Member C → Bool = λ x. has_mover x.movers slot in

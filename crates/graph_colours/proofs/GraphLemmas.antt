@@ -1,4 +1,4 @@
--- The lists of the graph as those of a colouring, with the marks of their movers.
+-- The lists of the graph as those of a colouring, with the bits of their movers.
 use Rattle.std.proofs.Common.{◌≡◌, ℕ, ◌+◌, ◌<◌, ◌≤◌, Bool, true, false, cond, List, [], length, get_or, take, slice_set, subst, Option, Some, None, refl, sym, ap, ◌∙◌, arith, max}
 use Rattle.std.specs.Int.{bit_at}
 use Rattle.std.specs.List.{position_or_len}

@@ -54,7 +54,7 @@ one_fits {C} room count ks i x lt is each few more =
     let less : length (list_at (lists_of ks) i) ≤ length (all_members (lists_of ks)) = list_fewer (lists_of ks) i in
     omega (arith, here, same, less, few, more)
 
--- no edit of a list is put off where none was, or where one was settled
+-- no edit of a list is put off where none was, or where one was flushed
 pub rest_set : {C : Type 0} (ks : List (Pended C)) (i : ℕ) (y : Pended C) → y.pending ≡ 0 → AreAtRest ks → AreAtRest (slice_set ks i y)
 rest_set {C} ks i y none each = All-set (λ (l : Pended C). l.pending ≡ 0) ks i y none each
 

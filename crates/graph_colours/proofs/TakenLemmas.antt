@@ -1,4 +1,4 @@
--- What the marks tell of a list's members, and how they follow them.
+-- What the bits tell of a list's members, and how they follow them.
 use Rattle.std.proofs.Common.{◌≡◌, ℕ, zero, suc, ◌-◌, ◌^◌, ◌<◌, ◌≤◌, ◌==◌, ◌||◌, ◌&&◌, Bool, true, false, not, cond, List, [], ◌∷◌, ◌++◌, length, get_or, slice_set, replicate, take, subst, Option, Some, None, refl, sym, ap, ◌∙◌, arith, inl, inr, get_or-set_same, get_or-set_other}
 use Rattle.std.specs.Int.{bit_at}
 use Rattle.std.specs.List.{All, list_any}
@@ -53,9 +53,9 @@ pub is_untaken : {C : Type 0} (lists : List (List (Member C))) (words : List ℕ
 unfolding is_free
 is_untaken lists words v c bits lt h = ap not (bit_false (list_any (λ m. shares m.movers v) (list_at lists c)) (sym (taken_at lists words v c bits lt) ∙ h))
 
--- ---- marks that follow a list
+-- ---- bits that follow a list
 
--- one list changes, and its marks
+-- one list changes, and its bits
 pub bits_changed : {C : Type 0} (lists : List (List (Member C))) (old new : List ℕ) (place : ℕ) (v : Movers) (holds : Bool) (ms : List (Member C)) → place < length lists → AreTakenColours lists old → (place < COLOURS → AreSet old new (has_mover v) place holds) → (COLOURS ≤ place → new ≡ old) → (place < COLOURS → (slot : ℕ) → cond (has_mover v slot) (bit_of holds) (bit_of (any_has_mover (list_at lists place) slot)) ≡ bit_of (any_has_mover ms slot)) → AreTakenColours (slice_set lists place ms) new
 bits_changed {C} lists old new place v holds ms within bits set same follows =
     let At : ℕ → ℕ → List (Member C) → Type 0 = λ slot colour l. colour_bit new slot colour ≡ bit_of (any_has_mover l slot) in
@@ -106,7 +106,7 @@ pub or_true : (a : Bool) → (a || true) ≡ true
 or_true true = refl
 or_true false = refl
 
--- a slot with a mark has a word
+-- a slot with a bit that is set has a word
 pub below_if_taken : (words : List ℕ) (k c : ℕ) → colour_bit words k c ≡ 1 → k < length words
 below_if_taken [] k c h = let z : bit_at 0 c ≡ 0 = bit_at-zero c in absurd (omega (arith, z, h))
 below_if_taken (w ∷ ws) zero c h = omega arith
@@ -135,7 +135,7 @@ later_gone : (t v u : Bool) → (v ≡ true → t ≡ false) → (t || (not v &&
 later_gone t true u h = ap (λ b. b || false) (h refl)
 later_gone t false u h = refl
 
--- the marks without the member's are those of the members without it
+-- the bits without the member's are those of the members without it
 pub bits_without : {C : Type 0} (number : C → ℕ) (id : C) (ms : List (Member C)) (v : Movers) (k : ℕ) → AreRising number ms → AreApart ms → movers_of number id ms ≡ Some v → any_has_mover (without_member number id ms) k ≡ (not (has_mover v k) && any_has_mover ms k)
 unfolding without_member
 bits_without number id [] v k rising apart is = absurd (let wrong : None ≡ Some v = is in cc)
@@ -161,7 +161,7 @@ bits_removed number id lists old new place v within bits set same rising apart i
     bits_changed lists old new place v false (without_member number id (list_at lists place)) within bits set same (λ lt slot.
     clear_bit (has_mover v slot) (any_has_mover (list_at lists place) slot) ∙ ap bit_of (sym (bits_without number id (list_at lists place) v slot rising (apart lt) (sym is))))
 
--- ---- what the marks tell of an id
+-- ---- what the bits tell of an id
 
 -- one that has the id has these movers
 any_own : {C : Type 0} (number : C → ℕ) (id : C) (p : Movers → Bool) (ms : List (Member C)) (v : Movers) → has_id number id ms ≡ true → AreOwn number id (Some v) ms → p v ≡ true → list_any (λ m. p m.movers) ms ≡ true
@@ -238,10 +238,10 @@ none_at zero c = refl
 none_at (suc n) zero = refl
 none_at (suc n) (suc c) = none_at n c
 
--- words that are 0 have no marks
+-- words that are 0 have no bit set
 pub colour_bit_of_zero : (n slot c : ℕ) → colour_bit (replicate n 0) slot c ≡ 0
 colour_bit_of_zero n slot c = ap (λ w. bit_at w c) (zeros_beyond n slot) ∙ bit_at-zero c
 
--- no word more or less where marks were set
+-- no word more or less where bits were set
 pub same_length : (old new : List ℕ) (place : ℕ) (v : Movers) (holds : Bool) → (place < COLOURS → AreSet old new (has_mover v) place holds) → (COLOURS ≤ place → new ≡ old) → length new ≡ length old
 same_length old new place v holds set same = elim (cases_lt place COLOURS) [ inl lt ↦ (set lt).long | inr le ↦ ap (λ (l : List ℕ). length l) (same le) ]

@@ -30,7 +30,7 @@ use std::marker::Model;
 pub struct Colours<C: Id> {
     // The members of each colour and, last, those in the overflow.
     lists: Vec<EditedList<C>>,
-    // For each slot the marks of the colours that have the mover there.
+    // For each slot the bits of the colours that have the mover there.
     words: Vec<u32>,
     // Where the members of a list lie while it is edited.
     spare: Vec<Member<C>>,

@@ -11,11 +11,11 @@ mod edited;
 mod edits;
 mod limits;
 mod lists;
-pub mod member;
+mod member;
 mod removals;
 mod taken_colours;
 
 pub use colours::Colours;
 pub use edited::EditedList;
 pub use limits::{COLOURS, OVERFLOW, limits_in_digits};
-pub use member::{Id, Member, Movers};
+pub use member::{Id, Member, Movers, insert, remove};

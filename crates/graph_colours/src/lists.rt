@@ -87,7 +87,7 @@ pub(crate) fn first_with<C: Id>(lists: &[EditedList<C>], id: C) -> usize
     lists.len()
 }
 
-/// Takes the id, and the marks of its movers, out of the list at a place. Answers whether the id was there.
+/// Takes the id, and the bits of its movers, out of the list at a place. Answers whether the id was there.
 fn remove_at<C: Id>(
     lists: &mut Vec<EditedList<C>>,
     words: &mut Vec<u32>,
@@ -111,7 +111,7 @@ fn remove_at<C: Id>(
     true
 }
 
-/// Takes the id, and the marks of its movers, out of the first list that has it, and touches no other: an id stands in one at most. Where its
+/// Takes the id, and the bits of its movers, out of the first list that has it, and touches no other: an id stands in one at most. Where its
 /// movers are told, only the overflow and the colours that all of them have are looked at. Answers how many members went.
 pub(crate) fn remove_from_first<C: Id>(
     lists: &mut Vec<EditedList<C>>,

@@ -30,7 +30,7 @@ pub struct Member<C> {
 }
 
 /// The place of the first member whose id's number is at least `wanted`, or the list's length.
-pub fn place_from<C: Id>(members: &[Member<C>], wanted: u128) -> usize
+pub(crate) fn place_from<C: Id>(members: &[Member<C>], wanted: u128) -> usize
     requires { AreRising C.number members.now }
     ensures within { result ≤ length members.now }
     ensures before { AllWithin (λ m. C.number m.id < wanted) members.now 0 result }
@@ -40,7 +40,7 @@ pub fn place_from<C: Id>(members: &[Member<C>], wanted: u128) -> usize
 }
 
 /// The member whose id has this number.
-pub fn with_number<C: Id>(members: &[Member<C>], wanted: u128) -> Option<Member<C>>
+pub(crate) fn with_number<C: Id>(members: &[Member<C>], wanted: u128) -> Option<Member<C>>
     requires { AreRising C.number members.now }
     ensures { result ≡ with_number C.number wanted members.now }
 {

@@ -1,4 +1,4 @@
-//! The marks of the movers: for each slot a word, and in it a bit for each colour, which is set where a member of the colour has the mover
+//! The colours that each mover has: for each slot a word, and in it a bit for each colour, which is set where a member of the colour has the mover
 //! there. So the colours that are free are found with one load for each mover.
 
 ghost use Rattle.std.specs.Prelude.{◌≡◌, ◌≢◌, ◌<◌, ◌≤◌, ◌==◌, ℕ, length, OnOk};
@@ -12,10 +12,10 @@ use crate::Movers;
 use crate::limits::COLOURS;
 use fixed_geom::Refusal;
 
-/// The mark of the overflow, which no word has.
+/// The bit of the overflow, which no word has.
 const OVERFLOW_BIT: u32 = 1 << COLOURS;
 
-/// Makes a word, with no marks, for each slot below a number. Refused 1 where memory is wanting.
+/// Makes a word, with no bit set, for each slot below a number. Refused 1 where memory is wanting.
 pub(crate) fn grow(words: &mut Vec<u32>, slots: usize) -> Result<(), Refusal>
     ensures made { OnOk result (slots ≤ length words.new.items) }
     ensures more { length words.old.items ≤ length words.new.items }
@@ -26,7 +26,7 @@ pub(crate) fn grow(words: &mut Vec<u32>, slots: usize) -> Result<(), Refusal>
     Ok(())
 }
 
-// ---- marks that are read
+// ---- bits that are read
 
 /// The colours that a mover of the constraint has.
 fn taken(words: &[u32], movers: Movers) -> u32
@@ -69,7 +69,7 @@ fn common(words: &[u32], movers: Movers) -> u32
     }
 }
 
-/// The lists in which a constraint of these movers may be, as far as the marks tell: the colours that all its movers have, and the overflow;
+/// The lists in which a constraint of these movers may be, as far as the bits tell: the colours that all its movers have, and the overflow;
 /// each, where its movers aren't told.
 pub(crate) fn candidates(words: &[u32], movers: Option<Movers>) -> u32
     ensures { result ≡ candidates words.now movers }
@@ -90,9 +90,9 @@ pub(crate) fn next_candidate(candidates: u32, from: usize) -> usize
     from + (candidates >> from).trailing_zeros() as usize
 }
 
-// ---- marks that are set
+// ---- bits that are set
 
-/// The word with the mark of a colour, or without it.
+/// The word with the bit of a colour, or without it.
 fn with_colour_bit(word: u32, colour: usize, holds: bool) -> u32
     requires { colour < COLOURS }
     ensures own { bit_at result colour ≡ bit_of holds }
@@ -105,7 +105,7 @@ fn with_colour_bit(word: u32, colour: usize, holds: bool) -> u32
     }
 }
 
-/// Sets the mark of a colour in a slot.
+/// Sets the bit of a colour in a slot, or clears it.
 fn set_colour_bit(words: &mut Vec<u32>, colour: usize, slot: u32, holds: bool)
     requires colour { colour < COLOURS }
     requires slot { slot < length words.old.items }
@@ -114,7 +114,7 @@ fn set_colour_bit(words: &mut Vec<u32>, colour: usize, slot: u32, holds: bool)
     words[slot as usize] = with_colour_bit(words[slot as usize], colour, holds);
 }
 
-/// Sets the marks of a colour in the slots of the movers.
+/// Sets the bits of a colour in the slots of the movers, or clears them.
 fn set_in_colour(words: &mut Vec<u32>, colour: usize, movers: Movers, holds: bool)
     requires colour { colour < COLOURS }
     requires below { AreBelow (length words.old.items) movers }
@@ -127,7 +127,7 @@ fn set_in_colour(words: &mut Vec<u32>, colour: usize, movers: Movers, holds: boo
     }
 }
 
-/// Sets the marks of a list in the slots of the movers; the overflow has none.
+/// Sets the bits of a list in the slots of the movers, or clears them; the overflow has none.
 pub(crate) fn set_colour_bits(words: &mut Vec<u32>, place: usize, movers: Movers, holds: bool)
     requires { place < COLOURS → AreBelow (length words.old.items) movers }
     ensures set { place < COLOURS → AreSet words.old.items words.new.items (has_mover movers) place holds }

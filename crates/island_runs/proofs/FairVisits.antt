@@ -1,4 +1,4 @@
--- What turns leave alone of two bodies, and that two movers' momenta keep their sum, whatever the row and the bodies are.
+-- What visits leave alone of two bodies, and that two movers' momenta keep their sum, whatever the row and the bodies are.
 use Rattle.std.proofs.Common.{◌≡◌, Bool, true, false, cond, Option, Some, None, ℤ, ◌+ℤ◌, neg_ℤ, arith, refl, ◌∙◌}
 use Rattle.std.proofs.lemmas.Int.{ints}
 use Rattle.fixed_geom.specs.Vectors.{opposite, plus}
@@ -135,7 +135,7 @@ row_bounced_fair r e = points_fair (point_bounced r.bodies.restitution) (point_b
 
 -- ---- a row of either kind
 
--- a turn is fair to its two bodies, and leaves where they stand, and the row's kind
+-- a visit is fair to its two bodies, and leaves where they stand, and the row's kind
 pub record IsFairVisit (f : ConstraintRow → Ends → RowAfter ConstraintRow) : Type 0 where
   pub ends : (r : ConstraintRow) (e : Ends) → AreFair e (f r e).ends
   pub slots : (r : ConstraintRow) (e : Ends) → constraint_slots (f r e).row ≡ constraint_slots r

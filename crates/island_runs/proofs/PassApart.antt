@@ -51,7 +51,7 @@ record AreOf (g : ℕ → ℕ) (k : ℕ) (now : List BodyState) (slots : Slots) 
   b : is_mover now slots.b ≡ true → nat_eq (g slots.b) k ≡ t
 
 module _ (f : ConstraintRow → Ends → RowAfter ConstraintRow) (fair : IsFairVisit f) where
-  -- ---- what turns leave
+  -- ---- what visits leave
 
   after_moves : (ss : List BodyState) (r : ConstraintRow) → SameMovers ss (after constraint_slots f ss r)
   after_moves ss r slot =
@@ -85,7 +85,7 @@ module _ (f : ConstraintRow → Ends → RowAfter ConstraintRow) (fair : IsFairV
             ap (λ (q : ℕ). nat_eq q k) (sym (second_if (is_mover first s.a) (g s.a) (g s.b) (λ h. together h moves))) ∙ is;
       }
 
-  -- ---- one turn
+  -- ---- one visit
 
   own_ends : (k : ℕ) (ss : List BodyState) (r : ConstraintRow) → AreOf g k ss (constraint_slots r) true → ends_of constraint_slots (hidden g k ss) r ≡ ends_of constraint_slots ss r
   own_ends k ss r own =
@@ -97,7 +97,7 @@ module _ (f : ConstraintRow → Ends → RowAfter ConstraintRow) (fair : IsFairV
   own_visit : (k : ℕ) (ss : List BodyState) (r : ConstraintRow) → AreOf g k ss (constraint_slots r) true → visit_of constraint_slots f (hidden g k ss) r ≡ visit_of constraint_slots f ss r
   own_visit k ss r own = ap (f r) (own_ends k ss r own)
 
-  -- a share sees the turn of its own row
+  -- a share sees the visit of its own row
   own_after : (k : ℕ) (ss : List BodyState) (r : ConstraintRow) → AreOf g k ss (constraint_slots r) true → hidden g k (after constraint_slots f ss r) ≡ after constraint_slots f (hidden g k ss) r
   own_after k ss r own =
       let s : Slots = constraint_slots r in
@@ -110,7 +110,7 @@ module _ (f : ConstraintRow → Ends → RowAfter ConstraintRow) (fair : IsFairV
       let set_b : hidden g k (set (set ss s.a t.a) s.b t.b) ≡ set (set (hidden g k ss) s.a t.a) s.b t.b = hidden-set g k (set ss s.a t.a) s.b t.b ∙ (λ i. set (set_a i) s.b (seen_b i)) in
       set_b ∙ ap (λ (x : RowAfter ConstraintRow). with_ends constraint_slots (hidden g k ss) r x.ends) (sym (own_visit k ss r own))
 
-  -- and nothing of the turn of another row
+  -- and nothing of the visit of another row
   other_after : (k : ℕ) (ss : List BodyState) (r : ConstraintRow) → AreOf g k ss (constraint_slots r) false → hidden g k (after constraint_slots f ss r) ≡ hidden g k ss
   other_after k ss r other =
       let s : Slots = constraint_slots r in
@@ -124,7 +124,7 @@ module _ (f : ConstraintRow → Ends → RowAfter ConstraintRow) (fair : IsFairV
       let set_b : hidden g k (set (set ss s.a t.a) s.b t.b) ≡ set all s.b (get_or all s.b nobody) = hidden-set g k (set ss s.a t.a) s.b t.b ∙ (λ i. set (set_a i) s.b (seen_b i)) in
       set_b ∙ set-get_or all s.b nobody
 
-  -- ---- all turns
+  -- ---- all visits
 
   passed_step : (k : ℕ) (ss : List BodyState) (r : ConstraintRow) (rs : List ConstraintRow) (t : Bool) → AreOf g k ss (constraint_slots r) t
       → passed constraint_slots f (hidden g k ss) (cond t (r ∷ rs) rs) ≡ passed constraint_slots f (hidden g k (after constraint_slots f ss r)) rs

@@ -75,7 +75,7 @@ pub total-pass : (f : MassData → Motion → Motion) (ss : List BodyState) → 
 total-pass f [] = refl
 total-pass f (s ∷ ss) = grown (momentum_of s) (momentum_of (changed f s)) (total ss) (gain f ss) (total (pass f ss)) (total-pass f ss)
 
--- ---- turns of rows
+-- ---- visits of rows
 
 -- two slots below n, which are two
 pub record IsPlaced (n : ℕ) (s : Slots) : Type 0 where
@@ -119,7 +119,7 @@ module _ (f : ConstraintRow → Ends → RowAfter ConstraintRow) (fair : IsFairV
       let now : List BodyState = after constraint_slots f ss r in
       same_on ss now (passed constraint_slots f now rs) (same-after ss r (All-head (λ x. IsPlaced (length ss) (constraint_slots x)) r rs all)) (same-passed rs now (rest_placed ss r rs all))
 
-  -- turns add what immovable bodies give
+  -- visits add what immovable bodies give
   pub total-passed : (rs : List ConstraintRow) (ss : List BodyState) → ArePlaced (length ss) rs → total (passed constraint_slots f ss rs) ≡ plus (total ss) (share constraint_slots f ss rs)
   total-passed [] ss all = sym (plus_zero (total ss))
   total-passed (r ∷ rs) ss all =

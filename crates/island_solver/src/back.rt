@@ -7,8 +7,8 @@ ghost use Rattle.island_runs.specs.ReadBack.{AreReadBack};
 ghost use Rattle.island_solver.specs.Shares.{run_at, share_at};
 
 use crate::seat::Part;
-use crate::seeing::{NOBODY, share_at};
-use momenta::BodyState;
+use crate::seeing::share_at;
+use momenta::{BodyState, NOBODY};
 
 /// The body in a slot, as a part has it.
 #[inline(always)]

@@ -130,6 +130,14 @@ fn read_contacts(
     }
 }
 
+/// Of the rows that have no colour the joints come first. The function does nothing; its contract is the law.
+#[inline(always)]
+fn know_joints_first(rows: &Rows)
+    ensures { joints_first (joints_among rows.now.left) (contacts_among rows.now.left) ≡ rows.now.left }
+{
+    let _ = rows.joints_left();
+}
+
 /// Reads all rows back, each into its colour, where no rows are.
 pub(crate) fn read_rows(
     rows: &Rows,
@@ -183,7 +191,7 @@ pub(crate) fn read_rows(
         joints_at = joints_end;
         contacts_at = contacts_end;
     }
-    let _ = rows.joints_left();
+    know_joints_first(rows);
     read_joints(
         joints,
         joints_at,

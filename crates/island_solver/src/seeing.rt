@@ -11,29 +11,8 @@ ghost use Rattle.island_solver.specs.Shares.{share_at};
 
 use colour_solver::{Row, Rows};
 use colour_solver_base::ContactRow;
-use fixed_geom::{Rot, UNIT, ZERO_VECTOR};
 use joint_rows::JointRow;
-use momenta::{BodyState, MassData, Motion, Reciprocals};
-
-/// What stands for the mover of another share: nothing moves it.
-pub(crate) const NOBODY: BodyState = BodyState {
-    movable: false,
-    mass: MassData {
-        mass: 1,
-        inertia: 0,
-    },
-    motion: Motion {
-        p: ZERO_VECTOR,
-        l: 0,
-        x: ZERO_VECTOR,
-        rot: Rot { c: UNIT, s: 0 },
-    },
-    start: ZERO_VECTOR,
-    reciprocals: Reciprocals {
-        mass: 1 << 62,
-        inertia: 0,
-    },
-};
+use momenta::{BodyState, NOBODY};
 
 /// The share of a slot; 0 where there is none.
 #[inline(always)]

@@ -4,8 +4,8 @@ use Rattle.std.specs.Prelude.{Contains, IsSome, cond}
 use Rattle.std.proofs.lemmas.Bool.{cases_eq, false≢true}
 use Rattle.std.proofs.lemmas.List.{length-set, length-map, take_more}
 use Rattle.std.proofs.lemmas.List.Elements.{Contains-push, Contains-push_cases, Contains-append_left}
-use Rattle.islands.specs.declared.parts.Note.{Note}
-use Rattle.islands.specs.declared.parts.Head.{Head}
+use Rattle.islands.specs.declared.threads.Note.{Note}
+use Rattle.islands.specs.declared.threads.Head.{Head}
 use Rattle.islands.specs.Labels.{Labels, label_at, is_in, own_label, split_by}
 use Rattle.islands.specs.Merging.{scattered_from}
 use Rattle.islands.specs.Links.{Edges}

@@ -5,7 +5,7 @@ use Rattle.std.proofs.lemmas.Bool.{cases_lt, cases_eq, false≢true}
 use Rattle.std.proofs.lemmas.List.{length-set, length-map}
 use Rattle.islands.specs.declared.label.Label.{Label}
 use Rattle.islands.specs.Labels.{Labels, label_at, is_in, IsIn, own_label, relabel, relabelled, with_state, added, union_label, merged, merged_by}
-use Rattle.islands.specs.declared.parts.Note.{Note}
+use Rattle.islands.specs.declared.threads.Note.{Note}
 use Rattle.islands.specs.Standing.{AreWidened, NodeEntries, node_at}
 use Rattle.islands.specs.Packed.{Heads, InPart, IsStanding, Notes, in_part, label_in, labels_by, note_at}
 use Rattle.islands.specs.Given.{IsNamed, CanCome, labels_with, labels_with_any}

@@ -3,8 +3,8 @@ use Rattle.std.proofs.Common.{[], ◌∷◌, ◌≡◌, ◌≢◌, ℕ, ◌+◌,
 use Rattle.std.specs.Prelude.{cond}
 use Rattle.std.proofs.lemmas.List.{length-set, length-map}
 use Rattle.std.proofs.lemmas.Bool.{cases_eq, false≢true}
-use Rattle.islands.specs.declared.parts.Note.{Note}
-use Rattle.islands.specs.declared.parts.Head.{Head}
+use Rattle.islands.specs.declared.threads.Note.{Note}
+use Rattle.islands.specs.declared.threads.Head.{Head}
 use Rattle.islands.specs.declared.label.Label.{Label}
 use Rattle.islands.specs.Labels.{Labels, label_at, is_in, relabel, relabelled, union_label, merged, merged_by}
 use Rattle.islands.specs.Packed.{Notes, note_at, Heads, head_at, no_head, labelled_head, in_part, InPart, rank_of, next_of, rank_at, next_at, name_of, label_in, labels_of, ahead, IsPart, IsPacked, AreNamed, moved_note, or_first, AreJoined, joined_head, part_in}

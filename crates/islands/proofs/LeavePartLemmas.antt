@@ -3,7 +3,7 @@ use Rattle.std.proofs.Common.{◌≡◌, ◌≢◌, ℕ, zero, suc, ◌+◌, ◌
 use Rattle.std.specs.Prelude.{◌-◌}
 use Rattle.std.proofs.lemmas.Bool.{cases_eq, false≢true}
 use Rattle.std.proofs.lemmas.List.{length-set}
-use Rattle.islands.specs.declared.parts.Head.{Head}
+use Rattle.islands.specs.declared.threads.Head.{Head}
 use Rattle.islands.specs.Packed.{Notes, note_at, Heads, head_at, in_part, InPart, rank_of, next_of, rank_at, next_at, counted, ahead, IsPart, IsPacked, or_first, dropped_head, IsDropped}
 use Rattle.islands.proofs.PartLemmas.{bit, count_cons, count_same, ahead_same, part_case, part_stays, not_part, one_part, short}
 use Rattle.islands.proofs.JoinPartLemmas.{head_set, head_kept}

@@ -4,8 +4,8 @@ use Rattle.std.specs.Prelude.{cond}
 use Rattle.std.proofs.lemmas.Bool.{cases_eq, false≢true, lt-ltb, le-ltb}
 use Rattle.std.proofs.lemmas.List.{length-set, length-map}
 use Rattle.std.proofs.lemmas.List.Sums.{position_or_len_is}
-use Rattle.islands.specs.declared.parts.Note.{Note}
-use Rattle.islands.specs.declared.parts.Head.{Head}
+use Rattle.islands.specs.declared.threads.Note.{Note}
+use Rattle.islands.specs.declared.threads.Head.{Head}
 use Rattle.islands.specs.declared.label.Label.{Label}
 use Rattle.islands.specs.declared.label.IslandState.TheVariants.{Loose}
 use Rattle.islands.specs.Labels.{Labels, label_at, is_in, relabel, relabelled, lowest_member, left_behind, left_alone, taken_out}

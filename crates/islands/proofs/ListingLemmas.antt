@@ -8,7 +8,7 @@ use Rattle.std.proofs.lemmas.Bool.{ne_eqb, false≢true}
 use Rattle.std.proofs.lemmas.List.Elements.{Contains-push, Contains-push_cases, Contains-append_left}
 use Rattle.std.proofs.lemmas.List.Sorted.{Contains-permutation, IsPermutation-sym}
 use Rattle.std.proofs.lemmas.Map.Keys.{IsDistinct-push, IsDistinct-IsPermutation, IsStrictlyIncreasing-from_distinct}
-use Rattle.islands.specs.declared.parts.Note.{Note}
+use Rattle.islands.specs.declared.threads.Note.{Note}
 use Rattle.islands.specs.Labels.{label_at, is_in, IsIn}
 use Rattle.islands.specs.Packed.{Notes, note_at, Heads, head_at, in_part, InPart, part_in, name_of, label_in, labels_of, labels_by, by_slot, AreNamed, IsPart, IsPacked, IsStanding, IsNamedPart, AreMembers}
 use Rattle.islands.specs.Standing.{AreInverse, NodeEntries, node_at, slot_at}

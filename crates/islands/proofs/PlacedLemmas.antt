@@ -1,7 +1,7 @@
 -- Parts as the slots see them: what holds of the notes by node holds of those by slot, where each part is named by its lowest slot.
 use Rattle.std.proofs.Common.{◌≡◌, ◌≢◌, ℕ, ◌<◌, length, Some, inl, inr, arith, sym, ap, ◌∙◌, slice_set}
 use Rattle.std.proofs.lemmas.Bool.{cases_eq}
-use Rattle.islands.specs.declared.parts.Head.{Head}
+use Rattle.islands.specs.declared.threads.Head.{Head}
 use Rattle.islands.specs.declared.label.Label.{Label}
 use Rattle.islands.specs.Labels.{relabelled, union_label}
 use Rattle.islands.specs.Standing.{NodeEntries, node_at, slot_at}

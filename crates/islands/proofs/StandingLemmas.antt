@@ -3,7 +3,7 @@ use Rattle.std.proofs.Common.{◌≡◌, ◌≢◌, ℕ, zero, suc, ◌+◌, ◌
 use Rattle.std.proofs.lemmas.Grind.{common_steps}
 use Rattle.std.proofs.lemmas.Bool.{cases_lt, cases_eq, eqb-true, false≢true}
 use Rattle.std.proofs.lemmas.List.{length-set, length-map}
-use Rattle.islands.specs.declared.parts.Note.{Note}
+use Rattle.islands.specs.declared.threads.Note.{Note}
 use Rattle.islands.specs.declared.thread_nodes.NodeEntry.{NodeEntry}
 use Rattle.islands.specs.Standing.{NodeEntries, AreExchanged, AreInverse, AreWidened, IsPut, node_at, own_node_entry, slot_at}
 use Rattle.islands.specs.Packed.{Notes, Heads, by_slot, head_at, in_part, label_in, note_at, part_in}

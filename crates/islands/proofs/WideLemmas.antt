@@ -2,8 +2,8 @@
 use Rattle.std.proofs.Common.{◌≡◌, ℕ, zero, suc, ◌-◌, ◌≤◌, ◌^◌, List, [], ◌∷◌, ◌++◌, length, get_or, replicate, Option, Some, None, arith, refl, sym, ap, ◌∙◌}
 use Rattle.std.proofs.lemmas.Grind.{common_steps}
 use Rattle.std.proofs.lemmas.List.{length-map}
-use Rattle.islands.specs.declared.parts.Head.{Head}
-use Rattle.islands.specs.declared.parts.Note.{Note}
+use Rattle.islands.specs.declared.threads.Head.{Head}
+use Rattle.islands.specs.declared.threads.Note.{Note}
 use Rattle.islands.specs.Labels.{Labels, label_at, padded}
 use Rattle.islands.specs.Standing.{AreWidened, NodeEntries, node_at}
 use Rattle.islands.specs.Packed.{AreNamed, Heads, InPart, IsKept, IsLowestIn, IsPacked, IsStanding, Notes, by_slot, filled, head_at, in_part, label_in, labels_by, labels_of, name_of, no_head, note_at}

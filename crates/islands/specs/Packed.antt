@@ -1,8 +1,8 @@
 -- Islands as threads through the nodes of their movers: what is kept by node, which labels that means by slot, and what holds of it.
 use Rattle.std.specs.Prelude.{◌≡◌, ◌≢◌, ◌↔◌, ◌++◌, replicate, nat_eq, Contains, ℕ, suc, ◌-◌, ◌+◌, ◌<◌, ◌≤◌, List, length, Some, None, Option, map, ◌==◌, ◌&&◌, ◌^◌, Bool, true, false, count_by, nat_le, slice_set}
 use Rattle.std.specs.List.{slice_index_or, IsDistinct}
-use Rattle.islands.specs.declared.parts.Note.{Note}
-use Rattle.islands.specs.declared.parts.Head.{Head}
+use Rattle.islands.specs.declared.threads.Note.{Note}
+use Rattle.islands.specs.declared.threads.Head.{Head}
 use Rattle.islands.specs.declared.label.Label.{Label}
 use Rattle.islands.specs.declared.thread_nodes.NodeEntry.{NodeEntry}
 use Rattle.islands.specs.Labels.{Labels, label_at, is_in, own_label}

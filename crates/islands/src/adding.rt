@@ -4,9 +4,9 @@ ghost use Rattle.std.specs.Prelude.{◌≡◌, ◌+◌, ◌<◌, ◌≤◌, ◌^
 ghost use Rattle.islands.specs.Labels.{added, own_label, padded};
 ghost use Rattle.islands.specs.Packed.{IsStanding, by_slot, note_at, labels_by};
 
-use crate::parts::{Head, Note, no_head, own_head, own_note};
 use crate::room::pad;
 use crate::thread_nodes::{NodeEntry, node_of, pad_node_entries};
+use crate::threads::{Head, Note, no_head, own_head, own_note};
 
 /// Makes the lists so long, for which there is room. The new slots have no movers.
 pub(crate) fn widen_lists(

@@ -10,15 +10,15 @@ ghost use Rattle.islands.specs.Labels.{label_at, IsIn, is_loose, is_asleep, adde
 ghost use Rattle.islands.specs.Partition.{IsPartition, Inside, IsSplit};
 
 use crate::adding::{add_part, widen_lists};
-use crate::joining::merge_movers;
 use crate::label::{IslandState, Label};
 use crate::leaving::leave;
 use crate::listing::{fill_members, members_of};
-use crate::parts::{Head, Note, label_in, part_at, set_state};
+use crate::merge::merge_movers;
 use crate::room::reserve_in_all;
 use crate::scratch::SplitScratch;
-use crate::splitting::split_island;
+use crate::split::split_island;
 use crate::thread_nodes::NodeEntry;
+use crate::threads::{Head, Note, label_in, part_at, set_state};
 use fixed_geom::Refusal;
 use std::alloc::Global;
 use std::marker::Model;

@@ -7,8 +7,8 @@ ghost use Rattle.islands.specs.Standing.{AreExchanged, AreInverse, slot_at};
 ghost use Rattle.islands.specs.Packed.{IsPacked, IsStanding, InPart, by_slot, note_at, head_at, labels_by, name_of, IsFirstFrom, HasNoneBelow, IsLowestIn, IsLeftBy, IsDropped};
 
 use crate::label::{IslandState, Label};
-use crate::parts::{Head, Note, name_of, part_at, part_of, set_label};
 use crate::thread_nodes::{NodeEntry, exchange, slot_of};
+use crate::threads::{Head, Note, name_of, part_at, part_of, set_label};
 
 /// Lets a mover change places with the one at the front of its thread.
 fn come_first(node_entries: &mut Vec<NodeEntry>, heads: &[Head], part: u32, slot: u32)

@@ -10,17 +10,15 @@ ghost use Rattle.islands.specs.Laws.{AddingKeeps, MergingKeeps, LooseningKeeps, 
 
 mod adding;
 mod islands;
-mod joining;
 mod label;
 mod leaving;
 mod listing;
-mod merging;
-mod parts;
+mod merge;
 mod room;
-mod scattering;
 mod scratch;
-mod splitting;
+mod split;
 mod thread_nodes;
+mod threads;
 
 pub use islands::Islands;
 pub use label::{IslandState, Label, sleeping_name};

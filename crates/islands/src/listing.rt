@@ -7,9 +7,9 @@ ghost use Rattle.std.specs.List.Sorted.{IsStrictlyIncreasing};
 ghost use Rattle.islands.specs.Labels.{IsIn};
 ghost use Rattle.islands.specs.Packed.{IsStanding, InPart, AreMembers, by_slot, head_at, labels_by};
 
-use crate::parts::{Head, Note, part_named};
 use crate::room::{push_in_room, reserve_in_all};
 use crate::thread_nodes::{NodeEntry, slot_of};
+use crate::threads::{Head, Note, part_named};
 use fixed_geom::Refusal;
 use std::alloc::Global;
 

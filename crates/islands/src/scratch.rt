@@ -7,11 +7,11 @@ ghost use Rattle.islands.specs.Partition.{Inside};
 ghost use Rattle.islands.specs.Packed.{IsStanding, InPart, name_of, labels_by};
 
 use crate::listing::list_members;
-use crate::merging::merge_all;
-use crate::parts::{Head, Note};
+use crate::merge::merge_all;
 use crate::room::reserve_in_all;
-use crate::scattering::scatter;
+use crate::split::scatter;
 use crate::thread_nodes::NodeEntry;
+use crate::threads::{Head, Note};
 use fixed_geom::Refusal;
 use std::alloc::Global;
 use std::marker::Model;

@@ -30,7 +30,7 @@ pub(crate) fn node_of(node_entries: &[NodeEntry], slot: u32) -> u32
 {
     match node_entries.get(slot as usize) {
         None => slot,
-        Some(place) => place.node,
+        Some(entry) => entry.node,
     }
 }
 
@@ -40,7 +40,7 @@ pub(crate) fn slot_of(node_entries: &[NodeEntry], node: u32) -> u32
 {
     match node_entries.get(node as usize) {
         None => node,
-        Some(place) => place.slot,
+        Some(entry) => entry.slot,
     }
 }
 
@@ -49,10 +49,10 @@ fn put_node(node_entries: &mut Vec<NodeEntry>, slot: u32, node: u32)
     ensures node_entries { node_entries.new.items ≡ slice_set node_entries.old.items slot (record { node = node; slot = slot_at node_entries.old.items slot }) }
     ensures capacity { vec_capacity node_entries.old ≤ vec_capacity node_entries.new }
 {
-    let place = node_entries[slot as usize];
+    let entry = node_entries[slot as usize];
     node_entries[slot as usize] = NodeEntry {
         node,
-        slot: place.slot,
+        slot: entry.slot,
     };
 }
 
@@ -61,9 +61,9 @@ fn put_slot(node_entries: &mut Vec<NodeEntry>, node: u32, slot: u32)
     ensures node_entries { node_entries.new.items ≡ slice_set node_entries.old.items node (record { node = node_at node_entries.old.items node; slot = slot }) }
     ensures capacity { vec_capacity node_entries.old ≤ vec_capacity node_entries.new }
 {
-    let place = node_entries[node as usize];
+    let entry = node_entries[node as usize];
     node_entries[node as usize] = NodeEntry {
-        node: place.node,
+        node: entry.node,
         slot,
     };
 }

@@ -1,4 +1,4 @@
--- The turn of a row is what the definition makes of its joint.
+-- The visit of a row is what the definition makes of its joint.
 use Rattle.std.proofs.Common.{refl}
 use Rattle.joint_rows.specs.Joints as joints
 use Rattle.joint_rows.specs.Rows as rows

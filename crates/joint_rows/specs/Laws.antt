@@ -13,7 +13,7 @@ use Rattle.joint_rows.specs.Rows as rows
 abbrev pub row_of : JointBodies → Ends → SolvedJoint → JointAfter
 row_of bodies start s = record { row = rows.joint_row bodies start s.joint; ends = s.ends }
 
--- a turn of the joint's row leaves the row of what the definition leaves of the joint, and the same bodies
+-- a visit of the joint's row leaves the row of what the definition leaves of the joint, and the same bodies
 abbrev pub VisitsAlike : (Ends → Joint → Ends → SolvedJoint) → (JointRow → Ends → JointAfter) → Type 0
 VisitsAlike f g = (bodies : JointBodies) (start e : Ends) (j : Joint) → g (rows.joint_row bodies start j) e ≡ row_of bodies start (f start j e)
 

@@ -6,12 +6,12 @@
 //! and clamped impulse with a warm start, and a bias velocity that takes the error away.
 #![tactic(auto)]
 
-pub mod joint;
-pub mod laws;
-pub mod limits;
-pub mod row;
-pub mod row_64;
-pub mod solve;
+mod joint;
+mod laws;
+mod limits;
+mod row;
+mod row_64;
+mod solve;
 
 pub use joint::Joint;
 pub use laws::rows_are_joints;

@@ -1,4 +1,4 @@
--- What stands printed at the front of a text.
+-- Which parts of a saved world stand printed at the front of a text.
 use Rattle.std.specs.Prelude.{◌≡◌, ℕ, ◌≤◌, ◌++◌, ◌∷◌, Bool, false, true, List, []}
 use Rattle.fixed_geom.specs.declared.vectors.Vec2.{Vec2}
 use Rattle.printed_json.specs.Leads.{IsSigned, Leads}

@@ -1,4 +1,4 @@
-//! A body.
+//! A body, read.
 
 ghost use Rattle.std.specs.Prelude.{◌≡◌, IfSome, IsTrue, pos, unsigned_abs};
 ghost use Rattle.plain_world.specs.Bodies.{IsMassOf};

@@ -1,4 +1,4 @@
-//! The slots of bodies.
+//! The slots of bodies, read.
 
 ghost use Rattle.std.specs.Prelude.{◌≡◌, ◌∷◌, ◌++◌, [], IfSome};
 ghost use Rattle.loaded_text.specs.Bodies.{BodiesHold, BodySlotHolds, are_timed, is_timed};

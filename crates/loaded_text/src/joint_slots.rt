@@ -1,4 +1,4 @@
-//! The slots of joints.
+//! The slots of joints, read.
 
 ghost use Rattle.std.specs.Prelude.{◌≡◌, ◌∷◌, ◌++◌, [], IfSome};
 ghost use Rattle.loaded_text.specs.Joints.{JointSlotHolds, JointsHold};

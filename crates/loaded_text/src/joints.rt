@@ -1,4 +1,4 @@
-//! A joint.
+//! A joint, read.
 
 ghost use Rattle.std.specs.Prelude.{◌≡◌, IfSome};
 ghost use Rattle.world_file_base.specs.SavedJoints.{joint_in};

@@ -9,10 +9,10 @@ ghost use Rattle.loaded_text.specs.Stands.{Holds};
 
 use crate::leaves::{read_natural, read_nonnegative, read_size};
 use crate::vectors::read_vector_within;
-use contacts_base::limits::{
-    MAX_NORMAL, MAX_NORMAL_IMPULSE, MAX_OFFSET, MAX_SEPARATION, MAX_TANGENT_IMPULSE,
+use contacts_base::{
+    ContactPoint, MAX_NORMAL, MAX_NORMAL_IMPULSE, MAX_OFFSET, MAX_SEPARATION, MAX_TANGENT_IMPULSE,
+    PackedContact,
 };
-use contacts_base::{ContactPoint, PackedContact};
 use printed_json::Text;
 use world_file_base::LAST_CANDIDATE;
 

@@ -1,4 +1,4 @@
-//! The contacts.
+//! The contacts, read.
 
 ghost use Rattle.std.specs.Prelude.{◌≡◌, ◌++◌, ◌∷◌, [], IfSome};
 ghost use Rattle.world_file_base.specs.SavedContacts.{contact_in};

@@ -1,4 +1,4 @@
-//! The shapes of a body, each with its fat box.
+//! The shapes of a body, each with its fat box, read.
 
 ghost use Rattle.std.specs.Prelude.{◌≡◌, ◌∷◌, ◌++◌, [], IfSome};
 ghost use Rattle.loaded_text.specs.Shapes.{ShapesHold, no_shapes};

@@ -5,20 +5,20 @@
 //! momentum in mass·u²/tick, a spin is 2^30 times the tangent of the turn of a tick.
 #![tactic(auto)]
 
-pub mod gain;
+mod gain;
 mod goal;
-pub mod gravity;
-pub mod inverse;
-pub mod limits;
-pub mod line;
-pub mod line_64;
-pub mod mass;
-pub mod motion;
-pub mod ranges;
-pub mod reciprocals;
-pub mod speed_limit;
-pub mod state;
-pub mod travel;
+mod gravity;
+mod inverse;
+mod limits;
+mod line;
+mod line_64;
+mod mass;
+mod motion;
+mod ranges;
+mod reciprocals;
+mod speed_limit;
+mod state;
+mod travel;
 
 pub use gain::{Gain, NOTHING, gain_between, plus};
 pub use goal::Goal;
@@ -39,5 +39,5 @@ pub use mass::MassData;
 pub use motion::{Momenta, Motion, spin, velocity};
 pub use reciprocals::{Reciprocals, reciprocals_of};
 pub use speed_limit::clamp_speed;
-pub use state::{BodyState, Ends, impulse_pair, turned_by};
+pub use state::{BodyState, Ends, NOBODY, impulse_pair, turned_by};
 pub use travel::advance;

@@ -11,7 +11,9 @@ use crate::ranges::is_in;
 use crate::{
     MAX_ANGULAR_MOMENTUM, MAX_MOMENTUM, MassData, Momenta, Motion, Reciprocals, spin, velocity,
 };
-use fixed_geom::{MAX_OFFSET, MAX_SPIN, Vec2, cross, minus, opposite, plus, scaled_64};
+use fixed_geom::{
+    MAX_OFFSET, MAX_SPIN, Rot, UNIT, Vec2, ZERO_VECTOR, cross, minus, opposite, plus, scaled_64,
+};
 
 /// A component of a momentum up to this has room for two impulses.
 const ROOMY_MOMENTUM: i64 = 1 << 59;
@@ -32,6 +34,26 @@ pub struct BodyState {
     pub start: Vec2,
     pub reciprocals: Reciprocals,
 }
+
+/// What stands where there is no body: nothing moves it.
+pub const NOBODY: BodyState = BodyState {
+    movable: false,
+    mass: MassData {
+        mass: 1,
+        inertia: 0,
+    },
+    motion: Motion {
+        p: ZERO_VECTOR,
+        l: 0,
+        x: ZERO_VECTOR,
+        rot: Rot { c: UNIT, s: 0 },
+    },
+    start: ZERO_VECTOR,
+    reciprocals: Reciprocals {
+        mass: 1 << 62,
+        inertia: 0,
+    },
+};
 
 /// The two bodies of a constraint.
 #[derive(Clone, Copy, Debug, PartialEq, Eq)]

@@ -4,6 +4,7 @@ use Rattle.std.specs.Option.{is_none}
 use Rattle.std.specs.Ordering.{int_eq}
 use Rattle.fixed_geom.specs.Vectors.{IsWithin, is_within}
 use Rattle.fixed_geom.specs.Facings.{IsFacing, is_facing}
+use Rattle.fixed_geom.specs.Refusals.{refused_unless}
 use Rattle.fixed_geom.specs.declared.vectors.Vec2.{Vec2}
 use Rattle.fixed_geom.specs.declared.facings.Rot.{Rot}
 use Rattle.fixed_geom.specs.declared.refusal.Refusal.{Refusal}
@@ -22,12 +23,21 @@ use Rattle.plain_world.specs.declared.body.BodyView.{BodyView}
 use Rattle.shapes.specs.Shapes.{is_between, shapes_refusal, IsShapeDef}
 use Rattle.shapes.specs.declared.pose.Pose.{Pose}
 use Rattle.plain_world.specs.Fats.{AreFatBoxes, fat_boxes}
+use Rattle.plain_world.specs.Slots.{body_at}
 
 -- ---- where a body stands
 
 -- a mover: an enabled dynamic body
 abbrev pub is_mover : Body → Bool
 is_mover b = cond b.enabled (is_dynamic b.kind) false
+
+abbrev pub is_mover_in : Option Body → Bool
+is_mover_in None = false
+is_mover_in (Some b) = is_mover b
+
+-- a mover is in the slot
+abbrev pub moves : List (Option Body) → ℕ → Bool
+moves bodies slot = is_mover_in (body_at bodies slot)
 
 -- a mover that is awake: what the collide, the colours and the solver take
 abbrev pub is_awake : Body → Bool
@@ -77,7 +87,12 @@ is_mass_allowed (Kinematic course) m = is_no_mass m
 is_mass_allowed Dynamic m = is_between (pos 1) (pos (2 ^ 20)) m.mass && is_between (pos 0) (pos (2 ^ 60)) m.inertia
 
 abbrev pub numbers_refusal : BodyDef → Option Refusal
-numbers_refusal d = cond (is_mass_allowed d.kind d.mass) (cond (is_course_allowed d.kind) (cond (is_within (2 ^ 36) d.x) (cond (is_facing d.rot) None (Some OutOfRange)) (Some OutOfRange)) (Some OutOfRange)) (Some OutOfRange)
+numbers_refusal d =
+    refused_unless (is_mass_allowed d.kind d.mass) OutOfRange (
+    refused_unless (is_course_allowed d.kind) OutOfRange (
+    refused_unless (is_within (2 ^ 36) d.x) OutOfRange (
+    refused_unless (is_facing d.rot) OutOfRange (
+    None))))
 
 abbrev pub first_refusal : Option Refusal → Option Refusal → Option Refusal
 first_refusal (Some e) later = Some e

@@ -1,6 +1,7 @@
 -- Joints by slot: which may be made, which stand between which bodies, and which bodies they keep from colliding.
 use Rattle.std.specs.Prelude.{◌≡◌, ◌≢◌, ℕ, ◌==◌, ◌||◌, Bool, true, false, cond, is_some, List, Option, Some, None, pos, unsigned_abs, map, option_map}
 use Rattle.std.specs.List.{filter_map}
+use Rattle.fixed_geom.specs.Refusals.{refused_unless}
 use Rattle.fixed_geom.specs.Vectors.{is_within}
 use Rattle.fixed_geom.specs.declared.refusal.Refusal.{Refusal}
 use Rattle.fixed_geom.specs.declared.refusal.Refusal.TheVariants.{OutOfRange}
@@ -20,7 +21,11 @@ use Rattle.plain_world.specs.Slots.{body_at, item_at}
 
 -- why a joint can't be made, for its numbers
 unfoldable pub joint_refusal : JointDef → Option Refusal
-joint_refusal d = cond (is_within (unsigned_abs MAX_ANCHOR) d.from) (cond (is_within (unsigned_abs MAX_ANCHOR) d.to) (cond (is_between (pos 0) MAX_JOINT_LENGTH d.length) None (Some OutOfRange)) (Some OutOfRange)) (Some OutOfRange)
+joint_refusal d =
+    refused_unless (is_within (unsigned_abs MAX_ANCHOR) d.from) OutOfRange (
+    refused_unless (is_within (unsigned_abs MAX_ANCHOR) d.to) OutOfRange (
+    refused_unless (is_between (pos 0) MAX_JOINT_LENGTH d.length) OutOfRange (
+    None)))
 
 -- the joint, with no impulse yet
 abbrev pub joint_made : JointDef → BodyJoint

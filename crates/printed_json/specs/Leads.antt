@@ -1,4 +1,4 @@
--- What stands printed at the front of a text.
+-- A value that stands printed at the front of a text.
 use Rattle.std.specs.Prelude.{◌≡◌, ℕ, ◌<◌, ◌^◌, ◌++◌, ◌==◌, ⊤, Bool, false, List, [], ◌∷◌, Option, Some, None, ℤ, unsigned_abs}
 use Rattle.std.specs.Char.{is_ascii_digit}
 use Rattle.std.specs.Fmt.{signed_decimal}

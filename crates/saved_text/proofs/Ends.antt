@@ -20,7 +20,7 @@ shapes_end defs fats n k (inr past) end = rw (drop_all k fats (omega arith)) (no
 
 no_body : (slot : ℕ) (slot_entries : List SlotEntry) (labels : Labels) → body_slots slot slot_entries [] labels ≡ []
 no_body slot [] labels = refl
-no_body slot (place ∷ slot_entries) labels = refl
+no_body slot (slot_entry ∷ slot_entries) labels = refl
 
 pub bodies_end : (slot_entries : List SlotEntry) (bodies : List (Option Body)) (labels : Labels) (n k : ℕ) → (length slot_entries ≤ n) ⊎ (length bodies ≤ n) → n ≤ k → body_slots k (drop k slot_entries) (drop k bodies) labels ≡ []
 bodies_end slot_entries bodies labels n k (inl past) end = rw (drop_all k slot_entries (omega arith)) refl
@@ -28,7 +28,7 @@ bodies_end slot_entries bodies labels n k (inr past) end = rw (drop_all k bodies
 
 no_joint : (all slot_entries : List SlotEntry) (colours : List (Option ℕ)) → joint_slots all slot_entries [] colours ≡ []
 no_joint all [] colours = refl
-no_joint all (place ∷ slot_entries) colours = refl
+no_joint all (slot_entry ∷ slot_entries) colours = refl
 
 -- each place has a colour
 pub joints_end : (all slot_entries : List SlotEntry) (joints : List (Option BodyJoint)) (colours : ℕ → List SlotEntry → List (Option ℕ)) (n k : ℕ) → (length slot_entries ≤ n) ⊎ (length joints ≤ n) → n ≤ k

@@ -82,11 +82,11 @@ body_by b (Some l) Dynamic is = record { is = rw is refl; ascends = refl }
 pub body_object : (b : Body) (label : Option Label) (membership : SavedMembership) → membership ≡ membership_by label → IsObject (first_of_body b membership ++ ((codes "shapes", list_data (shapes_of b.shapes b.fats)) ∷ []) ++ last_of_body b.kind b.timer) (body_data b label)
 body_object b label membership is = rw is (body_by b label b.kind refl)
 
-pub free_object : (place : SlotEntry) → IsObject ((codes "generation", natural place.generation) ∷ []) (slot_of place [] None)
-free_object place = record { is = refl; ascends = refl }
+pub free_object : (slot_entry : SlotEntry) → IsObject ((codes "generation", natural slot_entry.generation) ∷ []) (slot_of slot_entry [] None)
+free_object slot_entry = record { is = refl; ascends = refl }
 
-pub body_slot_object : (place : SlotEntry) (b : Body) (label : Option Label) → IsObject ((codes "body", body_data b label) ∷ (codes "generation", natural place.generation) ∷ []) (body_slot_of place (Some b) label)
-body_slot_object place b label = record { is = refl; ascends = refl }
+pub body_slot_object : (slot_entry : SlotEntry) (b : Body) (label : Option Label) → IsObject ((codes "body", body_data b label) ∷ (codes "generation", natural slot_entry.generation) ∷ []) (body_slot_of slot_entry (Some b) label)
+body_slot_object slot_entry b label = record { is = refl; ascends = refl }
 
 -- ---- contacts
 
@@ -127,8 +127,8 @@ pub joint_object : (slot_entries : List SlotEntry) (j : BodyJoint) (colour : Opt
 unfolding joint_data
 joint_object slot_entries j colour a b first second = record { is = rw (first, second) refl; ascends = refl }
 
-pub joint_slot_object : (slot_entries : List SlotEntry) (place : SlotEntry) (j : BodyJoint) (colour : Option ℕ) → IsObject ((codes "generation", natural place.generation) ∷ (codes "joint", joint_data slot_entries j colour) ∷ []) (joint_slot_of slot_entries place (Some j) colour)
-joint_slot_object slot_entries place j colour = record { is = refl; ascends = refl }
+pub joint_slot_object : (slot_entries : List SlotEntry) (slot_entry : SlotEntry) (j : BodyJoint) (colour : Option ℕ) → IsObject ((codes "generation", natural slot_entry.generation) ∷ (codes "joint", joint_data slot_entries j colour) ∷ []) (joint_slot_of slot_entries slot_entry (Some j) colour)
+joint_slot_object slot_entries slot_entry j colour = record { is = refl; ascends = refl }
 
 -- ---- the world
 

@@ -1,4 +1,4 @@
-//! The slots of bodies.
+//! The slots of bodies, written.
 
 ghost use Rattle.std.specs.Prelude.{◌≡◌, ◌∷◌, [], None, Some, OnOk, codes};
 ghost use Rattle.islands.specs.Labels.{label_at};
@@ -126,39 +126,39 @@ fn put_body(out: &mut Writer, body: &Body, label: Option<Label>) -> Result<(), A
 }
 
 /// Writes a slot in which nothing is.
-pub(crate) fn put_free(out: &mut Writer, place: SlotEntry) -> Result<(), AllocError>
-    ensures text { OnOk result (AddsValue (slot_of place [] None) out.old out.new) }
+pub(crate) fn put_free(out: &mut Writer, slot_entry: SlotEntry) -> Result<(), AllocError>
+    ensures text { OnOk result (AddsValue (slot_of slot_entry [] None) out.old out.new) }
 {
-    put_object(out, &[("generation", Leaf::Count(place.generation))])
+    put_object(out, &[("generation", Leaf::Count(slot_entry.generation))])
 }
 
 fn put_taken(
     out: &mut Writer,
-    place: SlotEntry,
+    slot_entry: SlotEntry,
     body: &Body,
     label: Option<Label>,
 ) -> Result<(), AllocError>
-    ensures text { OnOk result (AddsValue (body_slot_of place (Some body.now) label) out.old out.new) }
+    ensures text { OnOk result (AddsValue (body_slot_of slot_entry (Some body.now) label) out.old out.new) }
 {
     out.begin_object()?;
     out.key("body")?;
     put_body(out, body, label)?;
-    put_members(out, &[("generation", Leaf::Count(place.generation))])?;
+    put_members(out, &[("generation", Leaf::Count(slot_entry.generation))])?;
     out.end_object()?;
     Ok(())
 }
 
 fn put_slot(
     out: &mut Writer,
-    place: SlotEntry,
+    slot_entry: SlotEntry,
     entry: &Option<Body>,
     label: Option<Label>,
 ) -> Result<(), AllocError>
-    ensures text { OnOk result (AddsValue (body_slot_of place entry.now label) out.old out.new) }
+    ensures text { OnOk result (AddsValue (body_slot_of slot_entry entry.now label) out.old out.new) }
 {
     match entry {
-        Some(body) => put_taken(out, place, body, label),
-        None => put_free(out, place),
+        Some(body) => put_taken(out, slot_entry, body, label),
+        None => put_free(out, slot_entry),
     }
 }
 

@@ -1,4 +1,4 @@
-//! The slots of joints.
+//! The slots of joints, written.
 
 ghost use Rattle.std.specs.Prelude.{◌≡◌, ◌∷◌, [], List, Some, IfOk, OnOk, nat_eq, string_bytes};
 ghost use Rattle.std.specs.HashMap.{get};
@@ -25,7 +25,7 @@ fn name_at(alloc: Global, slot_entries: &[SlotEntry], slot: u32) -> Result<Strin
     ensures name { IfOk result (λ name. string (string_bytes name) ≡ id_at slot_entries.now slot) }
 {
     let generation = match slot_entries.get(slot as usize) {
-        Some(place) => place.generation,
+        Some(slot_entry) => slot_entry.generation,
         None => 0,
     };
     let id = Id(Handle { slot, generation });
@@ -58,7 +58,7 @@ fn put_named<'a>(
     )
 }
 
-/// Writes a joint between bodies of these places, with its colour if it acts.
+/// Writes a joint between bodies of these slot entries, with its colour if it acts.
 fn put_joint(
     out: &mut Writer,
     alloc: Global,
@@ -78,14 +78,14 @@ fn put_taken(
     out: &mut Writer,
     alloc: Global,
     slot_entries: &[SlotEntry],
-    place: SlotEntry,
+    slot_entry: SlotEntry,
     joint: &BodyJoint,
     colour: Option<u8>,
 ) -> Result<(), AllocError>
-    ensures text { OnOk result (AddsValue (joint_slot_of slot_entries.now place (Some joint.now) colour) out.old out.new) }
+    ensures text { OnOk result (AddsValue (joint_slot_of slot_entries.now slot_entry (Some joint.now) colour) out.old out.new) }
 {
     out.begin_object()?;
-    put_members(out, &[("generation", Leaf::Count(place.generation))])?;
+    put_members(out, &[("generation", Leaf::Count(slot_entry.generation))])?;
     out.key("joint")?;
     put_joint(out, alloc, slot_entries, joint, colour)?;
     out.end_object()?;
@@ -96,19 +96,19 @@ fn put_slot(
     out: &mut Writer,
     alloc: Global,
     slot_entries: &[SlotEntry],
-    place: SlotEntry,
+    slot_entry: SlotEntry,
     entry: &Option<BodyJoint>,
     colour: Option<u8>,
 ) -> Result<(), AllocError>
-    ensures text { OnOk result (AddsValue (joint_slot_of slot_entries.now place entry.now colour) out.old out.new) }
+    ensures text { OnOk result (AddsValue (joint_slot_of slot_entries.now slot_entry entry.now colour) out.old out.new) }
 {
     match entry {
-        Some(joint) => put_taken(out, alloc, slot_entries, place, joint, colour),
-        None => put_free(out, place),
+        Some(joint) => put_taken(out, alloc, slot_entries, slot_entry, joint, colour),
+        None => put_free(out, slot_entry),
     }
 }
 
-/// Writes the joints by slot, between bodies of these places, each with the colour of its number.
+/// Writes the joints by slot, between bodies of these slot entries, each with the colour of its number.
 pub(crate) fn put_joints(
     out: &mut Writer,
     alloc: Global,
@@ -121,9 +121,9 @@ pub(crate) fn put_joints(
 {
     out.begin_array()?;
     for slot in 0..lesser(joint_entries.len(), joints.len()) {
-        let place = joint_entries[slot];
-        let colour = colour_at(by_number, joint_number(slot, place.generation));
-        put_slot(out, alloc, slot_entries, place, &joints[slot], colour)?;
+        let slot_entry = joint_entries[slot];
+        let colour = colour_at(by_number, joint_number(slot, slot_entry.generation));
+        put_slot(out, alloc, slot_entries, slot_entry, &joints[slot], colour)?;
     }
     out.end_array()?;
     Ok(())

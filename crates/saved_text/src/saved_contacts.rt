@@ -1,4 +1,4 @@
-//! The contacts.
+//! The contacts, written.
 
 ghost use Rattle.std.specs.Prelude.{◌∷◌, [], OnOk, codes, nat_eq};
 ghost use Rattle.std.specs.HashMap.{get};

@@ -1,4 +1,4 @@
-//! The shapes of a body, each with its fat box.
+//! The shapes of a body, each with its fat box, written.
 
 ghost use Rattle.std.specs.Prelude.{◌≡◌, OnOk};
 ghost use Rattle.shapes.specs.declared.shape.Shape.TheVariants.{Capsule, Circle, Segment};

@@ -127,8 +127,8 @@ pub(crate) fn save(alloc: Global, world: &WorldCore) -> Result<String, Refusal> 
     world_desk::text_of(alloc, world)
 }
 
-/// The world of a text that a save wrote. Refused 12 with the first clause that it breaks, or 1 where memory is wanting. Nothing is answered of another
-/// text.
+/// The world of a text that a save wrote. Refused 12 with the first clause that it breaks, or 1 where memory is wanting. Nothing is answered of
+/// another text.
 pub(crate) fn load_saved(alloc: Global, text: &[u8]) -> Option<Result<WorldCore, Refusal>> {
     let read = world_desk::read_world(alloc, text)?;
     Some(read.map_err(|broken| broken.refusal()))

@@ -14,8 +14,8 @@ fn world_in(line: &[u8]) -> Option<&[u8]> {
     line.strip_prefix(FRONT)?.strip_suffix(b"}")
 }
 
-/// The world that a line loads, or why there is none, if the line is `{"do":"load","world":TEXT}` with a text that a save wrote. Any other line is to be
-/// read as a request.
+/// The world that a line loads, or why there is none, if the line is `{"do":"load","world":TEXT}` with a text that a save wrote. Any other line is to
+/// be read as a request.
 pub(crate) fn loaded_by(alloc: Global, line: &[u8]) -> Option<Result<WorldCore, Refusal>> {
     load_saved(alloc, world_in(line)?)
 }

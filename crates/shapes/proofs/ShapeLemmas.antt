@@ -1,5 +1,5 @@
 -- Shapes that passed the tests are within their limits.
-use Rattle.std.proofs.Common.{◌≡◌, refl, ℕ, ◌^◌, ◌≤◌, Bool, true, false, cond, nat_le, List, length, ℤ, pos, ◌≤ℤ◌, unsigned_abs, All, arith}
+use Rattle.std.proofs.Common.{◌≡◌, refl, ℕ, ◌^◌, ◌≤◌, Bool, true, false, ◌&&◌, nat_le, List, length, ℤ, pos, ◌≤ℤ◌, unsigned_abs, All, arith}
 use Rattle.std.specs.List.{list_all}
 use Rattle.std.proofs.lemmas.Int.{ints}
 use Rattle.std.proofs.lemmas.Bool.Decides.{nat_tests}
@@ -15,7 +15,7 @@ record IsBoth (a b : Bool) : Type 0 where
   left : a ≡ true
   right : b ≡ true
 
-both : (a b : Bool) → cond a b false ≡ true → IsBoth a b
+both : (a b : Bool) → (a && b) ≡ true → IsBoth a b
 both true b h = record { left = refl; right = h }
 both false true h = record { left = h; right = refl }
 both false false h = record { left = h; right = h }
@@ -41,11 +41,11 @@ radius_small b (Segment first second) h = record { nonnegative = omega (arith, i
 pub is_shape_def : (b : Bool) (d : ShapeDef) → is_form_allowed b d.shape ≡ true → is_in_range d ≡ true → IsShapeDef d
 is_shape_def b d h l =
     let radius = radius_small b d.shape h in
-    let parts = both (is_core_near d.shape) (cond (is_between (pos 0) (pos 512) d.friction) (is_between (pos 0) (pos 256) d.restitution) false) l in
-    let rest = both (is_between (pos 0) (pos 512) d.friction) (is_between (pos 0) (pos 256) d.restitution) parts.right in
-    let near = both (is_within (2 ^ 24) (first_end d.shape)) (is_within (2 ^ 24) (second_end d.shape)) parts.left in
-    let friction = between 512 d.friction rest.left in
-    let restitution = between 256 d.restitution rest.right in
+    let parts = both (is_core_near d.shape && is_between (pos 0) (pos 512) d.friction) (is_between (pos 0) (pos 256) d.restitution) l in
+    let rest = both (is_core_near d.shape) (is_between (pos 0) (pos 512) d.friction) parts.left in
+    let near = both (is_within (2 ^ 24) (first_end d.shape)) (is_within (2 ^ 24) (second_end d.shape)) rest.left in
+    let friction = between 512 d.friction rest.right in
+    let restitution = between 256 d.restitution parts.right in
     record {
       shape = record {
         first = within (2 ^ 24) (first_end d.shape) near.left;
@@ -61,6 +61,5 @@ is_shape_def b d h l =
 
 pub all_shape_defs : (b : Bool) (ds : List ShapeDef) → are_forms_allowed b ds ≡ true → list_all is_in_range ds ≡ true → All IsShapeDef ds
 all_shape_defs b ds h l =
-    let few = both (nat_le 1 (length ds)) (cond (nat_le (length ds) 8) (list_all (λ d. is_form_allowed b d.shape) ds) false) h in
-    let forms = both (nat_le (length ds) 8) (list_all (λ d. is_form_allowed b d.shape) ds) few.right in
+    let forms = both (nat_le 1 (length ds) && nat_le (length ds) 8) (list_all (λ d. is_form_allowed b d.shape) ds) h in
     λ k d lt. is_shape_def b _ (AllPass-from_list_all (λ d. is_form_allowed b d.shape) ds forms.right k d lt) (AllPass-from_list_all is_in_range ds l k d lt)

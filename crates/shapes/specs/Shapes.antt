@@ -1,7 +1,8 @@
 -- The parts of a shape, and which shapes a body may have.
-use Rattle.std.specs.Prelude.{◌≤◌, Bool, false, ◌&&◌, not, cond, nat_le, List, length, ℤ, pos, int_le, ◌≤ℤ◌, unsigned_abs, Option, Some, None}
+use Rattle.std.specs.Prelude.{◌≤◌, Bool, ◌&&◌, not, nat_le, List, length, ℤ, pos, int_le, ◌≤ℤ◌, unsigned_abs, Option, None}
 use Rattle.std.specs.Ordering.{int_eq}
 use Rattle.std.specs.List.{list_all}
+use Rattle.fixed_geom.specs.Refusals.{refused_unless}
 use Rattle.fixed_geom.specs.Vectors.{IsWithin, is_within}
 use Rattle.fixed_geom.specs.declared.vectors.Vec2.{Vec2}
 use Rattle.fixed_geom.specs.declared.refusal.Refusal.{Refusal}
@@ -57,22 +58,25 @@ are_apart p q = not (int_eq p.x q.x && int_eq p.y q.y)
 -- different ends, or, where segments are allowed, a segment of different ends
 abbrev pub is_form_allowed : Bool → Shape → Bool
 is_form_allowed segments (Circle center radius) = is_between (pos 0) MAX_RADIUS radius
-is_form_allowed segments (Capsule first second radius) = cond (are_apart first second) (is_between (pos 1) MAX_RADIUS radius) false
-is_form_allowed segments (Segment first second) = cond segments (are_apart first second) false
+is_form_allowed segments (Capsule first second radius) = are_apart first second && is_between (pos 1) MAX_RADIUS radius
+is_form_allowed segments (Segment first second) = segments && are_apart first second
 
 -- each end of the core is near the body's centre in each coordinate
 abbrev pub is_core_near : Shape → Bool
-is_core_near s = cond (is_within MAX_CORE (first_end s)) (is_within MAX_CORE (second_end s)) false
+is_core_near s = is_within MAX_CORE (first_end s) && is_within MAX_CORE (second_end s)
 
 -- each number is within its limit
 abbrev pub is_in_range : ShapeDef → Bool
-is_in_range d = cond (is_core_near d.shape) (cond (is_between (pos 0) MAX_FRICTION d.friction) (is_between (pos 0) MAX_RESTITUTION d.restitution) false) false
+is_in_range d = is_core_near d.shape && is_between (pos 0) MAX_FRICTION d.friction && is_between (pos 0) MAX_RESTITUTION d.restitution
 
 -- 1 to 8 shapes, each of a form that is allowed
 abbrev pub are_forms_allowed : Bool → List ShapeDef → Bool
-are_forms_allowed segments defs = cond (nat_le 1 (length defs)) (cond (nat_le (length defs) MAX_SHAPES) (list_all (λ d. is_form_allowed segments d.shape) defs) false) false
+are_forms_allowed segments defs = nat_le 1 (length defs) && nat_le (length defs) MAX_SHAPES && list_all (λ d. is_form_allowed segments d.shape) defs
 
 -- why a body may not have these shapes: first for a form or their number, then for a number
 -- outside its limit
 unfoldable pub shapes_refusal : Bool → List ShapeDef → Option Refusal
-shapes_refusal segments defs = cond (are_forms_allowed segments defs) (cond (list_all is_in_range defs) None (Some OutOfRange)) (Some BadShape)
+shapes_refusal segments defs =
+    refused_unless (are_forms_allowed segments defs) BadShape (
+    refused_unless (list_all is_in_range defs) OutOfRange (
+    None))

@@ -79,10 +79,6 @@ longest_at_rest timer best (name ∷ names) = longest_at_rest timer (longer_at_r
 abbrev pub picked_to_split : Labels → List ℕ → Option ℕ
 picked_to_split labels timers = longest_at_rest (λ name. least_timer name labels timers) None (ready true labels timers)
 
--- the best so far, once the label in a slot was looked at too
-abbrev pub weighed : Labels → List ℕ → Option ℕ → ℕ → Option Label → Option ℕ
-weighed labels timers best slot o = cond (is_ready true labels timers slot o) (longer_at_rest (λ name. least_timer name labels timers) best slot) best
-
 abbrev pub split_picked : {C : Type 0} → Option ℕ → Acting C → Acting C
 split_picked None s = s
 split_picked (Some name) s = split_at name s

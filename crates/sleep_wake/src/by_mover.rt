@@ -11,7 +11,7 @@ ghost use Rattle.graph_colours.specs.FoundMembers.{movers_of};
 ghost use Rattle.sleep_wake.specs.Indexed.{ties_of, AreByMover, AreAllRising, AreChangedWhere, AreAlike, IsAdded, IsTakenOut, is_other};
 
 use fixed_geom::Refusal;
-use graph_colours::{Id, Member, Movers, member};
+use graph_colours::{Id, Member, Movers, insert, remove};
 use std::alloc::Global;
 
 // ---- a constraint comes
@@ -24,7 +24,7 @@ fn insert_grown<C: Id>(list: &mut Vec<Member<C>>, member: Member<C>) -> bool
     if list.reserve(1).is_err() {
         return false;
     }
-    member::insert(list, member);
+    insert(list, member);
     true
 }
 
@@ -78,7 +78,7 @@ fn take_at<C: Id>(lists: &mut Vec<Vec<Member<C>>>, slot: u32, id: C)
 {
     let place = slot as usize;
     if place < lists.len() {
-        let _ = member::remove(&mut lists[place], id);
+        let _ = remove(&mut lists[place], id);
     }
 }
 

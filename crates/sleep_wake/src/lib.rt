@@ -27,6 +27,6 @@ mod wake_and_sleep;
 mod work;
 
 pub use change::Change;
-pub use names::{push_some, sort_once};
+pub use names::{push_some, put_some, sort_once};
 pub use phase::{TICKS_TO_SLEEP, limits_in_digits};
 pub use sets::Sets;

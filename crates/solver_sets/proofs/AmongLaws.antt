@@ -15,14 +15,14 @@ use Rattle.graph_colours.specs.declared.member.Movers.{Movers}
 use Rattle.graph_colours.proofs.PlaceLemmas.{same_from}
 use Rattle.plain_world.specs.declared.body.Body.{Body}
 use Rattle.plain_world.specs.declared.joint.BodyJoint.{BodyJoint}
-use Rattle.plain_world.specs.Bodies.{is_mover}
+use Rattle.plain_world.specs.Bodies.{is_mover, is_mover_in, moves}
 use Rattle.plain_world.specs.Kinds.{is_dynamic}
 use Rattle.plain_world.specs.Joints.{is_end_in}
 use Rattle.plain_world.specs.Slots.{body_at}
 use Rattle.solver_sets.specs.Beside.{joined_by, joined_to, mover_at, mover_beside, neighbours, stirred_by, stirred_if, touched_by, touched_with}
 use Rattle.solver_sets.specs.BesideByTies.{first_movers, stirred_among, is_tie_of, ties_among}
 use Rattle.solver_sets.specs.Laws as laws
-use Rattle.solver_sets.specs.Ties.{Bond, JointSlots, bonds_of, contact_bond, is_bond_of, is_enabled, is_enabled_in, is_mover_in, joint_bond, joint_bonds, joint_bonds_from, movers_if, movers_with, moves, tie_of, tie_with, ties_at, ties_in, ties_of, touching_keys}
+use Rattle.solver_sets.specs.Ties.{Bond, JointSlots, bonds_of, contact_bond, is_bond_of, is_enabled, is_enabled_in, joint_bond, joint_bonds, joint_bonds_from, movers_if, movers_with, tie_of, tie_with, ties_at, ties_in, ties_of, touching_keys}
 use Rattle.solver_sets.proofs.BondLaws.{in_bonds}
 use Rattle.solver_sets.proofs.ListingLaws.{filter_append}
 

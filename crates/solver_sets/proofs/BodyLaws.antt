@@ -26,7 +26,8 @@ use Rattle.solver_sets.specs.Beside.{joined_by, joined_to, mover_beside, neighbo
 use Rattle.solver_sets.specs.Joining.{handle_at, unjoined, unjoined_all, unjoined_up}
 use Rattle.solver_sets.specs.Laws as laws
 use Rattle.solver_sets.specs.Alike.{AreAlikeBeside, AreJointSlots, IsBetweenEnabled}
-use Rattle.solver_sets.specs.Ties.{Bond, JointSlots, bonds_of, contact_bond, is_bond_of, is_enabled, is_enabled_in, joint_bonds, joint_ties_at, movers_if, moves, slots_of, tie_of, ties_at, ties_in, ties_of, touching_keys}
+use Rattle.plain_world.specs.Bodies.{moves}
+use Rattle.solver_sets.specs.Ties.{Bond, JointSlots, bonds_of, contact_bond, is_bond_of, is_enabled, is_enabled_in, joint_bonds, joint_ties_at, movers_if, slots_of, tie_of, ties_at, ties_in, ties_of, touching_keys}
 use Rattle.solver_sets.proofs.BondLaws.{IsContactBond, IsJointBond, bond_number, bonds_in, bonds_rise, in_bonds, in_joints, joints_in, joints_rise}
 use Rattle.solver_sets.proofs.JoinLaws.{handle_live, live_at, slots_unjoined}
 use Rattle.solver_sets.proofs.ListLaws.{Rises, filter_in, in_filter, in_map, map_in, map_same, only_one, pairs_from_rises, rises_filter, same_members}

@@ -11,13 +11,14 @@ use Rattle.graph_colours.proofs.Cases.{true_or_false}
 use Rattle.graph_colours.proofs.PlaceLemmas.{is_lower, is_same, not_lower, not_same, same_from}
 use Rattle.contacts.proofs.Members.{IsIn}
 use Rattle.contacts_base.specs.declared.contact.ContactEntry.{ContactEntry}
+use Rattle.sleep_wake.specs.Sleeping.{with_one_name}
 use Rattle.plain_world.specs.declared.body.Body.{Body}
 use Rattle.plain_world.specs.declared.body.SetName.{SetName}
 use Rattle.plain_world.specs.declared.body.SetName.TheVariants as sets
 use Rattle.solver_sets.specs.declared.census.Item.{Item}
 use Rattle.solver_sets.specs.declared.census.Item.TheVariants as items
 use Rattle.solver_sets.specs.Laws as laws
-use Rattle.solver_sets.specs.Census.{AreNamed, Census, Sleepers, Standing, census_in, contact_standings, in_set, in_sleepers, is_same_set, items_of, listed, set_names, names_with, sleepers_of, standing_if, standing_of_contact, standings_from, with_set_name, with_name_of}
+use Rattle.solver_sets.specs.Census.{AreNamed, Census, Sleepers, Standing, census_in, contact_standings, in_set, in_sleepers, is_same_set, items_of, listed, set_names, names_with, sleepers_of, standing_if, standing_of_contact, standings_from, with_name_of}
 use Rattle.solver_sets.specs.CensusListing.{alone, empty_census, listed_in, with_all, with_item, with_listed, with_sleeper}
 use Rattle.solver_sets.proofs.ListLaws.{Rises, pairs_from_rises, rises_from_pairs}
 use Rattle.solver_sets.proofs.ListingLaws.{drop_is, drop_past}
@@ -134,23 +135,23 @@ names-more names (x ∷ xs) s = names-more (with_name_of x.set names) xs s
 
 -- ---- names
 
-in_with_by : (n m y : ℕ) (ms : List ℕ) (t u : Bool) → (IsIn y (with_set_name n ms) → (y ≡ n) ⊎ IsIn y ms) → IsIn y (cond t (m ∷ with_set_name n ms) (cond u (m ∷ ms) (n ∷ m ∷ ms))) → (y ≡ n) ⊎ ((y ≡ m) ⊎ IsIn y ms)
+in_with_by : (n m y : ℕ) (ms : List ℕ) (t u : Bool) → (IsIn y (with_one_name n ms) → (y ≡ n) ⊎ IsIn y ms) → IsIn y (cond t (m ∷ with_one_name n ms) (cond u (m ∷ ms) (n ∷ m ∷ ms))) → (y ≡ n) ⊎ ((y ≡ m) ⊎ IsIn y ms)
 in_with_by n m y ms true u rest h = elim h [ inl p ↦ inr (inl p) | inr q ↦ elim (rest q) [ inl p ↦ inl p | inr r ↦ inr (inr r) ] ]
 in_with_by n m y ms false true rest h = inr h
 in_with_by n m y ms false false rest h = h
 
-pub in_with : (n y : ℕ) (ms : List ℕ) → IsIn y (with_set_name n ms) → (y ≡ n) ⊎ IsIn y ms
+pub in_with : (n y : ℕ) (ms : List ℕ) → IsIn y (with_one_name n ms) → (y ≡ n) ⊎ IsIn y ms
 in_with n y [] h = h
 in_with n y (m ∷ ms) h = in_with_by n m y ms (nat_lt m n) (m == n) (in_with n y ms) h
 
-rise_by : (n m : ℕ) (ms : List ℕ) (t u : Bool) → nat_lt m n ≡ t → (m == n) ≡ u → ((y : ℕ) → IsIn y ms → m < y) → Rises (λ (k : ℕ). k) ms → Rises (λ (k : ℕ). k) (with_set_name n ms) → Rises (λ (k : ℕ). k) (cond t (m ∷ with_set_name n ms) (cond u (m ∷ ms) (n ∷ m ∷ ms)))
+rise_by : (n m : ℕ) (ms : List ℕ) (t u : Bool) → nat_lt m n ≡ t → (m == n) ≡ u → ((y : ℕ) → IsIn y ms → m < y) → Rises (λ (k : ℕ). k) ms → Rises (λ (k : ℕ). k) (with_one_name n ms) → Rises (λ (k : ℕ). k) (cond t (m ∷ with_one_name n ms) (cond u (m ∷ ms) (n ∷ m ∷ ms)))
 rise_by n m ms true u e f all r later = (λ y h. elim (in_with n y ms h) [ inl p ↦ subst (λ (k : ℕ). m < k) (sym p) (ltb-true m n e) | inr q ↦ all y q ], later)
 rise_by n m ms false true e f all r later = (all, r)
 rise_by n m ms false false e f all r later =
     let lt : n < m = apart_above n m (ltb-false m n e) f in
     (λ y h. elim h [ inl p ↦ subst (λ (k : ℕ). n < k) (sym p) lt | inr q ↦ let more : m < y = all y q in omega arith ], (all, r))
 
-rise_with : (n : ℕ) (ms : List ℕ) → Rises (λ (k : ℕ). k) ms → Rises (λ (k : ℕ). k) (with_set_name n ms)
+rise_with : (n : ℕ) (ms : List ℕ) → Rises (λ (k : ℕ). k) ms → Rises (λ (k : ℕ). k) (with_one_name n ms)
 rise_with n [] r = (λ x h. absurd h, tt)
 rise_with n (m ∷ ms) r = rise_by n m ms (nat_lt m n) (m == n) refl refl r.0 r.1 (rise_with n ms r.1)
 
@@ -164,21 +165,21 @@ pub names_rise : (names : List ℕ) (xs : List Standing) → Rises (λ (k : ℕ)
 names_rise names [] r = r
 names_rise names (x ∷ xs) r = names_rise (with_name_of x.set names) xs (rise_with_of x.set names r)
 
-own_by : (n m : ℕ) (ms : List ℕ) (t u : Bool) → (m == n) ≡ u → IsIn n (with_set_name n ms) → IsIn n (cond t (m ∷ with_set_name n ms) (cond u (m ∷ ms) (n ∷ m ∷ ms)))
+own_by : (n m : ℕ) (ms : List ℕ) (t u : Bool) → (m == n) ≡ u → IsIn n (with_one_name n ms) → IsIn n (cond t (m ∷ with_one_name n ms) (cond u (m ∷ ms) (n ∷ m ∷ ms)))
 own_by n m ms true u f rest = inr rest
 own_by n m ms false true f rest = inl (sym (same_from m n f))
 own_by n m ms false false f rest = inl refl
 
-pub own_name : (n : ℕ) (ms : List ℕ) → IsIn n (with_set_name n ms)
+pub own_name : (n : ℕ) (ms : List ℕ) → IsIn n (with_one_name n ms)
 own_name n [] = inl refl
 own_name n (m ∷ ms) = own_by n m ms (nat_lt m n) (m == n) refl (own_name n ms)
 
-kept_by : (n m y : ℕ) (ms : List ℕ) (t u : Bool) → (IsIn y ms → IsIn y (with_set_name n ms)) → (y ≡ m) ⊎ IsIn y ms → IsIn y (cond t (m ∷ with_set_name n ms) (cond u (m ∷ ms) (n ∷ m ∷ ms)))
+kept_by : (n m y : ℕ) (ms : List ℕ) (t u : Bool) → (IsIn y ms → IsIn y (with_one_name n ms)) → (y ≡ m) ⊎ IsIn y ms → IsIn y (cond t (m ∷ with_one_name n ms) (cond u (m ∷ ms) (n ∷ m ∷ ms)))
 kept_by n m y ms true u rest h = elim h [ inl p ↦ inl p | inr q ↦ inr (rest q) ]
 kept_by n m y ms false true rest h = h
 kept_by n m y ms false false rest h = inr h
 
-kept_name : (n y : ℕ) (ms : List ℕ) → IsIn y ms → IsIn y (with_set_name n ms)
+kept_name : (n y : ℕ) (ms : List ℕ) → IsIn y ms → IsIn y (with_one_name n ms)
 kept_name n y [] h = absurd h
 kept_name n y (m ∷ ms) h = kept_by n m y ms (nat_lt m n) (m == n) (kept_name n y ms) h
 
@@ -196,7 +197,7 @@ named_own : (set : SetName) (n : ℕ) (names : List ℕ) → is_same_set (sets.S
 named_own sets.Static n names e = cc
 named_own sets.Disabled n names e = cc
 named_own sets.Awake n names e = cc
-named_own (sets.Sleeping m) n names e = subst (λ (k : ℕ). IsIn k (with_set_name m names)) (sym (same_from n m e)) (own_name m names)
+named_own (sets.Sleeping m) n names e = subst (λ (k : ℕ). IsIn k (with_one_name m names)) (sym (same_from n m e)) (own_name m names)
 
 -- nothing stands in a sleeping set whose name isn't there
 pub unnamed : (names : List ℕ) (xs : List Standing) (n : ℕ) → (IsIn n (names_with names xs) → ⊥) → in_set (sets.Sleeping n) xs ≡ []
@@ -219,8 +220,8 @@ same_later g f n (m ∷ ms) other all =
     ap₂ (λ (l : List Item) (rest : List Sleepers). record { name = m; items = l } ∷ rest) (other m (not_same m n (λ e. absurd (omega arith)))) (same_later g f n ms other (λ k h. all k (inr h)))
 
 more_by : (g f : ℕ → List Item) (n : ℕ) (item : Item) (m : ℕ) (ms : List ℕ) (t u : Bool) → nat_lt m n ≡ t → (m == n) ≡ u → ((y : ℕ) → IsIn y ms → m < y) → ((k : ℕ) → (k == n) ≡ false → f k ≡ g k) → f n ≡ g n ++ item ∷ []
-    → (((n ≡ m) ⊎ IsIn n ms → ⊥) → g n ≡ []) → (((IsIn n ms → ⊥) → g n ≡ []) → map (named f) (with_set_name n ms) ≡ with_sleeper n item (map (named g) ms))
-    → map (named f) (cond t (m ∷ with_set_name n ms) (cond u (m ∷ ms) (n ∷ m ∷ ms))) ≡ cond t (named g m ∷ with_sleeper n item (map (named g) ms)) (cond u (with_item (named g m) item ∷ map (named g) ms) (alone n item ∷ named g m ∷ map (named g) ms))
+    → (((n ≡ m) ⊎ IsIn n ms → ⊥) → g n ≡ []) → (((IsIn n ms → ⊥) → g n ≡ []) → map (named f) (with_one_name n ms) ≡ with_sleeper n item (map (named g) ms))
+    → map (named f) (cond t (m ∷ with_one_name n ms) (cond u (m ∷ ms) (n ∷ m ∷ ms))) ≡ cond t (named g m ∷ with_sleeper n item (map (named g) ms)) (cond u (with_item (named g m) item ∷ map (named g) ms) (alone n item ∷ named g m ∷ map (named g) ms))
 more_by g f n item m ms true u e h all other own none later =
     let lt : m < n = ltb-true m n e in
     ap₂ (λ (l : List Item) (rest : List Sleepers). record { name = m; items = l } ∷ rest) (other m (not_same m n (λ q. absurd (omega arith)))) (later (λ absent. none (λ p. elim p [ inl q ↦ absurd (omega (arith, q, lt)) | inr q ↦ absent q ])))
@@ -233,7 +234,7 @@ more_by g f n item m ms false false e h all other own none later =
     ap₂ (λ (l : List Item) (rest : List Sleepers). record { name = n; items = l } ∷ rest) (own ∙ ap (λ (l : List Item). l ++ item ∷ []) (none absent))
     (same_later g f n (m ∷ ms) other (λ k p. elim p [ inl q ↦ subst (λ (j : ℕ). n < j) (sym q) lt | inr q ↦ let more : m < k = all k q in omega arith ]))
 
-sleeper_more : (g f : ℕ → List Item) (n : ℕ) (item : Item) (ms : List ℕ) → Rises (λ (k : ℕ). k) ms → ((k : ℕ) → (k == n) ≡ false → f k ≡ g k) → f n ≡ g n ++ item ∷ [] → ((IsIn n ms → ⊥) → g n ≡ []) → map (named f) (with_set_name n ms) ≡ with_sleeper n item (map (named g) ms)
+sleeper_more : (g f : ℕ → List Item) (n : ℕ) (item : Item) (ms : List ℕ) → Rises (λ (k : ℕ). k) ms → ((k : ℕ) → (k == n) ≡ false → f k ≡ g k) → f n ≡ g n ++ item ∷ [] → ((IsIn n ms → ⊥) → g n ≡ []) → map (named f) (with_one_name n ms) ≡ with_sleeper n item (map (named g) ms)
 sleeper_more g f n item [] r other own none = ap (λ (l : List Item). record { name = n; items = l } ∷ []) (own ∙ ap (λ (l : List Item). l ++ item ∷ []) (none (λ h. h)))
 sleeper_more g f n item (m ∷ ms) r other own none = more_by g f n item m ms (nat_lt m n) (m == n) refl refl r.0 other own none (sleeper_more g f n item ms r.1 other own)
 

@@ -26,7 +26,7 @@ use Rattle.solver_sets.specs.declared.census.Item.{Item}
 use Rattle.solver_sets.specs.declared.census.Item.TheVariants as items
 use Rattle.solver_sets.specs.Laws as laws
 use Rattle.solver_sets.specs.Census.{Standing, body_standings, census_in, census_of, contact_standing, contact_standings, in_set, is_awake_at, joint_standings, listed, mover_set, set_with, standing_apart, standing_between, standing_if, standing_of_contact, standing_of_joint, standings_from, standings_of}
-use Rattle.solver_sets.specs.EachOnce.{HasSleeper, IsPresent, ListsEachOnce, contact_of, has_key, is_same_shape, list_of, sleeping_names, stand}
+use Rattle.solver_sets.specs.EachOnce.{HasSleeper, IsPresent, ListsEachOnce, contact_of, has_key, is_same_shape, list_of, sleeping_set_names, stand}
 use Rattle.solver_sets.specs.Alike.{OnlyMoversSleep}
 use Rattle.solver_sets.specs.Ties.{JointSlots, is_enabled}
 use Rattle.solver_sets.proofs.BondLaws.{rises_from_keys}
@@ -471,7 +471,7 @@ someone slot_entries bodies s contacts n are name = elim (in_append name.of (bod
 ]
 
 -- and each name under which a body sleeps is there
-sleeper_named : (slot_entries : List SlotEntry) (bodies : List (Option Body)) (s : JointSlots) (contacts : List ContactEntry) (n : ℕ) → AreLists slot_entries bodies s contacts → OnlyMoversSleep bodies → HasSleeper bodies n → IsIn n (sleeping_names (census_in (all slot_entries bodies s contacts)))
+sleeper_named : (slot_entries : List SlotEntry) (bodies : List (Option Body)) (s : JointSlots) (contacts : List ContactEntry) (n : ℕ) → AreLists slot_entries bodies s contacts → OnlyMoversSleep bodies → HasSleeper bodies n → IsIn n (sleeping_set_names (census_in (all slot_entries bodies s contacts)))
 sleeper_named slot_entries bodies s contacts n are only h =
     let there = slot_stands items.Body standing_of slot_entries bodies h.slot h.body are.matched h.there in
     let z : Standing = in_slot items.Body standing_of h.slot there.0 h.body in
@@ -501,8 +501,8 @@ lists_each_once slot_entries bodies s contacts are only =
             contains_from_in (list_of (census_in xs) set) item (subst (λ (l : List Item). IsIn item l) (sym (list_is xs set)) (subst (λ (v : Item). IsIn v (in_set set xs)) z.item (list_in set xs z.of z.there z.set)))),
       );
       names = λ name. (
-        (λ h. someone slot_entries bodies s contacts name are (in_names xs name (in_from_contains (sleeping_names (census_in xs)) name h))),
-        (λ h. contains_from_in (sleeping_names (census_in xs)) name (sleeper_named slot_entries bodies s contacts name are only h)),
+        (λ h. someone slot_entries bodies s contacts name are (in_names xs name (in_from_contains (sleeping_set_names (census_in xs)) name h))),
+        (λ h. contains_from_in (sleeping_set_names (census_in xs)) name (sleeper_named slot_entries bodies s contacts name are only h)),
       );
       ascending = (lists_are_census xs).named;
     }

@@ -10,7 +10,7 @@ use Rattle.plain_world.specs.declared.body.SetName.{SetName}
 use Rattle.plain_world.specs.declared.body.SetName.TheVariants as sets
 use Rattle.solver_sets.specs.declared.census.Item.{Item}
 use Rattle.solver_sets.specs.Census.{Sleepers, Standing, census_in, in_set, in_sleepers, is_same_set, listed, set_names, names_with, sleepers_of, with_name_of}
-use Rattle.solver_sets.specs.EachOnce.{items_named, list_of, sleeping_names}
+use Rattle.solver_sets.specs.EachOnce.{items_named, list_of, sleeping_set_names}
 use Rattle.solver_sets.proofs.CensusLaws.{in_with, names_kept, names_rise, own_name, unnamed}
 use Rattle.solver_sets.proofs.ListLaws.{Rises, filter_in, in_filter, in_mapped, mapped_in}
 
@@ -190,10 +190,10 @@ names_are : (xs : List Standing) (names : List ℕ) → map (λ (s : Sleepers). 
 names_are xs [] = refl
 names_are xs (n ∷ names) = ap (λ (l : List ℕ). n ∷ l) (names_are xs names)
 
-pub in_names : (xs : List Standing) (n : ℕ) → IsIn n (sleeping_names (census_in xs)) → IsNameOf xs n
+pub in_names : (xs : List Standing) (n : ℕ) → IsIn n (sleeping_set_names (census_in xs)) → IsNameOf xs n
 in_names xs n h = elim (name_from [] xs n (subst (λ (l : List ℕ). IsIn n l) (names_are xs (set_names xs)) h)) [ inl p ↦ absurd p | inr o ↦ o ]
 
-pub names_in : (xs : List Standing) (z : Standing) (n : ℕ) → IsIn z xs → z.set ≡ sets.Sleeping n → IsIn n (sleeping_names (census_in xs))
+pub names_in : (xs : List Standing) (z : Standing) (n : ℕ) → IsIn z xs → z.set ≡ sets.Sleeping n → IsIn n (sleeping_set_names (census_in xs))
 names_in xs z n h e = subst (λ (l : List ℕ). IsIn n l) (sym (names_are xs (set_names xs))) (name_there [] xs z n h e)
 
 -- ---- the list of each set is what stands in it

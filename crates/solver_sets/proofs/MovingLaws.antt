@@ -26,7 +26,8 @@ use Rattle.sleep_wake.specs.Acting.{Acting, IsConsistent, are_awake, awake_label
 use Rattle.solver_sets.specs.Beside.{is_beside_moving, is_joined_to_moving, is_moving_at, is_moving_in, is_stirred_between, is_touched_by_moving}
 use Rattle.solver_sets.specs.BesideByTies.{is_to_moving, ties_to_moving}
 use Rattle.solver_sets.specs.Laws as laws
-use Rattle.solver_sets.specs.Ties.{Bond, JointSlots, bonds_of, contact_bond, is_enabled, is_enabled_in, is_mover_in, joint_bond, movers_if, movers_with, moves, tie_of, tie_with, ties_of}
+use Rattle.plain_world.specs.Bodies.{is_mover_in, moves}
+use Rattle.solver_sets.specs.Ties.{Bond, JointSlots, bonds_of, contact_bond, is_enabled, is_enabled_in, joint_bond, movers_if, movers_with, tie_of, tie_with, ties_of}
 use Rattle.solver_sets.proofs.AmongLaws.{if_both, movers_enabled}
 use Rattle.solver_sets.proofs.BondLaws.{IsContactBond, IsJointBond, bonds_in, in_bonds}
 use Rattle.solver_sets.proofs.ListLaws.{in_map, map_in}

@@ -14,8 +14,8 @@ use Rattle.plain_world.specs.Slots.{body_at}
 use Rattle.solver_sets.specs.Laws as laws
 use Rattle.solver_sets.specs.Slept.{asleep_only_in, handles_where, is_asleep_label, sleeps}
 use Rattle.solver_sets.specs.SinceTold.{handle_if, is_asleep_in, newly_asleep, newly_awake, was_asleep}
-use Rattle.solver_sets.specs.Alike.{AreTold}
-use Rattle.solver_sets.specs.Ties.{is_mover_in}
+use Rattle.solver_sets.specs.Alike.{AreTiedAndTold}
+use Rattle.plain_world.specs.Bodies.{is_mover_in}
 
 -- ---- the handles of some slots alone, among which are all that pass
 
@@ -88,7 +88,7 @@ no_label : (o : Option Label) → is_some o ≡ false → is_asleep_label o ≡ 
 no_label None e = refl
 no_label (Some l) e = cc
 
-told_tells : (bodies : List (Option Body)) (old : Labels) (slot : ℕ) → AreTold bodies old → was_asleep bodies slot ≡ sleeps old slot
+told_tells : (bodies : List (Option Body)) (old : Labels) (slot : ℕ) → AreTiedAndTold bodies old → was_asleep bodies slot ≡ sleeps old slot
 told_tells bodies old slot t = by_body (body_at bodies slot) refl
   where
     by_body : (o : Option Body) → body_at bodies slot ≡ o → is_asleep_in o ≡ is_asleep_label (label_at old slot)

@@ -19,7 +19,8 @@ use Rattle.plain_world.specs.declared.body.Body.{Body}
 use Rattle.plain_world.specs.declared.joint.BodyJoint.{BodyJoint}
 use Rattle.solver_sets.specs.Laws as laws
 use Rattle.solver_sets.specs.Alike.{AreJointSlots, HaveSameEnds, ends_in}
-use Rattle.solver_sets.specs.Ties.{Bond, IsKeyWithin, IsConstraintWithin, JointSlots, Lists, bond_before, bonds_of, contact_bond, is_enabled, joint_bonds, joint_bonds_from, member_of, members_of, movers_if, movers_of, movers_with, moves, tie_of, tie_with, ties_in, ties_of, touching_keys}
+use Rattle.plain_world.specs.Bodies.{moves}
+use Rattle.solver_sets.specs.Ties.{Bond, IsKeyWithin, IsConstraintWithin, JointSlots, Lists, bond_before, bonds_of, contact_bond, is_enabled, joint_bonds, joint_bonds_from, member_of, members_of, movers_if, movers_of, movers_with, tie_of, tie_with, ties_in, ties_of, touching_keys}
 use Rattle.solver_sets.proofs.BondLaws.{IsContactBond, IsJointBond, bond_number, bonds_rise, in_bonds, place_is}
 use Rattle.solver_sets.proofs.ListLaws.{ComesOf, Rises, in_map, map_in, map_same, pairs_from_rises, rises_map}
 

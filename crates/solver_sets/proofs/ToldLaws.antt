@@ -5,11 +5,11 @@ use Rattle.std.proofs.lemmas.Option.{none-some, same_Some}
 use Rattle.islands.specs.declared.label.Label.{Label}
 use Rattle.islands.specs.Labels.{Labels, label_at, sleeping_name}
 use Rattle.plain_world.specs.declared.body.Body.{Body}
-use Rattle.plain_world.specs.Bodies.{is_mover}
+use Rattle.plain_world.specs.Bodies.{is_mover, is_mover_in}
 use Rattle.plain_world.specs.Sleep.{roused, told, told_body, told_by, told_from}
 use Rattle.plain_world.specs.Slots.{body_at}
 use Rattle.solver_sets.specs.Laws as laws
-use Rattle.solver_sets.specs.Ties.{is_enabled_in, is_mover_in}
+use Rattle.solver_sets.specs.Ties.{is_enabled_in}
 
 -- ---- one body
 

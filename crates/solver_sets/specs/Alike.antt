@@ -5,15 +5,15 @@ use Rattle.contacts_base.specs.declared.contact.ContactEntry.{ContactEntry}
 use Rattle.islands.specs.Labels.{Labels, label_at, sleeping_name}
 use Rattle.plain_world.specs.declared.body.Body.{Body}
 use Rattle.plain_world.specs.declared.joint.BodyJoint.{BodyJoint}
-use Rattle.plain_world.specs.Bodies.{is_mover}
+use Rattle.plain_world.specs.Bodies.{is_mover, moves}
 use Rattle.plain_world.specs.Slots.{AreMatched, body_at}
-use Rattle.solver_sets.specs.Ties.{JointSlots, is_enabled, moves}
+use Rattle.solver_sets.specs.Ties.{JointSlots, is_enabled}
 use Rattle.solver_sets.specs.Tied.{AreTied}
 
 -- ---- bodies and labels
 
 -- and each body sleeps just if its label does, under that name
-pub record AreTold (bodies : List (Option Body)) (labels : Labels) : Type 0 where
+pub record AreTiedAndTold (bodies : List (Option Body)) (labels : Labels) : Type 0 where
   pub tied : AreTied bodies labels
   pub asleep : (slot : ℕ) (b : Body) → body_at bodies slot ≡ Some b → b.asleep ≡ sleeping_name (label_at labels slot)
 

@@ -5,10 +5,9 @@ use Rattle.contacts_base.specs.declared.contact.ContactEntry.{ContactEntry}
 use Rattle.contacts_base.specs.Evaluate.{touches}
 use Rattle.plain_world.specs.declared.body.Body.{Body}
 use Rattle.plain_world.specs.declared.joint.BodyJoint.{BodyJoint}
-use Rattle.plain_world.specs.Bodies.{is_mover}
+use Rattle.plain_world.specs.Bodies.{is_mover, moves}
 use Rattle.plain_world.specs.Kinds.{carried_by, is_moving}
 use Rattle.plain_world.specs.Slots.{body_at}
-use Rattle.solver_sets.specs.Ties.{moves}
 
 -- ---- which movers are beside a body
 

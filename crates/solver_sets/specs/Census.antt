@@ -1,10 +1,11 @@
 -- The census: for each solver set the bodies, joints and contacts that stand in it.
-use Rattle.std.specs.Prelude.{◌≡◌, ℕ, suc, ◌<◌, ◌==◌, ◌&&◌, ◌||◌, Bool, true, false, cond, nat_lt, List, [], ◌∷◌, ◌++◌, filter, map, Option, Some, None}
+use Rattle.std.specs.Prelude.{◌≡◌, ℕ, suc, ◌<◌, ◌==◌, ◌&&◌, ◌||◌, Bool, true, false, cond, List, [], ◌∷◌, ◌++◌, filter, map, Option, Some, None}
 use Rattle.std.specs.List.{AllPairs, cons_option, count_by}
 use Rattle.body_handles.specs.declared.handle.Handle.{Handle}
 use Rattle.body_handles.specs.declared.slot_table.SlotEntry.{SlotEntry}
 use Rattle.contacts_base.specs.declared.contact.ContactEntry.{ContactEntry}
 use Rattle.contacts_base.specs.Evaluate.{touches}
+use Rattle.sleep_wake.specs.Sleeping.{with_one_name}
 use Rattle.plain_world.specs.declared.body.Body.{Body}
 use Rattle.plain_world.specs.declared.body.SetName.{SetName}
 use Rattle.plain_world.specs.declared.body.SetName.TheVariants as sets
@@ -97,13 +98,9 @@ pub record Sleepers : Type 0 where
   pub name : ℕ
   pub items : List Item
 
--- a name among others, which ascend, each once
-abbrev pub with_set_name : ℕ → List ℕ → List ℕ
-with_set_name name [] = name ∷ []
-with_set_name name (n ∷ names) = cond (nat_lt n name) (n ∷ with_set_name name names) (cond (n == name) (n ∷ names) (name ∷ n ∷ names))
-
+-- the names with that of this set, if it sleeps; they ascend, each once
 abbrev pub with_name_of : SetName → List ℕ → List ℕ
-with_name_of (sets.Sleeping name) names = with_set_name name names
+with_name_of (sets.Sleeping name) names = with_one_name name names
 with_name_of set names = names
 
 abbrev pub names_with : List ℕ → List Standing → List ℕ

@@ -57,8 +57,8 @@ list_of c sets.Awake = c.awake
 list_of c (sets.Sleeping name) = items_named c.sleeping name
 
 -- the names of its sleeping sets
-abbrev pub sleeping_names : Census → List ℕ
-sleeping_names c = map (λ (s : Sleepers). s.name) c.sleeping
+abbrev pub sleeping_set_names : Census → List ℕ
+sleeping_set_names c = map (λ (s : Sleepers). s.name) c.sleeping
 
 -- some body sleeps under this name
 pub record HasSleeper (bodies : List (Option Body)) (name : ℕ) : Type 0 where
@@ -73,5 +73,5 @@ pub record ListsEachOnce (slot_entries : List SlotEntry) (bodies : List (Option 
   pub once : AllPairs (λ (a b : Item). a ≢ b) (listed c)
   pub present : (item : Item) → Contains (listed c) item ↔ IsPresent slot_entries s contacts item
   pub stands : (set : SetName) (item : Item) → Contains (list_of c set) item ↔ (stand slot_entries bodies s contacts item ≡ Some set)
-  pub names : (name : ℕ) → Contains (sleeping_names c) name ↔ HasSleeper bodies name
+  pub names : (name : ℕ) → Contains (sleeping_set_names c) name ↔ HasSleeper bodies name
   pub ascending : AreNamed c.sleeping

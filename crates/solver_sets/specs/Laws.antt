@@ -34,8 +34,9 @@ use Rattle.solver_sets.specs.Joining.{handle_at, joined_with, unjoined, unjoined
 use Rattle.solver_sets.specs.Slept.{asleep_only_in}
 use Rattle.solver_sets.specs.SinceTold.{newly_asleep, newly_awake}
 use Rattle.solver_sets.specs.Tied.{AreTied}
-use Rattle.solver_sets.specs.Alike.{AreAlike, AreAlikeBeside, AreJointSlots, AreTold, HaveSameEnds, IsBetweenEnabled, OnlyMoversSleep}
-use Rattle.solver_sets.specs.Ties.{IsKeyWithin, IsConstraintWithin, JointSlots, Lists, is_enabled, joint_movers, joint_ties_at, key_changes, members_of, movers_with, moves, slots_of, ties_at, ties_of, touching_keys}
+use Rattle.solver_sets.specs.Alike.{AreAlike, AreAlikeBeside, AreJointSlots, AreTiedAndTold, HaveSameEnds, IsBetweenEnabled, OnlyMoversSleep}
+use Rattle.plain_world.specs.Bodies.{moves}
+use Rattle.solver_sets.specs.Ties.{IsKeyWithin, IsConstraintWithin, JointSlots, Lists, is_enabled, joint_movers, joint_ties_at, key_changes, members_of, movers_with, slots_of, ties_at, ties_of, touching_keys}
 
 -- ---- what ties are
 
@@ -90,11 +91,11 @@ abbrev pub TellingKeepsTies : Type 0
 TellingKeepsTies = (bodies : List (Option Body)) (labels : Labels) → AreAlike bodies (told labels bodies)
 
 abbrev pub ToldAreTold : Type 0
-ToldAreTold = (bodies : List (Option Body)) (labels : Labels) → AreTied bodies labels → OnlyMoversSleep bodies → AreTold (told labels bodies) labels
+ToldAreTold = (bodies : List (Option Body)) (labels : Labels) → AreTied bodies labels → OnlyMoversSleep bodies → AreTiedAndTold (told labels bodies) labels
 
 -- bodies that were told labels fall asleep and wake as these and the labels now differ
 abbrev pub ToldBodiesTell : Type 0
-ToldBodiesTell = (slot_entries : List SlotEntry) (bodies : List (Option Body)) (old labels : Labels) → AreTold bodies old → (newly_asleep slot_entries bodies labels ≡ asleep_only_in slot_entries old labels) × (newly_awake slot_entries bodies labels ≡ asleep_only_in slot_entries labels old)
+ToldBodiesTell = (slot_entries : List SlotEntry) (bodies : List (Option Body)) (old labels : Labels) → AreTiedAndTold bodies old → (newly_asleep slot_entries bodies labels ≡ asleep_only_in slot_entries old labels) × (newly_awake slot_entries bodies labels ≡ asleep_only_in slot_entries labels old)
 
 -- ---- who is beside a body that moves
 

@@ -2,7 +2,7 @@
 use Rattle.std.specs.Prelude.{◌≡◌, ℕ, List, Option, is_some}
 use Rattle.islands.specs.Labels.{Labels, label_at}
 use Rattle.plain_world.specs.declared.body.Body.{Body}
-use Rattle.solver_sets.specs.Ties.{moves}
+use Rattle.plain_world.specs.Bodies.{moves}
 
 -- just the movers have labels
 abbrev pub AreTied : List (Option Body) → Labels → Type 0

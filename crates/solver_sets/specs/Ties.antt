@@ -17,7 +17,7 @@ use Rattle.sleep_wake.specs.declared.change.Change.TheVariants.{End}
 use Rattle.sleep_wake.specs.Changes.{begins_inserted, begun, ended}
 use Rattle.plain_world.specs.declared.body.Body.{Body}
 use Rattle.plain_world.specs.declared.joint.BodyJoint.{BodyJoint}
-use Rattle.plain_world.specs.Bodies.{is_mover}
+use Rattle.plain_world.specs.Bodies.{moves}
 use Rattle.plain_world.specs.Joints.{joint_at}
 use Rattle.plain_world.specs.Slots.{body_at}
 
@@ -35,17 +35,9 @@ slots_of slot_entries joints = record { slot_entries = slot_entries; joints = jo
 
 -- ---- movers
 
-abbrev pub is_mover_in : Option Body → Bool
-is_mover_in None = false
-is_mover_in (Some b) = is_mover b
-
 abbrev pub is_enabled_in : Option Body → Bool
 is_enabled_in None = false
 is_enabled_in (Some b) = b.enabled
-
--- a mover is in the slot
-abbrev pub moves : List (Option Body) → ℕ → Bool
-moves bodies slot = is_mover_in (body_at bodies slot)
 
 -- an enabled body is in the slot
 abbrev pub is_enabled : List (Option Body) → ℕ → Bool

@@ -111,13 +111,14 @@ fn clear_each(lists: &mut Vec<Vec<u128>>) {
     }
 }
 
-/// Gives a list's memory away.
+/// Takes a list's memory, and leaves an empty one.
 fn take_room(room: &mut Vec<Member<Constraint>>) -> Vec<Member<Constraint>> {
     let alloc = *room.allocator();
     mem::replace(room, Vec::new(alloc))
 }
 
-/// Makes the lists anew, unless they are kept. Answers whether they hold then: not where memory is wanting. The constraints are listed in the memory of `room`, which is kept.
+/// Makes the lists anew, unless they are kept. Answers whether they hold then: not where memory is wanting. The constraints are listed in the memory
+/// of `room`, which is kept.
 pub(crate) fn rebuild(
     lists: &mut Vec<Vec<u128>>,
     room: &mut Vec<Member<Constraint>>,

@@ -19,8 +19,8 @@ use sleep_wake::{Change, Sets};
 use std::alloc::Global;
 use std::marker::Model;
 
-/// By slot the numbers of the contacts of which the body there is the anchor, and of others that have ended. Contracts see the lists, and whether they
-/// hold: where memory was wanting they don't, until [`Anchors::renew`] makes them anew, and a question goes over all constraints.
+/// By slot the numbers of the contacts of which the body there is the anchor, and of others that have ended. Contracts see the lists, and whether
+/// they hold: where memory was wanting they don't, until [`Anchors::renew`] makes them anew, and a question goes over all constraints.
 #[derive(Drop)]
 pub struct Anchors {
     lists: Vec<Vec<u128>>,
@@ -39,8 +39,8 @@ impl Model for Anchors {
     ghost view = { λ a. record { holds = a.holds; lists = lists_of a.lists.items } };
 }
 
-/// Whether lists that hold are kept: so many numbers in so many lists, while there are so many constraints. They aren't where there are more than twice
-/// as many numbers as constraints, and one for each list beside.
+/// Whether lists that hold are kept: so many numbers in so many lists, while there are so many constraints. They aren't where there are more than
+/// twice as many numbers as constraints, and one for each list beside.
 fn are_kept(holds: bool, listed: usize, lists: usize, ties: usize) -> bool
     ensures { result ≡ true → holds ≡ true }
 {
@@ -73,10 +73,10 @@ impl Anchors {
         }
     }
 
-    /// Makes the lists anew of all constraints of the sets where they don't hold, or have come to be far more than these, as far as there is memory. What that costs
-    /// is paid for by what began before.
+    /// Makes the lists anew of all constraints of the sets where they don't hold, or have come to be far more than these, as far as there is memory.
+    /// What that costs is paid for by what began before.
     pub fn renew(&mut self, sets: &Sets<Constraint>)
-        ensures told { AreComplete self.old.holds self.old.lists sets.now.acting.ties → AreComplete self.new.holds self.new.lists sets.now.acting.ties }
+        ensures complete { AreComplete self.old.holds self.old.lists sets.now.acting.ties → AreComplete self.new.holds self.new.lists sets.now.acting.ties }
     {
         let ties = sets.tie_count();
         let kept = are_kept(self.holds, self.listed, self.lists.len(), ties);
@@ -86,7 +86,7 @@ impl Anchors {
 
     /// Lists the contacts that begin among these changes. Where memory is wanting, the lists hold no longer.
     pub fn add_each(&mut self, changes: &[Change<Constraint>])
-        ensures told { (ties : List (TheMember TheConstraint)) → AreComplete self.old.holds self.old.lists ties → AreComplete self.new.holds self.new.lists (ties ++ begins_of changes.now) }
+        ensures complete { (ties : List (TheMember TheConstraint)) → AreComplete self.old.holds self.old.lists ties → AreComplete self.new.holds self.new.lists (ties ++ begins_of changes.now) }
     {
         self.listed = self.listed.saturating_add(changes.len());
         self.holds = list_begins(&mut self.lists, self.holds, changes);
@@ -114,7 +114,7 @@ impl Anchors {
 
     /// Takes out of the list of a slot what has ended, as far as there is memory, so that a question finds it but once.
     pub fn tidy(&mut self, sets: &Sets<Constraint>, slot: u32)
-        ensures told { AreComplete self.old.holds self.old.lists sets.now.acting.ties → AreComplete self.new.holds self.new.lists sets.now.acting.ties }
+        ensures complete { AreComplete self.old.holds self.old.lists sets.now.acting.ties → AreComplete self.new.holds self.new.lists sets.now.acting.ties }
     {
         sets.know_consistent();
         tidy(&mut self.lists, sets, slot);

@@ -1,6 +1,6 @@
 //! The ties of a plain world and the members of its colours, as its lists make them.
 
-ghost use Rattle.std.specs.Prelude.{◌≡◌, ◌<◌, ◌+◌, ◌++◌, ◌^◌, IfOk, length};
+ghost use Rattle.std.specs.Prelude.{◌≡◌, ◌<◌, ◌+◌, ◌^◌, IfOk, length};
 ghost use Rattle.std.specs.List.{filter_map};
 ghost use Rattle.std.specs.Option.{option_copied};
 ghost use Rattle.std.specs.Result.{IsOkUnless};
@@ -10,7 +10,7 @@ ghost use Rattle.plain_world.specs.Slots.{AreMatched};
 ghost use Rattle.solver_sets.specs.Given.{contact_tie_in, joint_tie_in, joints_alone};
 ghost use Rattle.solver_sets.specs.Ties.{joint_bonds, member_of, members_of, movers_of, slots_of, ties_in, ties_of};
 
-use crate::ties::{contact_movers, joint_movers, tie_with};
+use crate::ties::{contact_movers, joint_movers, joint_tie, tie_with};
 use body_handles::{Handle, SlotEntry};
 use contacts::Constraint;
 use contacts_base::ContactEntry;
@@ -21,7 +21,7 @@ use sleep_wake::push_some;
 use std::alloc::Global;
 
 /// The tie of what is in a joint's slot, if it is one.
-fn joint_tie(
+fn joint_tie_in(
     bodies: &[Option<Body>],
     handle: Handle,
     joint: Option<&BodyJoint>,
@@ -30,7 +30,7 @@ fn joint_tie(
 {
     match joint {
         None => None,
-        Some(joint) => tie_with(Constraint::Joint(handle), joint_movers(bodies, joint)),
+        Some(joint) => joint_tie(bodies, handle, joint),
     }
 }
 
@@ -65,7 +65,10 @@ fn list_joints(
             slot: index as u32,
             generation: slot_entries[index].generation,
         };
-        push_some(&mut ties, joint_tie(bodies, handle, joints[index].as_ref()))?;
+        push_some(
+            &mut ties,
+            joint_tie_in(bodies, handle, joints[index].as_ref()),
+        )?;
     }
     Ok(ties)
 }

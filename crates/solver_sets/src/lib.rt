@@ -29,5 +29,5 @@ pub use census::{Census, Item, SleepingSet, standing_of_contact, standing_of_joi
 pub use changes::list_changes;
 pub use given::{count_members, list_all_ties, list_members};
 pub use slept::{fill_newly_asleep, fill_newly_awake};
-pub use ties::{contact_movers, is_mover_at, joint_movers, movers_with, tie_with};
+pub use ties::{contact_movers, is_mover_at, joint_movers, joint_tie, movers_with, tie_with};
 pub use timers::{fill_awake_timers, is_moving_at};

@@ -1,14 +1,14 @@
 //! Which bodies have fallen asleep or woken since they were told last.
 
-ghost use Rattle.std.specs.Prelude.{◌≡◌, ◌≤◌, ◌<◌, ◌+◌, ◌++◌, ◌&&◌, ℕ, Contains, not, length, slice_get, true, vec_len, vec_capacity};
+ghost use Rattle.std.specs.Prelude.{◌≡◌, ◌≤◌, ◌&&◌, ℕ, Contains, not, length, slice_get, true, vec_capacity};
 ghost use Rattle.std.specs.List.Sorted.{IsStrictlyIncreasing};
-ghost use Rattle.std.specs.Option.{option_to_list};
 ghost use Rattle.solver_sets.specs.Slept.{sleeps};
 ghost use Rattle.solver_sets.specs.SinceTold.{handle_if, newly_asleep, newly_awake, was_asleep};
 
 use body_handles::{Handle, SlotEntry};
 use islands::Islands;
 use plain_world::{Body, item_at};
+use sleep_wake::put_some;
 
 /// Whether the mover in the slot sleeps.
 fn sleeps(islands: &Islands, slot: u32) -> bool
@@ -87,18 +87,6 @@ fn newly_awake_at(
     handle_if(slot_entries, slot, is_newly_awake(bodies, islands, slot))
 }
 
-/// Adds a handle, if there is one. There is room.
-fn push_some(handles: &mut Vec<Handle>, handle: Option<Handle>)
-    requires { vec_len handles.old < vec_capacity handles.old }
-    ensures items { handles.new.items ≡ handles.old.items ++ option_to_list handle }
-    ensures len { vec_len handles.new ≤ vec_len handles.old + 1 }
-    ensures capacity { vec_capacity handles.old ≤ vec_capacity handles.new }
-{
-    if let Some(handle) = handle {
-        let _ = handles.push(handle);
-    }
-}
-
 /// Lists who sleeps and wasn't told so yet, ascending. Each of them is in one of the slots `awake`, of those who were awake before, so that it
 /// costs by their number. There is room for as many handles as there are such slots.
 #[tactic(auto, unfolding(crate::specs::SinceTold::newly_asleep))]
@@ -117,7 +105,7 @@ pub fn fill_newly_asleep(
 {
     handles.clear();
     for place in 0..awake.len() {
-        push_some(
+        put_some(
             handles,
             newly_asleep_at(slot_entries, bodies, islands, awake[place]),
         );
@@ -142,7 +130,7 @@ pub fn fill_newly_awake(
 {
     handles.clear();
     for place in 0..asleep.len() {
-        push_some(
+        put_some(
             handles,
             newly_awake_at(slot_entries, bodies, islands, asleep[place]),
         );

@@ -1,8 +1,10 @@
 //! The movers of joints and contacts, and what constraint each is.
 
 ghost use Rattle.std.specs.Prelude.{◌≡◌, ◌&&◌};
-ghost use Rattle.solver_sets.specs.Ties.{contact_movers, is_enabled, joint_movers, movers_if, movers_with, moves, tie_with};
+ghost use Rattle.plain_world.specs.Bodies.{moves};
+ghost use Rattle.solver_sets.specs.Ties.{contact_movers, is_enabled, joint_movers, movers_if, movers_with, tie_with};
 
+use body_handles::Handle;
 use contacts::Constraint;
 use contacts_base::ContactKey;
 use graph_colours::{Member, Movers};
@@ -82,4 +84,16 @@ pub fn tie_with(id: Constraint, movers: Option<Movers>) -> Option<Member<Constra
         None => None,
         Some(movers) => Some(Member { id, movers }),
     }
+}
+
+/// The constraint that a joint is, with its movers, if it has any.
+#[inline(always)]
+pub fn joint_tie(
+    bodies: &[Option<Body>],
+    handle: Handle,
+    joint: &BodyJoint,
+) -> Option<Member<Constraint>>
+    ensures { result ≡ tie_with (Constraint.Joint handle) (joint_movers bodies.now joint.now) }
+{
+    tie_with(Constraint::Joint(handle), joint_movers(bodies, joint))
 }

@@ -17,12 +17,12 @@ use Rattle.graph_colours.specs.Movers.{is_slot}
 use Rattle.graph_colours.proofs.PlaceLemmas.{is_same, not_same, same_from}
 use Rattle.plain_world.specs.declared.body.Body.{Body}
 use Rattle.plain_world.specs.declared.joint.BodyJoint.{BodyJoint}
-use Rattle.plain_world.specs.Bodies.{is_mover}
+use Rattle.plain_world.specs.Bodies.{is_mover, is_mover_in, moves}
 use Rattle.plain_world.specs.Slots.{AreMatched, body_at}
 use Rattle.sleep_wake.specs.Acting.{Acting}
 use Rattle.solver_sets.specs.Beside.{stirred_by, stirred_if}
 use Rattle.solver_sets.specs.BesideByTies.{first_movers, stirred_among}
-use Rattle.solver_sets.specs.Ties.{Bond, JointSlots, bonds_of, contact_bond, is_bond_of, is_enabled, is_enabled_in, is_mover_in, joint_bonds, joint_bonds_from, joint_ties_at, movers_if, movers_with, moves, tie_of, tie_with, ties_at, ties_in, ties_of, touching_keys}
+use Rattle.solver_sets.specs.Ties.{Bond, JointSlots, bonds_of, contact_bond, is_bond_of, is_enabled, is_enabled_in, joint_bonds, joint_bonds_from, joint_ties_at, movers_if, movers_with, tie_of, tie_with, ties_at, ties_in, ties_of, touching_keys}
 use Rattle.solver_sets.proofs.AmongLaws.{stirred_picked, ties_picked}
 use Rattle.solver_sets.proofs.ListingLaws.{filter_append}
 use Rattle.world_rules.specs.Sets.{acting_of}

@@ -1,5 +1,5 @@
 -- The shapes that a collide reads, contacts that are dropped, and bodies that joints keep apart.
-use Rattle.std.proofs.Common.{◌≡◌, ℕ, ◌<◌, ◌≤◌, List, [], ◌∷◌, length, map, Option, Some, None, Bool, true, false, cond, refl, Result, Ok, Err}
+use Rattle.std.proofs.Common.{◌≡◌, ◌&&◌, ℕ, ◌<◌, ◌≤◌, List, [], ◌∷◌, length, map, Option, Some, None, Bool, true, false, cond, refl, Result, Ok, Err}
 use Rattle.std.specs.Prelude.{nat_le, filter, IfOk}
 use Rattle.std.specs.List.{list_all}
 use Rattle.std.proofs.lemmas.Bool.{leb-true}
@@ -36,7 +36,7 @@ filter_rises p (e ∷ es) h = rise_step (p e) e (filter p es) (filter_each p (nu
 
 -- ---- a body has eight shapes at most
 
-count_if : (few some forms : Bool) → cond some (cond few forms false) false ≡ true → few ≡ true
+count_if : (few some forms : Bool) → ((some && few) && forms) ≡ true → few ≡ true
 count_if true some forms e = refl
 count_if false true forms e = cc
 count_if false false forms e = cc

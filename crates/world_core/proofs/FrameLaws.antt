@@ -1,5 +1,5 @@
 -- What a frame of a sound world shows is formed as the world's bodies are.
-use Rattle.std.proofs.Common.{◌≡◌, ℕ, zero, suc, ◌<◌, ◌≤◌, ◌^◌, Bool, true, false, cond, nat_le, All, List, [], ◌∷◌, ◌++◌, length, Option, Some, None, get_or, inl, inr, refl, sym, ap, ◌∙◌, subst, arith, length-append}
+use Rattle.std.proofs.Common.{◌≡◌, ◌&&◌, ℕ, zero, suc, ◌<◌, ◌≤◌, ◌^◌, Bool, true, false, cond, nat_le, All, List, [], ◌∷◌, ◌++◌, length, Option, Some, None, get_or, inl, inr, refl, sym, ap, ◌∙◌, subst, arith, length-append}
 use Rattle.std.specs.Prelude.{slice_get}
 use Rattle.std.specs.List.{list_all}
 use Rattle.std.proofs.lemmas.Bool.{cases_lt, leb-true}
@@ -68,7 +68,7 @@ shown_in slot_entries bodies (suc n) slot h =
 
 -- ---- a body that is shown
 
-some_if : (few some forms : Bool) → cond some (cond few forms false) false ≡ true → some ≡ true
+some_if : (few some forms : Bool) → ((some && few) && forms) ≡ true → some ≡ true
 some_if few true forms e = refl
 some_if few false forms e = cc
 

@@ -7,7 +7,7 @@ use Rattle.graph_colours.specs.declared.member.Member.{Member}
 use Rattle.graph_colours.specs.Movers.{has_mover}
 use Rattle.islands.specs.Labels.{Labels}
 use Rattle.plain_world.specs.declared.body.Body.{Body}
-use Rattle.plain_world.specs.Bodies.{is_mover}
+use Rattle.plain_world.specs.Bodies.{is_mover, is_mover_in}
 use Rattle.plain_world.specs.Sleep.{told}
 use Rattle.sleep_wake.specs.Acting.{Acting, is_mover_awake}
 use Rattle.sleep_wake.specs.Bodies.{mover_gone}
@@ -15,7 +15,7 @@ use Rattle.sleep_wake.specs.Changes.{each_ended}
 use Rattle.sleep_wake.specs.ChangeLists.{CanEnd}
 use Rattle.sleep_wake.specs.Sleeping.{islands_woken, sleeping_names}
 use Rattle.solver_sets.specs.Beside.{stirred_by}
-use Rattle.solver_sets.specs.Ties.{is_mover_in, ties_at}
+use Rattle.solver_sets.specs.Ties.{ties_at}
 use Rattle.world_rules.specs.World.{World, body_named, joints_in_slots}
 use Rattle.world_rules.proofs.KeptChanges.{named_at}
 use Rattle.world_rules.proofs.PartsLeft.{stirred_slots, woken_bodies}

@@ -128,9 +128,9 @@ bounce_within : (k : ℕ) (restitution : ℤ) (start : Ends) (c : Contact) (e : 
 unfolding contact_bounced
 bounce_within k restitution start c e le h = first_within k (point_bounced restitution start) c e c.first (λ p e. point_bounced_within k restitution start p e le) h
 
--- ---- the turns of a pass
+-- ---- the visits of a pass
 
--- a turn leaves the momenta of its two bodies within the bound
+-- a visit leaves the momenta of its two bodies within the bound
 pub record KeepsWithin (k : ℕ) (f : Visits) : Type 0 where
   pub joint : (j : Joint) (start now : Ends) → AreEndsWithin k now → AreEndsWithin k (f.joint j start now).ends
   pub contact : (c : ContactEntry) (start now : Ends) → AreEndsWithin k now → AreEndsWithin k (f.contact c start now).ends

@@ -18,7 +18,7 @@ use Rattle.islands.specs.Partition.{IsPartition}
 use Rattle.islands.proofs.JoinLemmas.{contains_head}
 use Rattle.islands.proofs.LabelLemmas.{either_case, either_one, either_to, others_stay, rest_of, rest_stays}
 use Rattle.plain_world.specs.declared.body.Body.{Body}
-use Rattle.plain_world.specs.Bodies.{AreBodies, is_mover}
+use Rattle.plain_world.specs.Bodies.{AreBodies, is_mover, is_mover_in, moves}
 use Rattle.plain_world.specs.Changes.{changed_at, disabled_body}
 use Rattle.plain_world.specs.Joints.{idle_joints}
 use Rattle.plain_world.specs.Sleep.{told}
@@ -30,7 +30,7 @@ use Rattle.sleep_wake.specs.ChangeLists.{CanEnd}
 use Rattle.sleep_wake.proofs.AwakeLemmas.{awake_as}
 use Rattle.sleep_wake.proofs.FoldLemmas.{are_up, end_next}
 use Rattle.solver_sets.specs.Joining.{unjoined_all}
-use Rattle.solver_sets.specs.Ties.{is_mover_in, moves, ties_at}
+use Rattle.solver_sets.specs.Ties.{ties_at}
 use Rattle.world_rules.specs.Apply.{departed, destroyed, disabled}
 use Rattle.world_rules.specs.Sets.{acting_of, body_gone, stirred, ties_ended}
 use Rattle.world_rules.specs.Sound.{AreTold}

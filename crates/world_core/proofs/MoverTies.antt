@@ -10,7 +10,8 @@ use Rattle.graph_colours.specs.Movers.{has_mover}
 use Rattle.graph_colours.proofs.PlaceLemmas.{same_from}
 use Rattle.plain_world.specs.declared.body.Body.{Body}
 use Rattle.sleep_wake.specs.Acting.{Acting}
-use Rattle.solver_sets.specs.Ties.{Bond, JointSlots, bonds_of, is_bond_of, is_enabled, movers_if, movers_with, moves, tie_of, tie_with, ties_at, ties_in, ties_of}
+use Rattle.plain_world.specs.Bodies.{moves}
+use Rattle.solver_sets.specs.Ties.{Bond, JointSlots, bonds_of, is_bond_of, is_enabled, movers_if, movers_with, tie_of, tie_with, ties_at, ties_in, ties_of}
 use Rattle.world_rules.specs.Sets.{acting_of}
 use Rattle.world_rules.specs.World.{World, joints_in_slots}
 use Rattle.world_core.specs.Inside.{IsWhole}

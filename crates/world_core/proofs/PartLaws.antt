@@ -21,7 +21,7 @@ use Rattle.plain_world.specs.declared.body.Body.{Body}
 use Rattle.plain_world.specs.declared.body.BodyDef.{BodyDef}
 use Rattle.plain_world.specs.declared.joint.BodyJoint.{BodyJoint}
 use Rattle.plain_world.specs.declared.joint.JointDef.{JointDef}
-use Rattle.plain_world.specs.Bodies.{AreBodies, IsBody, def_refusal}
+use Rattle.plain_world.specs.Bodies.{AreBodies, IsBody, def_refusal, is_mover_in, moves}
 use Rattle.plain_world.specs.Changes.{changed_at, disabled_body}
 use Rattle.plain_world.specs.Sleep.{told}
 use Rattle.plain_world.specs.Slots.{body_at}
@@ -30,7 +30,7 @@ use Rattle.sleep_wake.specs.Acting.{Acting, are_awake, is_mover_awake}
 use Rattle.sleep_wake.specs.ChangeLists.{CanEnd}
 use Rattle.sleep_wake.specs.Sleeping.{islands_woken}
 use Rattle.solver_sets.specs.Joining.{handle_at}
-use Rattle.solver_sets.specs.Ties.{is_mover_in, joint_movers, moves, ties_at}
+use Rattle.solver_sets.specs.Ties.{joint_movers, ties_at}
 use Rattle.world_core.specs.Inside.{IsWhole}
 use Rattle.world_rules.specs.Apply.{Answers, Applied, apply_create, apply_destroy, apply_disable, apply_enable, apply_join, apply_unjoin, created, destroyed, disabled, enabled, join_refusal, joined, quietly, world_with}
 use Rattle.world_rules.specs.declared.command.Reply.TheVariants as replies

@@ -18,7 +18,7 @@ use Rattle.islands.specs.Labels.{Labels, is_asleep, is_in, is_loose, label_at, s
 use Rattle.islands.proofs.JoinLemmas.{contains_head, contains_tail}
 use Rattle.plain_world.specs.declared.body.Body.{Body}
 use Rattle.plain_world.specs.declared.joint.BodyJoint.{BodyJoint}
-use Rattle.plain_world.specs.Bodies.{AreBodies, is_awake, is_mover}
+use Rattle.plain_world.specs.Bodies.{AreBodies, is_awake, is_mover, is_mover_in}
 use Rattle.plain_world.specs.Changes.{is_awake_in}
 use Rattle.plain_world.specs.Sleep.{timed_bodies, told}
 use Rattle.plain_world.specs.Slots.{body_at}
@@ -32,7 +32,6 @@ use Rattle.solver_sets.specs.Beside.{is_beside_moving, timer_if, timers_from, ti
 use Rattle.solver_sets.specs.Slept.{handles_where, is_asleep_label, sleeps}
 use Rattle.solver_sets.specs.SinceTold.{is_asleep_in, newly_asleep, was_asleep}
 use Rattle.solver_sets.specs.Tied.{AreTied}
-use Rattle.solver_sets.specs.Ties.{is_mover_in}
 use Rattle.world_rules.specs.Apply.{rested_acting}
 use Rattle.world_rules.specs.Sound.{AreTold}
 use Rattle.world_rules.proofs.ActingLaws.{awake_name}

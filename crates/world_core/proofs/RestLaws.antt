@@ -13,7 +13,7 @@ use Rattle.islands.specs.declared.label.Label.{Label}
 use Rattle.islands.specs.Labels.{Labels, label_at}
 use Rattle.plain_world.specs.declared.body.Body.{Body}
 use Rattle.plain_world.specs.declared.joint.BodyJoint.{BodyJoint}
-use Rattle.plain_world.specs.Bodies.{is_mover}
+use Rattle.plain_world.specs.Bodies.{is_mover, is_mover_in}
 use Rattle.plain_world.specs.Changes.{is_awake_in}
 use Rattle.plain_world.specs.Slots.{body_at, item_in}
 use Rattle.sleep_wake.specs.Acting.{Acting, IsConsistent}
@@ -27,7 +27,6 @@ use Rattle.solver_sets.specs.Beside.{is_beside_moving, timers_from, timers_of}
 use Rattle.solver_sets.specs.Slept.{is_asleep_label, sleeps}
 use Rattle.solver_sets.specs.SinceTold.{is_asleep_in, was_asleep}
 use Rattle.solver_sets.specs.Tied.{AreTied}
-use Rattle.solver_sets.specs.Ties.{is_mover_in}
 use Rattle.world_rules.specs.Sound.{AreTold}
 use Rattle.world_rules.proofs.ActingLaws.{name_awake}
 use Rattle.world_rules.proofs.LowerLaws.{movers_stay}

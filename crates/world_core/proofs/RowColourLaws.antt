@@ -16,7 +16,8 @@ use Rattle.plain_world.specs.Bodies as bodies_of
 use Rattle.plain_world.specs.Joints.{joint_at}
 use Rattle.plain_world.specs.Plain.{Plain}
 use Rattle.colour_solver.specs.Colour.{is_mover}
-use Rattle.solver_sets.specs.Ties.{JointSlots, member_of, members_of, movers_if, movers_in, movers_of, movers_with, moves, tie_with}
+use Rattle.plain_world.specs.Bodies.{moves}
+use Rattle.solver_sets.specs.Ties.{JointSlots, member_of, members_of, movers_if, movers_in, movers_of, movers_with, tie_with}
 use Rattle.solver_sets.proofs.TieLaws as ties
 use Rattle.world_core_base.specs.Gather.{states_of}
 use Rattle.world_core_base.specs.RowColours.{HasBoth, HasItsMovers, HasMovers, JointHasMovers}

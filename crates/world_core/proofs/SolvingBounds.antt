@@ -82,7 +82,7 @@ pub record IsBounded (k g c : ℕ) (s : Solving) : Type 0 where
   pub gravity : IsGain g s.sums.gravity
   pub clamp : IsGain c s.sums.clamp
 
--- ---- the turn of a constraint
+-- ---- the visit of a constraint
 
 left_bound : (k : ℕ) (s : BodyState) (m : Moving) → IsBound k m → IsWithin k s.motion.p → IsBound k (after_impulse s m)
 left_bound k s m is h = record { mass = is.mass; p = h; own = is.own }

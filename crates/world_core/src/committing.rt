@@ -23,7 +23,8 @@ use solver_sets::{Anchors, fill_newly_awake};
 use world_core_base::BodyTable;
 
 /// Lets constraints begin and end, one after another, flushes the colours, lists who has woken by that, tells those, and flushes the bodies. All
-/// bodies had been told before. Those who wake are among the slots `asleep`, so that it takes time by these and by what begins and ends. It takes no memory.
+/// bodies had been told before. Those who wake are among the slots `asleep`, so that it takes time by these and by what begins and ends. It takes no
+/// memory.
 fn apply_all_changes(
     sets: &mut Sets<Constraint>,
     bodies: &mut BodyTable,
@@ -57,14 +58,14 @@ fn apply_all_changes(
 
 /// Lists what began at its anchor, now that the changes had their turn. It is refused no memory.
 fn renew_anchors(anchors: &mut Anchors, sets: &Sets<Constraint>, changes: &[Change<Constraint>])
-    ensures told { (s : Acting TheConstraint) → sets.now.acting ≡ after_changes constraint_number changes.now s → AreComplete anchors.old.holds anchors.old.lists s.ties → AreComplete anchors.new.holds anchors.new.lists sets.now.acting.ties }
+    ensures complete { (s : Acting TheConstraint) → sets.now.acting ≡ after_changes constraint_number changes.now s → AreComplete anchors.old.holds anchors.old.lists s.ties → AreComplete anchors.new.holds anchors.new.lists sets.now.acting.ties }
 {
     anchors.add_each(changes);
     anchors.renew(sets);
 }
 
-/// Carries out what the collide found: the contacts become what is pending, the constraints begin and end, and who wakes by that is told so. Nothing stays marked but what
-/// that changes, since the contacts tell all from now on. Takes no memory.
+/// Carries out what the collide found: the contacts become what is pending, the constraints begin and end, and who wakes by that is told so. Nothing
+/// stays marked but what that changes, since the contacts tell all from now on. Takes no memory.
 pub(crate) fn carry_out(
     contacts: &mut ContactTable,
     bodies: &mut BodyTable,

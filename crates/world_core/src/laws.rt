@@ -1,10 +1,10 @@
-//! Laws of the definitions, for crates above. These functions do nothing; their contracts are the laws.
+//! Laws of a world as calls leave it, for crates above. These functions do nothing; their contracts are the laws.
 
 ghost use Rattle.world_core.specs.Grown.{EachCallBooksLittle, GrownWorldsHaveSmallTotals, SettlingBooksNothing};
 ghost use Rattle.world_core.specs.RowColours.{ColouredRowsAreColours};
 
 /// Where constraints are coloured as a sound world's are, the rows that a step gathers of them are a colour to the solver in each of
-/// the colours 0 to 23: no two of them share a mover. By `colour_solver::colours_at_once` their turns may so be made at once. The
+/// the colours 0 to 23: no two of them share a mover. By `colour_solver::colours_at_once` their visits may so be made at once. The
 /// function does nothing; its contract is the law.
 pub fn coloured_rows_are_colours()
     ensures { ColouredRowsAreColours }

@@ -1,7 +1,7 @@
 //! The joints of one body, by the slots that the table of joints has of them: whom they join, and which constraints they are.
 
-ghost use Rattle.std.specs.Prelude.{◌≡◌, ◌<◌, ◌≤◌, ◌+◌, ◌++◌, IfOk, length, map, vec_capacity, vec_len};
-ghost use Rattle.std.specs.Option.{option_copied, option_to_list};
+ghost use Rattle.std.specs.Prelude.{◌≡◌, ◌<◌, ◌≤◌, IfOk, length, map, vec_capacity};
+ghost use Rattle.std.specs.Option.{option_copied};
 ghost use Rattle.std.specs.Result.{IsOkUnless};
 ghost use Rattle.world_core_base.specs.JointTables.{own_slots};
 ghost use Rattle.plain_world.specs.Joints.{joint_at};
@@ -16,7 +16,8 @@ use contacts::Constraint;
 use fixed_geom::Refusal;
 use graph_colours::Member;
 use plain_world::{Body, BodyJoint, item_at};
-use solver_sets::{joint_movers, tie_with};
+use sleep_wake::put_some;
+use solver_sets::joint_tie;
 use std::alloc::Global;
 use world_core_base::JointTable;
 
@@ -54,7 +55,7 @@ pub(crate) fn list_joined(
 }
 
 /// The tie of a joint, if there is one and one of its ends is the body.
-fn joint_tie(
+fn joint_tie_of(
     bodies: &[Option<Body>],
     body: u32,
     handle: Handle,
@@ -66,7 +67,7 @@ fn joint_tie(
         None => None,
         Some(joint) => {
             if joint.is_of(body) {
-                tie_with(Constraint::Joint(handle), joint_movers(bodies, joint))
+                joint_tie(bodies, handle, joint)
             } else {
                 None
             }
@@ -89,19 +90,7 @@ fn tie_at(
         slot,
         generation: slot_entries[slot as usize].generation,
     };
-    joint_tie(bodies, body, handle, item_at(joints, slot as usize))
-}
-
-/// Adds a tie, if there is one, for which there is room.
-fn put_tie(ties: &mut Vec<Member<Constraint>>, tie: Option<Member<Constraint>>)
-    requires { vec_len ties.old < vec_capacity ties.old }
-    ensures items { ties.new.items ≡ ties.old.items ++ option_to_list tie }
-    ensures len { vec_len ties.new ≤ vec_len ties.old + 1 }
-    ensures capacity { vec_capacity ties.old ≤ vec_capacity ties.new }
-{
-    if let Some(tie) = tie {
-        let _ = ties.push(tie);
-    }
+    joint_tie_of(bodies, body, handle, item_at(joints, slot as usize))
 }
 
 /// Fills a list, which has room for a tie of each of these slots, with the ties of the joints of a body, which are in these slots, in their order.
@@ -121,7 +110,7 @@ pub(crate) fn fill_joint_ties(
 {
     ties.clear();
     for place in 0..slots.len() {
-        put_tie(
+        put_some(
             ties,
             tie_at(bodies, slot_entries, joints, slots[place], body),
         );

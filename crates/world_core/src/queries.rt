@@ -39,20 +39,20 @@ impl WorldCore {
         ensures live { IfSome result (λ handle. IsLive self.now.plain.slot_entries handle) }
     {
         match self.slot_entries().get(slot as usize) {
-            Some(place) => handle_of(slot, *place),
+            Some(entry) => handle_of(slot, *entry),
             None => None,
         }
     }
 }
 
 /// The id of what the slot was given out for, if it is taken.
-fn handle_of(slot: u32, place: SlotEntry) -> Option<Handle>
-    ensures { result ≡ handle_of slot (Some place) }
+fn handle_of(slot: u32, entry: SlotEntry) -> Option<Handle>
+    ensures { result ≡ handle_of slot (Some entry) }
 {
-    if place.live {
+    if entry.live {
         Some(Handle {
             slot,
-            generation: place.generation,
+            generation: entry.generation,
         })
     } else {
         None

@@ -30,7 +30,7 @@ use Rattle.plain_world.proofs.KindLaws.{awake_moves, carried_enabled, carried_ki
 use Rattle.shapes.specs.Shapes.{IsShapeDef, shapes_refusal}
 use Rattle.shapes.specs.declared.pose.Pose.{Pose}
 use Rattle.colour_solver.proofs.VectorLaws.{same_vector}
-use Rattle.plain_world.specs.Bodies.{AreBodies, IsAtRest, IsBody, IsMassOf, is_awake, is_carried, is_mover, pose_of}
+use Rattle.plain_world.specs.Bodies.{AreBodies, IsAtRest, IsBody, IsMassOf, is_awake, is_carried, is_mover, is_mover_in, moves, pose_of}
 use Rattle.plain_world.specs.Momentum.{momentum, momentum_in}
 use Rattle.plain_world.specs.Fats.{AreFatBoxes}
 use Rattle.plain_world.specs.Changes.{is_awake_in}
@@ -39,7 +39,6 @@ use Rattle.plain_world.specs.InSlots.{HaveSameSlots}
 use Rattle.world_core_base.specs.Carried.{carried_motion, carried_to, solver_mass, solver_motion}
 use Rattle.world_core_base.specs.Moved.{FitsState}
 use Rattle.world_core_base.specs.Gather.{ends_at, state_of, states_of, with_motion, with_motions}
-use Rattle.world_core_base.specs.ContactBodies.{moves, moves_in}
 
 -- ---- the bodies as states
 
@@ -214,7 +213,7 @@ movable_is (None ∷ os) zero = refl
 movable_is (Some b ∷ os) zero = refl
 movable_is (o ∷ os) (suc slot) = movable_is os slot
 
-awake_where : (o : Option Body) → moves_in o ≡ true → ((b : Body) → o ≡ Some b → b.asleep ≡ None) → is_awake_in o ≡ true
+awake_where : (o : Option Body) → is_mover_in o ≡ true → ((b : Body) → o ≡ Some b → b.asleep ≡ None) → is_awake_in o ≡ true
 awake_where None e up = e
 awake_where (Some b) e up = λ j. cond (e j) (is_none (up b refl j)) false
 

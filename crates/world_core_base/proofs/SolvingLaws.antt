@@ -38,7 +38,7 @@ use Rattle.world_core_base.proofs.SolvingRuns.{ran_alike, run_in, solved_stood}
 use Rattle.world_core_base.proofs.SolvingJoints.{AreImpulsed, IsAway, joints_back, joints_more, joints_then, none_impulsed, put_impulsed}
 use Rattle.world_core_base.proofs.SolvingVisits.{IsJointVisitBare, held, stood}
 
--- ---- a turn changes impulses alone
+-- ---- a visit changes impulses alone
 
 abbrev IsBarely : (ContactPoint → Ends → SolvedPoint) → Type 0
 IsBarely f = (p : ContactPoint) (n : Ends) → bare_point (f p n).point ≡ bare_point p
@@ -94,7 +94,7 @@ impulsed_then order es fs gs h k = record { barely = k.barely ∙ h.barely; othe
 impulsed_more : (id : Constraint) (order : List Constraint) (es fs : List ContactEntry) → IsImpulsed order es fs → IsImpulsed (id ∷ order) es fs
 impulsed_more id order es fs h = record { barely = h.barely; others = λ j e at all. h.others j e at (All-tail (IsOther e) id order all) }
 
--- what a turn leaves of the contacts, of these constraints and one more
+-- what a visit leaves of the contacts, of these constraints and one more
 visit_impulsed : (f : Visits) (s : Solving) (id : Constraint) (order : List Constraint) → IsVisitBare f → IsImpulsed (id ∷ order) s.contacts (row_visit f s id).contacts
 visit_impulsed f s (constraints.Joint h) order law = by (joint_at s.joints h.slot)
   where
@@ -141,7 +141,7 @@ solved_impulsed n g order bodies joints contacts =
 
 -- ---- joints that have other impulses, of these constraints alone
 
--- what a turn leaves of the joints, of these constraints and one more
+-- what a visit leaves of the joints, of these constraints and one more
 visit_joints : (f : Visits) (s : Solving) (id : Constraint) (order : List Constraint) → IsJointVisitBare f → AreImpulsed (id ∷ order) s.joints (row_visit f s id).joints
 visit_joints f s (constraints.Contact key) order law = by (lookup s.contacts key) (moving_at s.bodies key.first.slot) (moving_at s.bodies key.second.slot)
   where

@@ -237,7 +237,7 @@ same_carry bodies joints order = record {
   stays = λ s e. record { stands = stood_along s.bodies ∙ e.stands; barely = e.barely };
 }
 
--- ---- the turns of contacts that don't touch
+-- ---- the visits of contacts that don't touch
 
 idle_points : (f : ContactPoint → Ends → SolvedPoint) (c : Contact) (now : Ends) → c.first ≡ None → at_points f c now ≡ record { contact = c; ends = now }
 idle_points f c now is = ap (λ (o : Option ContactPoint). from_first f c now o) is
@@ -254,7 +254,7 @@ bounce_idle : (e : ContactEntry) (begun now : Ends) → e.contact.first ≡ None
 unfolding contact_bounced
 bounce_idle e begun now is = idle_points (point_bounced e.surface.restitution begun) e.contact now is
 
--- ---- the turns of joints
+-- ---- the visits of joints
 
 joint_warm_moved : (begun now : Ends) (j : Joint) → AreMovedFrom begun now → AreMovedFrom begun (warm.joint j begun now).ends
 joint_warm_moved begun now j h = masses_then begun now (warm.joint j begun now).ends h (warmed_masses (joint_line j begun) j.impulse now)

@@ -1,4 +1,4 @@
--- A turn in the arrays is the turn of the definition, and so is a pass over the constraints.
+-- A visit in the arrays is the visit of the definition, and so is a pass over the constraints.
 use Rattle.std.proofs.Common.{◌≡◌, ℕ, zero, suc, Bool, true, false, cond, List, [], ◌∷◌, map, is_some, Option, Some, None, All, ℤ, pos, ◌+ℤ◌, ◌-ℤ◌, arith, refl, sym, ap, ◌∙◌, subst, slice_set, slice_index_or}
 use Rattle.std.specs.Prelude.{option_map}
 use Rattle.std.specs.List.{AllPairs, filter_map, cons_option}
@@ -136,7 +136,7 @@ stood_visit f s (constraints.Contact key) = by (lookup s.contacts key) (moving_a
         let t : SolvedContact = f.contact e (ends_then a b) (ends_now a b) in
         stood_put s.bodies key.first.slot key.second.slot a b (after_impulse t.ends.a a) (after_impulse t.ends.b b) at_a at_b refl refl
 
--- a turn that changes a joint in its impulse alone
+-- a visit that changes a joint in its impulse alone
 abbrev pub IsJointVisitBare : Visits → Type 0
 IsJointVisitBare f = (j : BodyJoint) (begun now : Ends) → bare_joint (record j { joint = (f.joint j.joint begun now).joint }) ≡ bare_joint j
 
@@ -252,9 +252,9 @@ plus_nothing g = λ i. record { x = more_by_none g.x i; y = more_by_none g.y i }
 sums_idle : (e : Ends) (sums : StepSums) → with_sum (given_by_immovable e e) sums ≡ sums
 sums_idle e sums = ap (λ (g : Gain). with_sum g sums) (none_given e) ∙ ap (λ (g : Gain). record sums { immovable = g }) (plus_nothing sums.immovable)
 
--- ---- one turn
+-- ---- one visit
 
--- The turn of a row is what the definition makes of its joint or its contact; a contact that doesn't touch is left alone, and of a joint the impulse changes alone.
+-- The visit of a row is what the definition makes of its joint or its contact; a contact that doesn't touch is left alone, and of a joint the impulse changes alone.
 pub record IsVisitAlike (f : Visits) (j : JointRow → Ends → JointAfter) (g : ContactRow → Ends → RowAfter ContactRow) : Type 0 where
   pub alike : (key : ContactKey) (e : ContactEntry) (begun now : Ends) (r : ContactRow) → contact_row (bodies_of key e.surface) begun e.contact ≡ Some r → AreMovedFrom begun now
       → IsRowOf (bodies_of key e.surface) begun (f.contact e begun now) (g r now)
@@ -263,7 +263,7 @@ pub record IsVisitAlike (f : Visits) (j : JointRow → Ends → JointAfter) (g :
   pub joint_moved : (begun now : Ends) (k : Joint) → AreMovedFrom begun now → AreMovedFrom begun (f.joint k begun now).ends
   pub joint_bare : IsJointVisitBare f
 
--- what the turn g makes of the bodies and of the row r of the constraint is what `next` has
+-- what the visit g makes of the bodies and of the row r of the constraint is what `next` has
 record IsVisited (g : ConstraintRow → Ends → RowAfter ConstraintRow) (begun states : List BodyState) (old : Gain) (next : Solving) (id : Constraint) (r : ConstraintRow) : Type 0 where
   bodies : after constraint_slots g states r ≡ map held next.bodies
   row : constraint_row begun next.joints next.contacts id ≡ Some (visit_of constraint_slots g states r).row
@@ -365,7 +365,7 @@ visited_joint f k g s h j law is there =
     by (Some a) None at_a at_b has_a has_b = absurd (cc has_b)
     by (Some a) (Some b) at_a at_b has_a has_b = joined_by f k g s h j a b law is at_a at_b
 
--- the turn of a constraint that has a row
+-- the visit of a constraint that has a row
 visited : (f : Visits) (k : JointRow → Ends → JointAfter) (g : ContactRow → Ends → RowAfter ContactRow) (s : Solving) (id : Constraint) (r : ConstraintRow) → IsVisitAlike f k g → HasEnds (stood s.bodies) s.joints id
     → constraint_row (states_of (stood s.bodies)) s.joints s.contacts id ≡ Some r → IsVisited (either_visit k g) (states_of (stood s.bodies)) (map held s.bodies) s.sums.immovable (row_visit f s id) id r
 visited f k g s (constraints.Joint h) r law there is = by (joint_at s.joints h.slot) refl there is
@@ -423,7 +423,7 @@ idle_visit f k g states s (constraints.Contact key) law is = by (row_of states s
 
 -- ---- a pass
 
--- the turns g of the rows, from these bodies on, leave what `last` has, `old` having been given before
+-- the visits g of the rows, from these bodies on, leave what `last` has, `old` having been given before
 pub record IsPassed (g : ConstraintRow → Ends → RowAfter ConstraintRow) (begun states : List BodyState) (rs : List ConstraintRow) (old : Gain) (todo : List Constraint) (last : Solving) : Type 0 where
   pub bodies : passed constraint_slots g states rs ≡ map held last.bodies
   pub rows_left : rows_passed constraint_slots g states rs ≡ filter_map (constraint_row begun last.joints last.contacts) todo

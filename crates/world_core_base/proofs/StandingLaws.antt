@@ -5,14 +5,13 @@ use Rattle.momenta.specs.declared.state.BodyState.{BodyState}
 use Rattle.islands.specs.Labels.{Labels, label_at, sleeping_name}
 use Rattle.islands.specs.declared.label.Label.{Label}
 use Rattle.plain_world.specs.declared.body.Body.{Body}
-use Rattle.plain_world.specs.Bodies.{can_move, is_awake, is_carried, is_mover, pose_of}
+use Rattle.plain_world.specs.Bodies.{can_move, is_awake, is_carried, is_mover, is_mover_in, pose_of}
 use Rattle.plain_world.specs.Fats.{renewed_boxes}
 use Rattle.plain_world.specs.Sleep.{is_slow, roused, timed, timed_bodies, told, told_body, told_by, told_from}
 use Rattle.plain_world.specs.Slots.{body_at, shapes_in}
 use Rattle.plain_world.specs.InSlots.{HaveSameSlots}
 use Rattle.world_core_base.specs.Carried.{carried_to}
 use Rattle.world_core_base.specs.Gather.{with_motion, with_motions}
-use Rattle.world_core_base.specs.ContactBodies.{moves_in}
 use Rattle.world_core_base.specs.Renewal.{renewed_bodies, with_renewed}
 use Rattle.world_core_base.specs.Standing.{HaveSameStanding, is_enabled_in}
 use Rattle.world_core_base.proofs.GatherLaws.{mover_moved}
@@ -31,7 +30,7 @@ record AreAlikeIn (o p : Option Body) : Type 0 where
   taken : is_some p ≡ is_some o
   shapes : shapes_in p ≡ shapes_in o
   enabled : is_enabled_in p ≡ is_enabled_in o
-  mover : moves_in p ≡ moves_in o
+  mover : is_mover_in p ≡ is_mover_in o
 
 abbrev AreAlike : List (Option Body) → List (Option Body) → Type 0
 AreAlike old new = (slot : ℕ) → AreAlikeIn (body_at old slot) (body_at new slot)

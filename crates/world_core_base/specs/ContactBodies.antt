@@ -1,18 +1,9 @@
 -- What holds of the contacts of a world: their bodies are there and differ, one of them moves, and their numbers are in range.
-use Rattle.std.specs.Prelude.{◌≡◌, ℕ, ◌<◌, ◌⊎◌, ◌≢◌, Bool, true, false, List, length, All, Option, Some, None}
+use Rattle.std.specs.Prelude.{◌≡◌, ◌<◌, ◌⊎◌, ◌≢◌, true, List, length, All, Option}
 use Rattle.contacts_base.specs.declared.contact.ContactEntry.{ContactEntry}
 use Rattle.contacts_base.specs.Limits.{IsContact}
 use Rattle.plain_world.specs.declared.body.Body.{Body}
-use Rattle.plain_world.specs.Bodies.{is_mover}
-use Rattle.plain_world.specs.Slots.{body_at}
-
-abbrev pub moves_in : Option Body → Bool
-moves_in None = false
-moves_in (Some b) = is_mover b
-
--- the body in a slot is there and moves
-abbrev pub moves : List (Option Body) → ℕ → Bool
-moves bodies slot = moves_in (body_at bodies slot)
+use Rattle.plain_world.specs.Bodies.{moves}
 
 -- a contact of two different bodies, one of them a mover at least
 pub record IsContactOf (bodies : List (Option Body)) (e : ContactEntry) : Type 0 where

@@ -85,7 +85,7 @@ after_impulse s m = record m { motion = s.motion }
 abbrev pub given_by_immovable : Ends → Ends → Gain
 given_by_immovable before after = cond before.a.movable (cond before.b.movable nothing (gain_between before.a.motion after.a.motion)) (cond before.b.movable (gain_between before.b.motion after.b.motion) nothing)
 
--- ---- the turn of one constraint
+-- ---- the visit of one constraint
 
 -- What a pass does at a joint, and what at a contact: each is told how its bodies stood when the step began, and how they are now.
 pub record Visits : Type 0 where
@@ -130,7 +130,7 @@ put_joint_back slot j a b solved s = record {
   sums = with_sum (given_by_immovable (ends_now a b) solved.ends) s.sums;
 }
 
--- the turn of the joint in a slot, if it is there and both its bodies are
+-- the visit of the joint in a slot, if it is there and both its bodies are
 abbrev pub visit_joined : Visits → Solving → ℕ → BodyJoint → Option Moving → Option Moving → Solving
 visit_joined f s slot j None b = s
 visit_joined f s slot j (Some a) None = s
@@ -149,14 +149,14 @@ put_back key a b solved s = record {
   sums = with_sum (given_by_immovable (ends_now a b) solved.ends) s.sums;
 }
 
--- the turn of the contact, if it is there and both its bodies are
+-- the visit of the contact, if it is there and both its bodies are
 abbrev pub visit_between : Visits → Solving → ContactKey → Option ContactEntry → Option Moving → Option Moving → Solving
 visit_between f s key None a b = s
 visit_between f s key (Some e) None b = s
 visit_between f s key (Some e) (Some a) None = s
 visit_between f s key (Some e) (Some a) (Some b) = put_back key a b (f.contact e (ends_then a b) (ends_now a b)) s
 
--- the turn of a constraint
+-- the visit of a constraint
 abbrev pub row_visit : Visits → Solving → Constraint → Solving
 row_visit f s (constraints.Joint h) = visit_joint f s h.slot (joint_at s.joints h.slot)
 row_visit f s (constraints.Contact key) = visit_between f s key (lookup s.contacts key) (moving_at s.bodies key.first.slot) (moving_at s.bodies key.second.slot)
@@ -167,7 +167,7 @@ row_visit f s (constraints.Contact key) = visit_between f s key (lookup s.contac
 abbrev pub solve_order : List (List Constraint) → List Constraint
 solve_order colours = flat_map (λ ids. ids) colours
 
--- a pass over the active constraints: one turn after another
+-- a pass over the active constraints: one visit after another
 abbrev pub pass : Visits → List Constraint → Solving → Solving
 pass f order s = fold (row_visit f) s order
 

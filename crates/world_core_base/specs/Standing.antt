@@ -2,7 +2,7 @@
 use Rattle.std.specs.Prelude.{◌≡◌, ℕ, Bool, false, List, Option, Some, None}
 use Rattle.plain_world.specs.declared.body.Body.{Body}
 use Rattle.plain_world.specs.Slots.{body_at}
-use Rattle.world_core_base.specs.ContactBodies.{moves}
+use Rattle.plain_world.specs.Bodies.{moves}
 
 abbrev pub is_enabled_in : Option Body → Bool
 is_enabled_in None = false

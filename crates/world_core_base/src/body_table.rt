@@ -30,7 +30,7 @@ ghost use Rattle.plain_world.specs.Sleep.{timed_bodies, told};
 ghost use Rattle.plain_world.specs.Slots.{body_at, with_body};
 
 use crate::covers::{cover, cover_again, uncover};
-use crate::gather::{NOBODY, body_state};
+use crate::gather::body_state;
 use crate::moving::move_bodies;
 use crate::slot_list::{Group, SlotList};
 use crate::telling::{tell_bodies, tell_listed};
@@ -40,7 +40,7 @@ use box_tree::BoxTree;
 use colour_solver::{Rows, StepSolver, StepSums};
 use fixed_geom::{Refusal, Vec2};
 use islands::Islands;
-use momenta::{BodyState, Gain};
+use momenta::{BodyState, Gain, NOBODY};
 use packed_sets::Marks;
 use plain_world::{
     Body, BodyChange, change_slot, clear_slot, copy_bodies, disable_slot, enable_slot, put_item,
@@ -225,8 +225,8 @@ impl BodyTable {
         self.marks.clear();
     }
 
-    /// Brings the lists of the awake movers and of the bodies that are carried along up to date, after what came and went. It costs nothing where nothing
-    /// did, and takes no memory.
+    /// Brings the lists of the awake movers and of the bodies that are carried along up to date, after what came and went. It costs nothing where
+    /// nothing did, and takes no memory.
     pub fn flush(&mut self)
         ensures bodies { self.new.bodies ≡ self.old.bodies }
         ensures room { self.new.room ≡ self.old.room }
@@ -331,8 +331,8 @@ impl BodyTable {
         relist(&mut self.awake, &mut self.carried, &self.states, slot);
     }
 
-    /// Tells the bodies the labels of their islands: movers of a sleeping one are put to rest, and those of any other are awake. Answers what the movers'
-    /// momentum gains, since those that are put to rest lose theirs. Takes no memory.
+    /// Tells the bodies the labels of their islands: movers of a sleeping one are put to rest, and those of any other are awake. Answers what the
+    /// movers' momentum gains, since those that are put to rest lose theirs. Takes no memory.
     pub fn tell(&mut self, islands: &Islands) -> Gain
         requires few { length self.old.bodies ≤ MAX_SLOTS }
         requires bodies { AreBodies self.old.bodies }
@@ -412,9 +412,9 @@ impl BodyTable {
         time_bodies(&mut self.bodies, self.awake.as_slice(), ticks);
     }
 
-    /// Runs the ticks of a step, 0 to 8, and its restitution, over the movers, the bodies that are carried along, and the constraints in
-    /// solve order; fat boxes that their shapes have left are then made anew, and the slots of their bodies marked. Answers what was added to the movers' momentum, by cause.
-    /// The solver runs the ticks.
+    /// Runs the ticks of a step, 0 to 8, and its restitution, over the movers, the bodies that are carried along, and the constraints in solve order;
+    /// fat boxes that their shapes have left are then made anew, and the slots of their bodies marked. Answers what was added to the movers'
+    /// momentum, by cause. The solver runs the ticks.
     #[inline(never)]
     pub fn run<S: StepSolver>(
         &mut self,

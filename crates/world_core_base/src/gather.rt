@@ -23,10 +23,10 @@ use colour_solver::Rows;
 use colour_solver_base::{Bodies, ContactRow, contact_row};
 use contacts::Constraint;
 use contacts_base::{ContactKey, Hint, PackedContact, PackedSurface, SplitContacts};
-use fixed_geom::{Rot, UNIT, Vec2};
+use fixed_geom::UNIT;
 use graph_colours::{COLOURS, Colours, Member, OVERFLOW};
 use joint_rows::JointRow;
-use momenta::{BodyState, Ends, MassData, Motion, Reciprocals, reciprocals_of};
+use momenta::{BodyState, Ends, MassData, Motion, NOBODY, reciprocals_of};
 use plain_world::{Body, BodyJoint};
 
 /// The mass of a body that is carried along: with it the momentum is the velocity itself, and the angular momentum the spin.
@@ -39,23 +39,6 @@ const CARRIER: MassData = MassData {
 const STANDING: MassData = MassData {
     mass: 1,
     inertia: 0,
-};
-
-/// What stands for the body in an empty slot: nothing moves it.
-pub(crate) const NOBODY: BodyState = BodyState {
-    movable: false,
-    mass: STANDING,
-    motion: Motion {
-        p: Vec2 { x: 0, y: 0 },
-        l: 0,
-        x: Vec2 { x: 0, y: 0 },
-        rot: Rot { c: UNIT, s: 0 },
-    },
-    start: Vec2 { x: 0, y: 0 },
-    reciprocals: Reciprocals {
-        mass: 1 << 62,
-        inertia: 0,
-    },
 };
 
 /// The body of a slot as the solver works on it; in an empty one, what nothing moves.
@@ -291,9 +274,9 @@ fn gather_colour(
     }
 }
 
-/// Gathers the active constraints in solve order, for which there is room: colour after colour, and the overflow last. Each row
-/// stands in its constraint's colour. Beside the row of each contact stands in `places`, as far as there is room, the place of the long list where the
-/// contact was found: a hint for whoever looks for it again, of which nothing is promised.
+/// Gathers the active constraints in solve order, for which there is room: colour after colour, and the overflow last. Each row stands in its
+/// constraint's colour. Beside the row of each contact stands in `places`, as far as there is room, the place of the long list where the contact was
+/// found: a hint for whoever looks for it again, of which nothing is promised.
 #[tactic(auto, unfolding(crate::specs::ConstraintRows::rows_of))]
 pub fn gather_rows(
     rows: &mut Rows,

@@ -1,7 +1,7 @@
 //! What a step works on.
 //!
-//! The bodies of a world by slot with what a step goes over (`BodyTable`: their states, and the slots of the awake movers and of the bodies that are carried along), and
-//! what a step gathers of joints and contacts (`gather_rows`).
+//! The bodies of a world by slot with what a step goes over (`BodyTable`: their states, and the slots of the awake movers and of the bodies that are
+//! carried along), and what a step gathers of joints and contacts (`gather_rows`).
 //!
 //! The joints of a world by slot stand in [`JointTable`], with what a world asks of them at hand: beside them the ends of joints by
 //! body, so that what asks for the joints of one body costs by those alone. Whether joints keep two bodies from colliding is told

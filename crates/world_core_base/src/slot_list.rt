@@ -83,8 +83,8 @@ fn note(added: &mut Vec<u32>, group: Group, states: &[BodyState], slot: u32) -> 
     room
 }
 
-/// Lists the slots of a group anew, where those of its bodies are listed or stand beside the list. The list before is left in `spare`, for which there is
-/// room.
+/// Lists the slots of a group anew, where those of its bodies are listed or stand beside the list. The list before is left in `spare`, for which
+/// there is room.
 fn renew(
     slots: &mut Vec<u32>,
     added: &mut Vec<u32>,
@@ -197,8 +197,8 @@ impl SlotList {
         self.flushed = true;
     }
 
-    /// Lists the slot, where a body of the group is in it now, or takes it out: that is put off, but for where there is no room left to note it. Takes
-    /// no memory.
+    /// Lists the slot, where a body of the group is in it now, or takes it out: that is put off, but for where there is no room left to note it.
+    /// Takes no memory.
     pub fn relist(&mut self, group: Group, states: &[BodyState], slot: u32)
         requires few { length states.now ≤ 2 ^ 32 }
         requires room { length states.now ≤ self.old.capacity }

@@ -29,7 +29,8 @@ use Rattle.plain_world.specs.declared.body.Body.{Body}
 use Rattle.plain_world.specs.declared.joint.BodyJoint.{BodyJoint}
 use Rattle.world_file_base.specs.SavedJoints.{generation_there}
 use Rattle.shapes.specs.declared.shape.ShapeDef.{ShapeDef}
-use Rattle.world_core_base.specs.ContactBodies.{IsContactOf, moves_in}
+use Rattle.plain_world.specs.Bodies.{is_mover_in}
+use Rattle.world_core_base.specs.ContactBodies.{IsContactOf}
 use Rattle.world_file.specs.Fitting.{are_points, are_rising_after, entry_read, is_above, is_contact_fitting, is_dynamic_body, is_joint_fitting, joint_kept, label_of}
 use Rattle.world_rules.specs.Sound.{HasBodies}
 use Rattle.world_file.specs.Again.{count_of, id_in, membership_of, saved_contact, saved_joint, saved_joints}
@@ -125,7 +126,7 @@ dynamic_by : (t u : Bool) → cond t u false ≡ true → u ≡ true
 dynamic_by true u h = h
 dynamic_by false u h = absurd (false≢true h)
 
-dynamic_there : (o : Option Body) → moves_in o ≡ true → is_dynamic_body o ≡ true
+dynamic_there : (o : Option Body) → is_mover_in o ≡ true → is_dynamic_body o ≡ true
 dynamic_there None h = h
 dynamic_there (Some b) h = dynamic_by b.enabled (is_dynamic b.kind) h
 

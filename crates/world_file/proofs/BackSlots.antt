@@ -55,13 +55,13 @@ pub in_time_by : (live : Bool) (g : ℕ) → (live ≡ true → g < WORN_OUT) �
 in_time_by true g h = lt-ltb g WORN_OUT (h refl)
 in_time_by false g h = refl
 
-record IsPlaceBack (key : List ℕ) (d : Data) (p : SlotEntry) : Type 0 where
+record IsSlotEntryBack (key : List ℕ) (d : Data) (p : SlotEntry) : Type 0 where
   value : slot_entry_in key d ≡ p
   asks : (r : Reader) → slot_entry_asks key d r ≡ r
 
-place_back : (key : List ℕ) (d : Data) (p : SlotEntry) (o : Option Data) → HasSlotKeys key d p.generation o → IsSlotEntry p → p.live ≡ is_some o → IsPlaceBack key d p
+slot_entry_back : (key : List ℕ) (d : Data) (p : SlotEntry) (o : Option Data) → HasSlotKeys key d p.generation o → IsSlotEntry p → p.live ≡ is_some o → IsSlotEntryBack key d p
 unfolding slot_entry_in slot_entry_asks
-place_back key d p o keys is live =
+slot_entry_back key d p o keys is live =
     let all : generation_of_value (get (codes "generation") d) ≡ Some p.generation = ap (λ (v : Option Data). generation_of_value v) keys.number ∙ generation_by p.generation is.positive is.bounded in
     let number : generation_in (get (codes "generation") d) ≡ p.generation = ap (λ (v : Option ℕ). unwrap_or v 1) all in
     let there : is_some (get key d) ≡ p.live = ap (λ (v : Option Data). is_some v) keys.content ∙ sym live in
@@ -86,7 +86,7 @@ OnWritten most None l = l ≡ None
 OnWritten most (Some b) l = IsBodyWritten most b l
 
 pub record IsSlotWritten (most : ℕ) (p : SlotEntry) (o : Option Body) (l : Option Label) : Type 0 where
-  pub place : IsSlotEntry p
+  pub slot_entry : IsSlotEntry p
   pub live : p.live ≡ is_some o
   pub body : OnWritten most o l
 
@@ -110,7 +110,7 @@ item_back most (Some b) l h =
     record { body = ap (λ (v : Body). Some v) o.value; membership = o.membership; asks = o.asks }
 
 record IsSlotBack (most : ℕ) (p : SlotEntry) (o : Option Body) (l : Option Label) : Type 0 where
-  place : slot_entry_in body_key (body_slot_of p o l) ≡ p
+  slot_entry : slot_entry_in body_key (body_slot_of p o l) ≡ p
   body : option_map (body_in most) (get body_key (body_slot_of p o l)) ≡ o
   membership : membership_or_none (get body_key (body_slot_of p o l)) ≡ membership_of l
   asks : (r : Reader) → body_slot_asks most (body_slot_of p o l) r ≡ r
@@ -119,13 +119,13 @@ slot_back : (most : ℕ) (p : SlotEntry) (o : Option Body) (l : Option Label) �
 slot_back most p o l h =
     let content : Option Data = option_map (λ (b : Body). body_data b l) o in
     let keys = body_slot_keys p content in
-    let place = place_back body_key (body_slot_of p o l) p content keys h.place (h.live ∙ some_map (λ (b : Body). body_data b l) o) in
+    let slot_entry = slot_entry_back body_key (body_slot_of p o l) p content keys h.slot_entry (h.live ∙ some_map (λ (b : Body). body_data b l) o) in
     let it = item_back most o l h.body in
     record {
-      place = place.value;
+      slot_entry = slot_entry.value;
       body = ap (λ (v : Option Data). option_map (body_in most) v) keys.content ∙ it.body;
       membership = ap (λ (v : Option Data). membership_or_none v) keys.content ∙ it.membership;
-      asks = λ r. ap (λ (v : Option Data). item_asks (body_asks most) v (slot_entry_asks body_key (body_slot_of p o l) r)) keys.content ∙ it.asks _ ∙ place.asks r;
+      asks = λ r. ap (λ (v : Option Data). item_asks (body_asks most) v (slot_entry_asks body_key (body_slot_of p o l) r)) keys.content ∙ it.asks _ ∙ slot_entry.asks r;
     }
 
 pub record AreBodiesBack (most slot : ℕ) (ps : List SlotEntry) (os : List (Option Body)) (labels rest : Labels) : Type 0 where
@@ -147,7 +147,7 @@ bodies_back most slot (p ∷ ps) (o ∷ os) labels (l ∷ ls) are at =
     let one = slot_back most p o (label_at labels slot) (subst (λ (v : Option Label). IsSlotWritten most p o v) (sym own) are.0) in
     let rest = bodies_back most (suc slot) ps os labels ls are.1 (λ k. let next : suc slot + k ≡ slot + suc k = omega arith in ap (λ (n : ℕ). label_at labels n) next ∙ at (suc k)) in
     record {
-      slot_entries = ap₂ (λ (x : SlotEntry) (xs : List SlotEntry). x ∷ xs) one.place rest.slot_entries;
+      slot_entries = ap₂ (λ (x : SlotEntry) (xs : List SlotEntry). x ∷ xs) one.slot_entry rest.slot_entries;
       bodies = ap₂ (λ (x : Option Body) (xs : List (Option Body)). x ∷ xs) one.body rest.bodies;
       memberships = ap₂ (λ (x : Membership) (xs : List Membership). x ∷ xs) (one.membership ∙ ap (λ (v : Option Label). membership_of v) own) rest.memberships;
       asks = λ r. rest.asks (body_slot_asks most (body_slot_of p o (label_at labels slot)) r) ∙ one.asks r;
@@ -161,7 +161,7 @@ OnJointWritten slot_entries colour None = Unit {0}
 OnJointWritten slot_entries colour (Some j) = IsJointWritten slot_entries colour j
 
 pub record IsJointSlotWritten (slot_entries : List SlotEntry) (own : Option ℕ) (p : SlotEntry) (o : Option BodyJoint) : Type 0 where
-  pub place : IsSlotEntry p
+  pub slot_entry : IsSlotEntry p
   pub live : p.live ≡ is_some o
   pub joint : OnJointWritten slot_entries own o
 
@@ -183,7 +183,7 @@ joint_item_back slot_entries own None h = record { joint = refl; asks = λ r. re
 joint_item_back slot_entries own (Some j) h = let o = joint_back slot_entries own j h in record { joint = ap (λ (v : SavedJoint). Some v) o.value; asks = o.asks }
 
 record IsJointSlotBack (slot_entries : List SlotEntry) (own : Option ℕ) (p : SlotEntry) (o : Option BodyJoint) : Type 0 where
-  place : slot_entry_in joint_key (joint_slot_of slot_entries p o own) ≡ p
+  slot_entry : slot_entry_in joint_key (joint_slot_of slot_entries p o own) ≡ p
   joint : option_map (joint_in Second) (get joint_key (joint_slot_of slot_entries p o own)) ≡ option_map (saved_joint slot_entries own) o
   asks : (r : Reader) → joint_slot_asks Second (joint_slot_of slot_entries p o own) r ≡ r
 
@@ -191,12 +191,12 @@ joint_slot_back : (slot_entries : List SlotEntry) (own : Option ℕ) (p : SlotEn
 joint_slot_back slot_entries own p o h =
     let content : Option Data = option_map (λ (j : BodyJoint). joint_data slot_entries j own) o in
     let keys = joint_slot_keys p content in
-    let place = place_back joint_key (joint_slot_of slot_entries p o own) p content keys h.place (h.live ∙ some_map (λ (j : BodyJoint). joint_data slot_entries j own) o) in
+    let slot_entry = slot_entry_back joint_key (joint_slot_of slot_entries p o own) p content keys h.slot_entry (h.live ∙ some_map (λ (j : BodyJoint). joint_data slot_entries j own) o) in
     let it = joint_item_back slot_entries own o h.joint in
     record {
-      place = place.value;
+      slot_entry = slot_entry.value;
       joint = ap (λ (v : Option Data). option_map (joint_in Second) v) keys.content ∙ it.joint;
-      asks = λ r. ap (λ (v : Option Data). item_asks (joint_asks Second) v (slot_entry_asks joint_key (joint_slot_of slot_entries p o own) r)) keys.content ∙ it.asks _ ∙ place.asks r;
+      asks = λ r. ap (λ (v : Option Data). item_asks (joint_asks Second) v (slot_entry_asks joint_key (joint_slot_of slot_entries p o own) r)) keys.content ∙ it.asks _ ∙ slot_entry.asks r;
     }
 
 pub record AreJointsBack (slot_entries : List SlotEntry) (colours : List (List Constraint)) (slot : ℕ) (ps : List SlotEntry) (os : List (Option BodyJoint)) : Type 0 where
@@ -213,7 +213,7 @@ joints_back slot_entries colours slot (p ∷ ps) (o ∷ os) are =
     let one = joint_slot_back slot_entries (own_colour colours slot p) p o are.0 in
     let rest = joints_back slot_entries colours (suc slot) ps os are.1 in
     record {
-      slots = ap₂ (λ (x : SlotEntry) (xs : List SlotEntry). x ∷ xs) one.place rest.slots;
+      slots = ap₂ (λ (x : SlotEntry) (xs : List SlotEntry). x ∷ xs) one.slot_entry rest.slots;
       joints = ap₂ (λ (x : Option SavedJoint) (xs : List (Option SavedJoint)). x ∷ xs) one.joint rest.joints;
       asks = λ r. rest.asks (joint_slot_asks Second (joint_slot_of slot_entries p o (own_colour colours slot p)) r) ∙ one.asks r;
       count = ap (λ (n : ℕ). suc n) rest.count;

@@ -45,7 +45,7 @@ use Rattle.world_file_base.specs.SavedJoints.{generation_there}
 use Rattle.world_file_base.specs.SavedSlots.{bodies_in, body_slots}
 use Rattle.world_file_base.specs.AskedSlots.{bodies_asks, slots_asks}
 use Rattle.world_file_base.specs.declared.version.Version.TheVariants.{Second}
-use Rattle.solver_sets.specs.Ties.{is_mover_in}
+use Rattle.plain_world.specs.Bodies.{is_mover_in}
 use Rattle.solver_sets.proofs.SlotLemmas.{below_length}
 use Rattle.solver_sets.specs.Ties.{Lists, members_of}
 use Rattle.world_core_base.specs.ContactBodies.{IsContactOf}
@@ -183,7 +183,7 @@ bodies_by most [] (o ∷ os) ls e f all taken each = absurd (omega arith)
 bodies_by most (p ∷ ps) [] ls e f all taken each = absurd (omega arith)
 bodies_by most (p ∷ ps) (o ∷ os) [] e f all taken each = absurd (omega arith)
 bodies_by most (p ∷ ps) (o ∷ os) (l ∷ ls) e f all taken each = (
-  record { place = All-head IsSlotEntry p ps all; live = sym (taken 0); body = each 0 },
+  record { slot_entry = All-head IsSlotEntry p ps all; live = sym (taken 0); body = each 0 },
   bodies_by most ps os ls (omega arith) (omega arith) (All-tail IsSlotEntry p ps all) (λ k. taken (suc k)) (λ k. each (suc k)),
 )
 
@@ -226,7 +226,7 @@ joints_by w h slot [] (o ∷ os) e all taken are = absurd (omega arith)
 joints_by w h slot (p ∷ ps) [] e all taken are = absurd (omega arith)
 joints_by w h slot (p ∷ ps) (o ∷ os) e all taken are = (
   record {
-    place = All-head IsSlotEntry p ps all;
+    slot_entry = All-head IsSlotEntry p ps all;
     live = sym (taken 0);
     joint = joint_slot_written w h (colour_of (Joint (record { slot = slot; generation = p.generation })) w.plain.colours) (colour_small w h (Joint (record { slot = slot; generation = p.generation }))) o (λ j s. are 0 j s);
   },

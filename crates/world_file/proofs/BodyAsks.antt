@@ -160,9 +160,9 @@ establishes_rest b r h =
     let still = establishes (is_awake b || is_at_rest b.motion) Islands r halted.1 in
     ((still.0, halted.0), still.1)
 
-establishes_told : (b : Body) (m : Membership) → Establishes ((island_fits b m ≡ true) × (is_island_or_nothing m ≡ true)) (fitting_membership_asks b m)
+establishes_membership : (b : Body) (m : Membership) → Establishes ((island_fits b m ≡ true) × (is_island_or_nothing m ≡ true)) (fitting_membership_asks b m)
 unfolding fitting_membership_asks
-establishes_told b m r h =
+establishes_membership b m r h =
     let told = establishes (is_island_or_nothing m) Memberships _ h in
     let fits = establishes (island_fits b m) Memberships r told.1 in
     ((fits.0, told.0), fits.1)
@@ -263,7 +263,7 @@ filtered t d = filters_small (items_in (get (codes "shapes") d))
 pub establishes_body : (t : ℕ) (d : Data) → Establishes (IsSavedBody t (body_in t d) (membership_in d)) (body_asks t d)
 unfolding body_asks whole_body_asks
 establishes_body t d r h =
-    let told = establishes_told (body_in t d) (membership_in d) _ h in
+    let told = establishes_membership (body_in t d) (membership_in d) _ h in
     let rest = establishes_rest (body_in t d) _ told.1 in
     let fit = establishes_fit (body_in t d).kind (pose_of (body_in t d)) (body_in t d).shapes (body_in t d).fats _ rest.1 in
     let keys = establishes_keys t d r fit.1 in (

@@ -35,10 +35,10 @@ use Rattle.world_file_base.specs.Versions.{colour_of_number}
 use Rattle.world_file_base.specs.declared.clause.Clause.TheVariants.{Colours, FatBoxes, Form, Generations, Islands, Limits, Links, Memberships, Momentum, References}
 use Rattle.world_file_base.specs.declared.saved.Membership.{Membership}
 use Rattle.world_file_base.specs.declared.version.Version.{Version}
-use Rattle.world_file.specs.Clauses.{are_memberships_right, fits, has_colour_of, has_generation, have_colours, have_generations, is_boxed, is_colour, is_rested, is_membership_right, joint_has_colour}
+use Rattle.world_file.specs.Clauses.{are_memberships_right, keep_together, has_colour_of, has_generation, have_colours, have_generations, is_boxed, is_colour, is_rested, is_membership_right, joint_has_colour}
 use Rattle.world_file.specs.Saved.{Saved, calls_in, most_calls, saved_in, slow_ticks, version_in, version_of}
 use Rattle.world_file.specs.AskedParts.{heads_asks, parts_asks, fitting_asks}
-use Rattle.world_file.specs.SavedForms.{all_items, are_totals, are_two_vectors, are_two_wholes, has_course, has_form, if_there, is_body, is_contact, is_id, is_joint, is_kind, is_list, is_long, is_motion, is_number_text, is_pair, is_point, is_round, is_shape, is_slot, is_text, is_total, is_truth, is_whole, is_whole_or_null}
+use Rattle.world_file.specs.SavedForms.{all_items, are_totals, are_two_vectors, are_two_wholes, has_course, has_form, if_there, is_body, is_contact, is_id, is_joint, is_kind, is_list, is_long, is_motion, is_number_text, is_pair, is_point_form, is_round, is_shape, is_slot_form, is_text, is_total, is_truth, is_whole, is_whole_or_null}
 use Rattle.world_file.specs.SavedLimits.{are_ends_numbers, are_few_slots, are_totals_within, are_two_numbers, is_body_within, is_box_within, is_contact_within, is_course_within, is_facing_within, is_from, is_in_limits, is_joint_within, is_long_within, is_motion_within, is_null_or_up_to, is_number, is_point_within, is_round_within, is_shape_id_within, is_shape_within, is_sized, is_slot_within, is_text_within, is_total_within, is_up_to, is_vector_within, may_have_shapes}
 use Rattle.world_file.proofs.TestLaws.{Hold, Says, Tests, after, asks, asks_unless, both_hold, idle, says_too}
 use Rattle.world_file.proofs.Tests.{both_true}
@@ -265,9 +265,9 @@ says_body most_ticks d =
 says_generation : (v : Option Data) → Says (Some (is_whole v) ∷ None ∷ Some (is_some (generation_of_value v)) ∷ []) (generation_asks v)
 says_generation v = after (says_whole v) (asks (is_some (generation_of_value v)) Generations)
 
-says_place : (key : List ℕ) (d : Data) → Says (Some (is_whole (get (codes "generation") d) && has_keys (slot_keys (is_some (get key d))) d) ∷ None ∷ Some (has_generation key d) ∷ []) (slot_entry_asks key d)
+says_slot_entry : (key : List ℕ) (d : Data) → Says (Some (is_whole (get (codes "generation") d) && has_keys (slot_keys (is_some (get key d))) d) ∷ None ∷ Some (has_generation key d) ∷ []) (slot_entry_asks key d)
 unfolding slot_entry_asks
-says_place key d = after (after (says_generation (get (codes "generation") d)) (asks (has_keys (slot_keys (is_some (get key d))) d) Form)) (asks (is_in_time (slot_entry_in key d)) Generations)
+says_slot_entry key d = after (after (says_generation (get (codes "generation") d)) (asks (has_keys (slot_keys (is_some (get key d))) d) Form)) (asks (is_in_time (slot_entry_in key d)) Generations)
 
 says_slots : (version : Version) (v : Option Data) → Says (plain (is_list v) (are_few_slots version v)) (slots_asks version v)
 says_slots version v = after (says_list v) (asks (are_few_slots version v) Limits)
@@ -276,10 +276,10 @@ says_body_item : (most_ticks : ℕ) (o : Option Data) → Says (bodily (if_there
 says_body_item most_ticks None = idle (bodily true true true true true) (refl, (refl, (tt, (tt, (refl, (refl, (tt, (refl, tt))))))))
 says_body_item most_ticks (Some d) = says_body most_ticks d
 
-says_body_slot : (most_ticks : ℕ) (d : Data) → Says (slotted (is_slot body_key is_body d) (is_slot_within body_key (is_body_within most_ticks) d) (has_generation body_key d) (is_boxed (slot_body most_ticks d)) (is_membership_right (slot_body most_ticks d) (slot_membership d)) (is_rested (slot_body most_ticks d))) (body_slot_asks most_ticks d)
-says_body_slot most_ticks d = after (says_place body_key d) (says_body_item most_ticks (get body_key d))
+says_body_slot : (most_ticks : ℕ) (d : Data) → Says (slotted (is_slot_form body_key is_body d) (is_slot_within body_key (is_body_within most_ticks) d) (has_generation body_key d) (is_boxed (slot_body most_ticks d)) (is_membership_right (slot_body most_ticks d) (slot_membership d)) (is_rested (slot_body most_ticks d))) (body_slot_asks most_ticks d)
+says_body_slot most_ticks d = after (says_slot_entry body_key d) (says_body_item most_ticks (get body_key d))
 
-says_bodies : (most_ticks : ℕ) (ds : Items) → Says (slotted (all_items (is_slot body_key is_body) ds) (all_items (is_slot_within body_key (is_body_within most_ticks)) ds) (all_items (has_generation body_key) ds) (list_all is_boxed (bodies_in most_ticks ds)) (are_memberships_right (bodies_in most_ticks ds) (memberships_in ds)) (list_all is_rested (bodies_in most_ticks ds))) (bodies_asks most_ticks ds)
+says_bodies : (most_ticks : ℕ) (ds : Items) → Says (slotted (all_items (is_slot_form body_key is_body) ds) (all_items (is_slot_within body_key (is_body_within most_ticks)) ds) (all_items (has_generation body_key) ds) (list_all is_boxed (bodies_in most_ticks ds)) (are_memberships_right (bodies_in most_ticks ds) (memberships_in ds)) (list_all is_rested (bodies_in most_ticks ds))) (bodies_asks most_ticks ds)
 says_bodies most_ticks no_items = idle (slotted true true true true true true) (refl, (refl, (refl, (tt, (refl, (refl, (tt, (refl, tt))))))))
 says_bodies most_ticks (item d ds) = after (says_body_slot most_ticks d) (says_bodies most_ticks ds)
 
@@ -295,10 +295,10 @@ says_joint_item : (version : Version) (o : Option Data) → Says (coloured (if_t
 says_joint_item version None = idle (coloured true true true) (refl, (refl, (tt, (tt, (tt, (tt, (tt, (tt, (refl, tt)))))))))
 says_joint_item version (Some d) = says_joint version d
 
-says_joint_slot : (version : Version) (d : Data) → Says (jointed (is_slot joint_key is_joint d) (is_slot_within joint_key is_joint_within d) (has_generation joint_key d) (joint_has_colour version d)) (joint_slot_asks version d)
-says_joint_slot version d = after (says_place joint_key d) (says_joint_item version (get joint_key d))
+says_joint_slot : (version : Version) (d : Data) → Says (jointed (is_slot_form joint_key is_joint d) (is_slot_within joint_key is_joint_within d) (has_generation joint_key d) (joint_has_colour version d)) (joint_slot_asks version d)
+says_joint_slot version d = after (says_slot_entry joint_key d) (says_joint_item version (get joint_key d))
 
-says_joints : (version : Version) (ds : Items) → Says (jointed (all_items (is_slot joint_key is_joint) ds) (all_items (is_slot_within joint_key is_joint_within) ds) (all_items (has_generation joint_key) ds) (all_items (joint_has_colour version) ds)) (joints_asks version ds)
+says_joints : (version : Version) (ds : Items) → Says (jointed (all_items (is_slot_form joint_key is_joint) ds) (all_items (is_slot_within joint_key is_joint_within) ds) (all_items (has_generation joint_key) ds) (all_items (joint_has_colour version) ds)) (joints_asks version ds)
 says_joints version no_items = idle (jointed true true true true) (refl, (refl, (refl, (tt, (tt, (tt, (tt, (tt, (refl, tt)))))))))
 says_joints version (item d ds) = after (says_joint_slot version d) (says_joints version ds)
 
@@ -310,13 +310,13 @@ says_size most v = after (says_number v) (asks (nat_le (unsigned_abs (number_in 
 says_push : (v : Option Data) → Says (plain (is_whole v) (is_sized MAX_NORMAL_IMPULSE v && int_le (pos 0) (number_in v))) (push_asks v)
 says_push v = after (says_size MAX_NORMAL_IMPULSE v) (asks (int_le (pos 0) (number_in v)) Limits)
 
-says_point : (d : Data) → Says (plain (is_point d) (is_point_within d)) (point_asks d)
-unfolding point_asks is_point is_point_within
+says_point : (d : Data) → Says (plain (is_point_form d) (is_point_within d)) (point_asks d)
+unfolding point_asks is_point_form is_point_within
 says_point d =
     let near = after (after (after (after (asks (has_keys 7 d) Form) (says_within MAX_NORMAL (get (codes "normal") d))) (says_size MAX_SEPARATION (get (codes "sep") d))) (says_within MAX_OFFSET (get (codes "ra") d))) (says_within MAX_OFFSET (get (codes "rb") d)) in
     after (after (after near (says_push (get (codes "push") d))) (says_size MAX_TANGENT_IMPULSE (get (codes "slip") d))) (says_up_to last_candidate (get (codes "candidate") d))
 
-says_points : (ds : Items) → Says (plain (all_items is_point ds) (all_items is_point_within ds)) (points_asks ds)
+says_points : (ds : Items) → Says (plain (all_items is_point_form ds) (all_items is_point_within ds)) (points_asks ds)
 says_points no_items = idle (plain true true) (refl, (refl, tt))
 says_points (item d ds) = after (says_point d) (says_points ds)
 
@@ -386,16 +386,16 @@ tests_of_whole s =
     None
     ∷ None
     ∷ None
-    ∷ Some (fits References s)
+    ∷ Some (keep_together References s)
     ∷ None
-    ∷ Some (fits Memberships s)
-    ∷ Some (fits Links s)
-    ∷ Some (fits Islands s)
-    ∷ Some (fits Colours s)
-    ∷ Some (fits Momentum s)
+    ∷ Some (keep_together Memberships s)
+    ∷ Some (keep_together Links s)
+    ∷ Some (keep_together Islands s)
+    ∷ Some (keep_together Colours s)
+    ∷ Some (keep_together Momentum s)
     ∷ []
 
 pub says_fitting : (s : Saved) → Says (tests_of_whole s) (fitting_asks s)
 says_fitting s =
-    let named = after (after (asks (fits References s) References) (asks (fits Memberships s) Memberships)) (asks (fits Links s) Links) in
-    after (after (after named (asks (fits Islands s) Islands)) (asks (fits Colours s) Colours)) (asks (fits Momentum s) Momentum)
+    let named = after (after (asks (keep_together References s) References) (asks (keep_together Memberships s) Memberships)) (asks (keep_together Links s) Links) in
+    after (after (after named (asks (keep_together Islands s) Islands)) (asks (keep_together Colours s) Colours)) (asks (keep_together Momentum s) Momentum)

@@ -4,7 +4,7 @@ use Rattle.std.proofs.lemmas.Bool.{false≢true}
 use Rattle.world_file_base.specs.Asks.{Ask, clause_number, no_asks}
 use Rattle.world_file_base.specs.declared.clause.Clause.{Clause}
 use Rattle.world_file_base.specs.declared.clause.Clause.TheVariants.{Form, Limits, Generations, References, FatBoxes, Memberships, Links, Islands, Colours, Momentum}
-use Rattle.world_file.specs.Clauses.{clauses, first_broken, first_unfit, fits, keeps}
+use Rattle.world_file.specs.Clauses.{clauses, first_broken, first_unfit, keep_together, keeps}
 use Rattle.world_file.specs.AskedParts.{fitting_asks, parts_asks, AskingFindsTheFirst}
 use Rattle.world_file.specs.Saved.{Saved, saved_in}
 use Rattle.world_file.proofs.ClauseTests.{says_fitting, says_parts}
@@ -112,7 +112,7 @@ table_found test ask says =
 
 pub found_unfit : (s : Saved) → (fitting_asks s no_asks).broken ≡ first_unfit s
 unfolding first_unfit
-found_unfit s = table_found (λ c. fits c s) (fitting_asks s) (after (idle (Some true ∷ Some true ∷ Some true ∷ None ∷ Some true ∷ []) (refl, (refl, (refl, (tt, (refl, tt)))))) (says_fitting s))
+found_unfit s = table_found (λ c. keep_together c s) (fitting_asks s) (after (idle (Some true ∷ Some true ∷ Some true ∷ None ∷ Some true ∷ []) (refl, (refl, (refl, (tt, (refl, tt)))))) (says_fitting s))
 
 pub asking_finds_the_first : AskingFindsTheFirst
 unfolding first_broken

@@ -11,7 +11,7 @@ use Rattle.world_file.specs.declared.ties.Tie.{Tie}
 
 no_joint : (bodies : List (Option Body)) (slot : ℕ) (slot_entries : List SlotEntry) → joint_ties bodies slot slot_entries [] ≡ []
 no_joint bodies slot [] = refl
-no_joint bodies slot (place ∷ slot_entries) = refl
+no_joint bodies slot (slot_entry ∷ slot_entries) = refl
 
 ties_end : (bodies : List (Option Body)) (slot_entries : List SlotEntry) (joints : List (Option SavedJoint)) (n k : ℕ) → (length slot_entries ≤ n) ⊎ (length joints ≤ n) → n ≤ k → joint_ties bodies k (drop k slot_entries) (drop k joints) ≡ []
 ties_end bodies slot_entries joints n k (inl past) end = rw (drop_all k slot_entries (omega arith)) refl
@@ -24,7 +24,7 @@ ties_listed done whole bodies slot_entries joints n k one end all =
 
 none_coloured : (bodies : List (Option Body)) (slot : ℕ) (slot_entries : List SlotEntry) → are_joints_colourless bodies slot slot_entries [] ≡ true
 none_coloured bodies slot [] = refl
-none_coloured bodies slot (place ∷ slot_entries) = refl
+none_coloured bodies slot (slot_entry ∷ slot_entries) = refl
 
 pub colourless_end : (bodies : List (Option Body)) (slot_entries : List SlotEntry) (joints : List (Option SavedJoint)) (n k : ℕ) → (length slot_entries ≤ n) ⊎ (length joints ≤ n) → n ≤ k
     → are_joints_colourless bodies k (drop k slot_entries) (drop k joints) ≡ true

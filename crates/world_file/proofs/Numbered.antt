@@ -60,7 +60,7 @@ contacts_numbered of colours (e ∷ contacts) each =
 
 pub joints_numbered : (of : ℕ → Option ℕ) (colours : List (List Constraint)) (slot : ℕ) (slot_entries : List SlotEntry) → ((number : ℕ) → of number ≡ colour_numbered number colours) → joint_colours_by of slot slot_entries ≡ joint_colours colours slot slot_entries
 joints_numbered of colours slot [] each = refl
-joints_numbered of colours slot (place ∷ slot_entries) each =
-    let id : Constraint = Joint (record { slot = slot; generation = place.generation }) in
+joints_numbered of colours slot (slot_entry ∷ slot_entries) each =
+    let id : Constraint = Joint (record { slot = slot; generation = slot_entry.generation }) in
     let here : of (constraint_number id) ≡ colour_of id colours = each (constraint_number id) ∙ numbered id colours in
     ap (λ x. x ∷ joint_colours_by of (suc slot) slot_entries) here ∙ ap (λ xs. colour_of id colours ∷ xs) (joints_numbered of colours (suc slot) slot_entries each)

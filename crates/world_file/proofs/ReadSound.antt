@@ -59,7 +59,7 @@ use Rattle.world_file.proofs.SavedContacts.{IsFittingContact, contacts_of, conta
 use Rattle.world_file.proofs.SavedIslands.{islands_are, tie_together, tied_is, told_is}
 use Rattle.world_file.proofs.SavedJoints.{joints_are, kept_matched}
 use Rattle.world_file.proofs.SavedTies.{ties_are}
-use Rattle.world_file.proofs.SlotAsks.{AreBodySlots, OnBody, bodies_matched, joint_places_are, joints_matched, slot_is}
+use Rattle.world_file.proofs.SlotAsks.{AreBodySlots, OnBody, bodies_matched, joint_slot_entries_are, joints_matched, slot_is}
 use Rattle.world_file.proofs.TieColours.{ties_coloured}
 use Rattle.world_file.proofs.Tests.{all_pass, both_true, equal_z}
 
@@ -105,11 +105,11 @@ bodies_are s h slot b e = (body_in_slot s h slot b (ap (λ (o : Option (Option B
 filters_are : (s : Saved) → HasParts s → AreFiltered s.bodies
 filters_are s h slot b e = all_from_each (λ (d : ShapeDef). HasFilter d.filter) b.shapes (body_in_slot s h slot b e).filters
 
-each_place : (most : ℕ) (ps : List SlotEntry) (os : List (Option Body)) (ms : List Membership) → AreBodySlots most ps os ms → Each IsSlotEntry ps
-each_place most [] os ms are = tt
-each_place most (p ∷ ps) [] ms are = absurd are
-each_place most (p ∷ ps) (o ∷ os) [] are = absurd are
-each_place most (p ∷ ps) (o ∷ os) (m ∷ ms) are = (are.0.place, each_place most ps os ms are.1)
+each_slot_entry : (most : ℕ) (ps : List SlotEntry) (os : List (Option Body)) (ms : List Membership) → AreBodySlots most ps os ms → Each IsSlotEntry ps
+each_slot_entry most [] os ms are = tt
+each_slot_entry most (p ∷ ps) [] ms are = absurd are
+each_slot_entry most (p ∷ ps) (o ∷ os) [] are = absurd are
+each_slot_entry most (p ∷ ps) (o ∷ os) (m ∷ ms) are = (are.0.slot_entry, each_slot_entry most ps os ms are.1)
 
 as_long : (most : ℕ) (ps : List SlotEntry) (os : List (Option Body)) (ms : List Membership) → AreBodySlots most ps os ms → length ms ≡ length os
 as_long most [] [] [] are = refl
@@ -119,8 +119,8 @@ as_long most (p ∷ ps) [] ms are = absurd are
 as_long most (p ∷ ps) (o ∷ os) [] are = absurd are
 as_long most (p ∷ ps) (o ∷ os) (m ∷ ms) are = ap (λ (n : ℕ). suc n) (as_long most ps os ms are.1)
 
-places_are : (s : Saved) → HasParts s → All IsSlotEntry s.slot_entries
-places_are s h = all_from_each IsSlotEntry s.slot_entries (each_place (8 * s.steps) s.slot_entries s.bodies s.memberships h.bodies)
+slot_entries_are : (s : Saved) → HasParts s → All IsSlotEntry s.slot_entries
+slot_entries_are s h = all_from_each IsSlotEntry s.slot_entries (each_slot_entry (8 * s.steps) s.slot_entries s.bodies s.memberships h.bodies)
 
 timers_are : (s : Saved) → HasParts s → AreTimers s.steps s.bodies
 timers_are s h slot b e = (body_in_slot s h slot b e).timer
@@ -156,7 +156,7 @@ abbrev labels : Saved → Labels
 labels s = map label_of s.memberships
 
 joint_slots_are : (s : Saved) → HasParts s → AreJointSlots (slots s)
-joint_slots_are s h = record { matched = kept_matched s.joint_entries s.joints (joints_matched s.joint_entries s.joints h.joints h.few_joints); slot_entries = joint_places_are s.joint_entries s.joints h.joints }
+joint_slots_are s h = record { matched = kept_matched s.joint_entries s.joints (joints_matched s.joint_entries s.joints h.joints h.few_joints); slot_entries = joint_slot_entries_are s.joint_entries s.joints h.joints }
 
 pub each_contact : (s : Saved) → HasParts s → AreFitting s → Each (IsFittingContact s.bodies) s.contacts
 each_contact s h f = fitting_each s.bodies s.contacts h.contacts (referred s f).contacts
@@ -234,7 +234,7 @@ kept_is s h f =
       filters = filters_are s h;
       timers = timers_are s h;
       matched = matched;
-      slot_entries = places_are s h;
+      slot_entries = slot_entries_are s h;
       joint_slots = slots.matched;
       joint_entries = slots.slot_entries;
       joints = joints_are s.slot_entries s.bodies s.joint_entries s.joints matched h.joints (referred s f).joints;

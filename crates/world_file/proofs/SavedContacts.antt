@@ -19,9 +19,10 @@ use Rattle.plain_world.specs.declared.body.Body.{Body}
 use Rattle.world_file_base.specs.SavedContacts.{no_points}
 use Rattle.world_file_base.specs.declared.saved.SavedContact.{SavedContact}
 use Rattle.shapes.specs.declared.shape.ShapeDef.{ShapeDef}
+use Rattle.plain_world.specs.Bodies.{is_mover_in}
 use Rattle.solver_sets.specs.Ties.{is_enabled_in}
 use Rattle.solver_sets.proofs.SlotLemmas.{below_length}
-use Rattle.world_core_base.specs.ContactBodies.{AreContactsOf, IsContactOf, moves_in}
+use Rattle.world_core_base.specs.ContactBodies.{AreContactsOf, IsContactOf}
 use Rattle.world_file.specs.Fitting.{are_points, are_rising_after, entry_read, has_points, is_above, is_contact_fitting, is_dynamic_body}
 use Rattle.world_rules.specs.Sound.{HasBodies}
 use Rattle.world_file.proofs.ContactAsks.{IsSavedContact}
@@ -112,7 +113,7 @@ mover_by : (t u : Bool) → t ≡ true → u ≡ true → cond t u false ≡ tru
 mover_by true u e h = h
 mover_by false u e h = absurd (false≢true e)
 
-moves_by : (o : Option Body) → is_enabled_in o ≡ true → is_dynamic_body o ≡ true → moves_in o ≡ true
+moves_by : (o : Option Body) → is_enabled_in o ≡ true → is_dynamic_body o ≡ true → is_mover_in o ≡ true
 moves_by None e h = h
 moves_by (Some b) e h = mover_by b.enabled (is_dynamic b.kind) e h
 

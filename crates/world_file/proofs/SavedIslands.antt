@@ -15,7 +15,7 @@ use Rattle.plain_world.specs.declared.body.Body.{Body}
 use Rattle.world_file_base.specs.declared.saved.Membership.{Membership}
 use Rattle.sleep_wake.specs.Acting.{AreMovers}
 use Rattle.solver_sets.specs.Tied.{AreTied}
-use Rattle.solver_sets.specs.Ties.{is_mover_in}
+use Rattle.plain_world.specs.Bodies.{is_mover_in}
 use Rattle.world_file.specs.Fitting.{are_named_well, are_whole, as_one_island, components_of, is_link_kept, is_named, is_named_well, is_same_membership, is_same_name, is_same_truth, is_tie_kept, is_whole_at, label_of, links_among, membership_at, state_of}
 use Rattle.world_file.specs.declared.ties.Tie.{Tie}
 use Rattle.world_rules.specs.Sound.{AreTold}

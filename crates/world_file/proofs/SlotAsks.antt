@@ -30,7 +30,7 @@ use Rattle.world_file.proofs.BodyAsks.{IsSavedBody, establishes_body}
 use Rattle.world_file.proofs.ContactAsks.{IsSavedJoint, joint_is, passes_joint}
 use Rattle.world_file.proofs.Tests.{at_most, below, either_true, not_true}
 
--- ---- a place
+-- ---- a slot entry
 
 record IsGeneration (n : ℕ) : Type 0 where
   positive : 1 ≤ n
@@ -63,9 +63,9 @@ in_time p h e = elim (either_true (not p.live) (nat_lt p.generation WORN_OUT) h)
   | inr low ↦ below p.generation WORN_OUT low
 ]
 
-place_is : (key : List ℕ) (d : Data) → is_in_time (slot_entry_in key d) ≡ true → IsSlotEntry (slot_entry_in key d)
+slot_entry_is : (key : List ℕ) (d : Data) → is_in_time (slot_entry_in key d) ≡ true → IsSlotEntry (slot_entry_in key d)
 unfolding slot_entry_in
-place_is key d h =
+slot_entry_is key d h =
     let g = generation_is (get (codes "generation") d) in
     record { positive = g.positive; bounded = g.bounded; takes_back = in_time (slot_entry_in key d) h }
 
@@ -73,12 +73,12 @@ live_is : (key : List ℕ) (d : Data) → (slot_entry_in key d).live ≡ is_some
 unfolding slot_entry_in
 live_is key d = refl
 
-establishes_place : (key : List ℕ) (d : Data) → Establishes (IsSlotEntry (slot_entry_in key d)) (slot_entry_asks key d)
+establishes_slot_entry : (key : List ℕ) (d : Data) → Establishes (IsSlotEntry (slot_entry_in key d)) (slot_entry_asks key d)
 unfolding slot_entry_asks
-establishes_place key d r h =
+establishes_slot_entry key d r h =
     let o = establishes (is_in_time (slot_entry_in key d)) Generations _ h in
     let keys = passes (has_keys (slot_keys (is_some (get key d))) d) Form _ o.1 in
-    (place_is key d o.0, passes_generation (get (codes "generation") d) r keys)
+    (slot_entry_is key d o.0, passes_generation (get (codes "generation") d) r keys)
 
 slots_small : (v : Version) → most_slots v ≤ MAX_SLOTS
 slots_small First = omega arith
@@ -98,7 +98,7 @@ OnBody most None m = m ≡ no_membership
 OnBody most (Some b) m = IsSavedBody most b m
 
 pub record IsBodySlot (most : ℕ) (p : SlotEntry) (o : Option Body) (m : Membership) : Type 0 where
-  pub place : IsSlotEntry p
+  pub slot_entry : IsSlotEntry p
   pub live : p.live ≡ is_some o
   pub body : OnBody most o m
 
@@ -122,8 +122,8 @@ some_map f (Some x) = refl
 establishes_body_slot : (most : ℕ) (d : Data) → Establishes (IsBodySlot most (slot_entry_in body_key d) (option_map (body_in most) (get body_key d)) (membership_or_none (get body_key d))) (body_slot_asks most d)
 establishes_body_slot most d r h =
     let o = establishes_item most (get body_key d) (slot_entry_asks body_key d r) h in
-    let p = establishes_place body_key d r o.1 in
-    (record { place = p.0; live = live_is body_key d ∙ some_map (body_in most) (get body_key d); body = o.0 }, p.1)
+    let p = establishes_slot_entry body_key d r o.1 in
+    (record { slot_entry = p.0; live = live_is body_key d ∙ some_map (body_in most) (get body_key d); body = o.0 }, p.1)
 
 passes_bodies : (most : ℕ) (ds : Items) (r : Reader) → IsUnbroken (bodies_asks most ds r) → IsUnbroken r
 passes_bodies most no_items r h = h
@@ -179,7 +179,7 @@ OnJoint None = Unit {0}
 OnJoint (Some j) = IsSavedJoint j
 
 pub record IsJointSlot (p : SlotEntry) (o : Option SavedJoint) : Type 0 where
-  pub place : IsSlotEntry p
+  pub slot_entry : IsSlotEntry p
   pub live : p.live ≡ is_some o
   pub joint : OnJoint o
 
@@ -199,8 +199,8 @@ passes_item v (Some d) r h = passes_joint v d r h
 
 establishes_joint_slot : (v : Version) (d : Data) → Establishes (IsJointSlot (slot_entry_in joint_key d) (option_map (joint_in v) (get joint_key d))) (joint_slot_asks v d)
 establishes_joint_slot v d r h =
-    let p = establishes_place joint_key d r (passes_item v (get joint_key d) (slot_entry_asks joint_key d r) h) in
-    (record { place = p.0; live = live_is joint_key d ∙ some_map (joint_in v) (get joint_key d); joint = on_joint v (get joint_key d) }, p.1)
+    let p = establishes_slot_entry joint_key d r (passes_item v (get joint_key d) (slot_entry_asks joint_key d r) h) in
+    (record { slot_entry = p.0; live = live_is joint_key d ∙ some_map (joint_in v) (get joint_key d); joint = on_joint v (get joint_key d) }, p.1)
 
 passes_joints : (v : Version) (ds : Items) (r : Reader) → IsUnbroken (joints_asks v ds r) → IsUnbroken r
 passes_joints v no_items r h = h
@@ -240,11 +240,11 @@ joints_as_long (p ∷ ps) (o ∷ os) are = ap (λ n. suc n) (joints_as_long ps o
 pub joints_matched : (ps : List SlotEntry) (os : List (Option SavedJoint)) → AreSavedSlots ps os → length os ≤ MAX_SLOTS → AreMatched ps os
 joints_matched ps os are few = record { slots = joints_as_long ps os are; few = few; taken = joint_taken ps os are }
 
-each_place : (ps : List SlotEntry) (os : List (Option SavedJoint)) → AreSavedSlots ps os → Each IsSlotEntry ps
-each_place [] [] are = tt
-each_place [] (o ∷ os) are = absurd are
-each_place (p ∷ ps) [] are = absurd are
-each_place (p ∷ ps) (o ∷ os) are = (are.0.place, each_place ps os are.1)
+each_slot_entry : (ps : List SlotEntry) (os : List (Option SavedJoint)) → AreSavedSlots ps os → Each IsSlotEntry ps
+each_slot_entry [] [] are = tt
+each_slot_entry [] (o ∷ os) are = absurd are
+each_slot_entry (p ∷ ps) [] are = absurd are
+each_slot_entry (p ∷ ps) (o ∷ os) are = (are.0.slot_entry, each_slot_entry ps os are.1)
 
-pub joint_places_are : (ps : List SlotEntry) (os : List (Option SavedJoint)) → AreSavedSlots ps os → All IsSlotEntry ps
-joint_places_are ps os are = all_from_each IsSlotEntry ps (each_place ps os are)
+pub joint_slot_entries_are : (ps : List SlotEntry) (os : List (Option SavedJoint)) → AreSavedSlots ps os → All IsSlotEntry ps
+joint_slot_entries_are ps os are = all_from_each IsSlotEntry ps (each_slot_entry ps os are)

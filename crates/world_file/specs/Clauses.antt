@@ -77,30 +77,30 @@ have_colours d =
 -- ---- the table
 
 -- whether the parts that were read keep a clause together; the others speak of single parts
-abbrev pub fits : Clause → Saved → Bool
-fits Form s = true
-fits Limits s = true
-fits Generations s = true
-fits References s = references_keep s
-fits FatBoxes s = true
-fits Memberships s = are_named_well s.memberships 0 s.memberships
-fits Links s = list_all (is_tie_kept s.memberships) (ties_read s)
-fits Islands s = are_whole (components_of s.memberships (links_of (members_among (ties_read s)))) 0 s.memberships
-fits Colours s = colours_keep s
-fits Momentum s = momentum_keeps s
+abbrev pub keep_together : Clause → Saved → Bool
+keep_together Form s = true
+keep_together Limits s = true
+keep_together Generations s = true
+keep_together References s = references_keep s
+keep_together FatBoxes s = true
+keep_together Memberships s = are_named_well s.memberships 0 s.memberships
+keep_together Links s = list_all (is_tie_kept s.memberships) (ties_read s)
+keep_together Islands s = are_whole (components_of s.memberships (links_of (members_among (ties_read s)))) 0 s.memberships
+keep_together Colours s = colours_keep s
+keep_together Momentum s = momentum_keeps s
 
 -- whether a value keeps a clause
 abbrev pub keeps : Clause → Data → Bool
 keeps Form d = has_form d
 keeps Limits d = is_in_limits d
 keeps Generations d = have_generations d
-keeps References d = fits References (saved_in d)
+keeps References d = keep_together References (saved_in d)
 keeps FatBoxes d = list_all is_boxed (saved_in d).bodies
-keeps Memberships d = are_memberships_right (saved_in d).bodies (saved_in d).memberships && fits Memberships (saved_in d)
-keeps Links d = fits Links (saved_in d)
-keeps Islands d = list_all is_rested (saved_in d).bodies && fits Islands (saved_in d)
-keeps Colours d = have_colours d && fits Colours (saved_in d)
-keeps Momentum d = fits Momentum (saved_in d)
+keeps Memberships d = are_memberships_right (saved_in d).bodies (saved_in d).memberships && keep_together Memberships (saved_in d)
+keeps Links d = keep_together Links (saved_in d)
+keeps Islands d = list_all is_rested (saved_in d).bodies && keep_together Islands (saved_in d)
+keeps Colours d = have_colours d && keep_together Colours (saved_in d)
+keeps Momentum d = keep_together Momentum (saved_in d)
 
 -- in the order of their numbers, 1 to 10
 abbrev pub clauses : List Clause
@@ -108,7 +108,7 @@ clauses = Form ∷ Limits ∷ Generations ∷ References ∷ FatBoxes ∷ Member
 
 -- the first clause that the parts break together
 unfoldable pub first_unfit : Saved → Option Clause
-first_unfit s = find (λ clause. not (fits clause s)) clauses
+first_unfit s = find (λ clause. not (keep_together clause s)) clauses
 
 -- the first clause that a value breaks
 unfoldable pub first_broken : Data → Option Clause

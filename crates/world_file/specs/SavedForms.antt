@@ -146,16 +146,16 @@ is_joint d =
 -- ---- slots
 
 -- a slot has its generation, and under this key what is in it
-abbrev pub is_slot : List ℕ → (Data → Bool) → Data → Bool
-is_slot key test d =
+abbrev pub is_slot_form : List ℕ → (Data → Bool) → Data → Bool
+is_slot_form key test d =
     is_whole (get (codes "generation") d)
     && has_keys (slot_keys (is_some (get key d))) d
     && if_there test (get key d)
 
 -- ---- contacts
 
-unfoldable pub is_point : Data → Bool
-is_point d =
+unfoldable pub is_point_form : Data → Bool
+is_point_form d =
     has_keys 7 d
     && are_two_wholes (get (codes "normal") d)
     && is_whole (get (codes "sep") d)
@@ -173,7 +173,7 @@ is_contact d =
     && is_truth (get (codes "touching") d)
     && is_whole_or_null (get (codes "colour") d)
     && is_list (get (codes "points") d)
-    && all_items is_point (items_in (get (codes "points") d))
+    && all_items is_point_form (items_in (get (codes "points") d))
 
 -- ---- the whole
 
@@ -187,8 +187,8 @@ has_form d =
     && is_whole (get (codes "step") d)
     && are_totals (get (codes "ledger") d)
     && is_list (get (codes "bodies") d)
-    && all_items (is_slot body_key is_body) (items_in (get (codes "bodies") d))
+    && all_items (is_slot_form body_key is_body) (items_in (get (codes "bodies") d))
     && is_list (get (codes "joints") d)
-    && all_items (is_slot joint_key is_joint) (items_in (get (codes "joints") d))
+    && all_items (is_slot_form joint_key is_joint) (items_in (get (codes "joints") d))
     && is_list (get (codes "contacts") d)
     && all_items is_contact (items_in (get (codes "contacts") d))

@@ -25,8 +25,8 @@ pub fn what_is_written_fits()
     ensures { WhatIsWrittenFits }
 {}
 
-/// A sound world whose totals are small is read again as it is written, with these totals. What is read so answers all commands as that world does, and has the same plain
-/// lists after them.
+/// A sound world whose totals are small is read again as it is written, with these totals. What is read so answers all commands as that world does,
+/// and has the same plain lists after them.
 pub fn what_is_written_is_read_again()
     ensures again { WhatIsWrittenIsReadAgain }
     ensures same { WhatIsReadAgainGoesOnTheSame }

@@ -20,8 +20,9 @@ ghost use Rattle.world_file.specs.Fitting.{
 };
 
 use body_handles::{Handle, SlotEntry};
-use contacts_base::limits::{MAX_FRICTION, MAX_RESTITUTION};
-use contacts_base::{ContactEntry, ContactPoint, PackedSurface, ShapeId, Surface};
+use contacts_base::{
+    ContactEntry, ContactPoint, MAX_FRICTION, MAX_RESTITUTION, PackedSurface, ShapeId, Surface,
+};
 use plain_world::{Body, BodyJoint, surface_of};
 use shapes::ShapeDef;
 use std::alloc::Global;

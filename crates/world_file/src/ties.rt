@@ -21,7 +21,7 @@ use body_handles::{Handle, SlotEntry};
 use contacts::Constraint;
 use graph_colours::Member;
 use plain_world::Body;
-use solver_sets::{contact_movers, joint_movers, tie_with};
+use solver_sets::{contact_movers, joint_tie, tie_with};
 use std::alloc::Global;
 use world_file_base::{Broken, SavedContact, SavedJoint};
 
@@ -42,22 +42,21 @@ fn tie_of(member: Option<Member<Constraint>>, colour: Option<u8>) -> Option<Tie>
 }
 
 /// The joint in a slot as a tie, if there is one and it is one.
-fn joint_tie(
+fn saved_joint_tie(
     bodies: &[Option<Body>],
     slot: u32,
-    place: SlotEntry,
+    slot_entry: SlotEntry,
     entry: Option<SavedJoint>,
 ) -> Option<Tie>
-    ensures { result ≡ joint_tie bodies.now slot place entry }
+    ensures { result ≡ joint_tie bodies.now slot slot_entry entry }
 {
     match entry {
         Some(saved) => {
             let handle = Handle {
                 slot,
-                generation: place.generation,
+                generation: slot_entry.generation,
             };
-            let movers = joint_movers(bodies, &saved.joint);
-            tie_of(tie_with(Constraint::Joint(handle), movers), saved.colour)
+            tie_of(joint_tie(bodies, handle, &saved.joint), saved.colour)
         }
         None => None,
     }
@@ -137,7 +136,7 @@ fn push_joint_ties(
     for slot in 0..lesser(slot_entries.len(), joints.len()) {
         push_tie(
             ties,
-            joint_tie(bodies, slot as u32, slot_entries[slot], joints[slot]),
+            saved_joint_tie(bodies, slot as u32, slot_entries[slot], joints[slot]),
         )?;
     }
     Ok(())
@@ -180,12 +179,15 @@ pub(crate) fn list_ties(
 fn is_joint_colourless(
     bodies: &[Option<Body>],
     slot: u32,
-    place: SlotEntry,
+    slot_entry: SlotEntry,
     entry: Option<SavedJoint>,
 ) -> bool
-    ensures { result ≡ is_colourless (joint_tie bodies.now slot place entry) (joint_colour entry) }
+    ensures { result ≡ is_colourless (joint_tie bodies.now slot slot_entry entry) (joint_colour entry) }
 {
-    is_colourless(joint_tie(bodies, slot, place, entry), joint_colour(entry))
+    is_colourless(
+        saved_joint_tie(bodies, slot, slot_entry, entry),
+        joint_colour(entry),
+    )
 }
 
 /// Whether no joint has a colour that is no tie.

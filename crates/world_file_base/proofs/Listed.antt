@@ -45,7 +45,7 @@ shapes_written items defs fats n k one end = all_written items (shapes_of (drop 
 
 no_body : (slot : ℕ) (slot_entries : List SlotEntry) (labels : Labels) → body_slots slot slot_entries [] labels ≡ []
 no_body slot [] labels = refl
-no_body slot (place ∷ slot_entries) labels = refl
+no_body slot (slot_entry ∷ slot_entries) labels = refl
 
 bodies_end : (slot_entries : List SlotEntry) (bodies : List (Option Body)) (labels : Labels) (n k : ℕ) → (length slot_entries ≤ n) ⊎ (length bodies ≤ n) → n ≤ k → body_slots k (drop k slot_entries) (drop k bodies) labels ≡ []
 bodies_end slot_entries bodies labels n k (inl past) end = rw (drop_all k slot_entries (omega arith)) refl
@@ -58,12 +58,12 @@ bodies_written items slot_entries bodies labels n k one end =
 
 no_joint : (all slot_entries : List SlotEntry) (colours : List (Option ℕ)) → joint_slots all slot_entries [] colours ≡ []
 no_joint all [] colours = refl
-no_joint all (place ∷ slot_entries) colours = refl
+no_joint all (slot_entry ∷ slot_entries) colours = refl
 
 no_colour : (all slot_entries : List SlotEntry) (joints : List (Option BodyJoint)) → joint_slots all slot_entries joints [] ≡ []
 no_colour all [] joints = refl
-no_colour all (place ∷ slot_entries) [] = refl
-no_colour all (place ∷ slot_entries) (j ∷ joints) = refl
+no_colour all (slot_entry ∷ slot_entries) [] = refl
+no_colour all (slot_entry ∷ slot_entries) (j ∷ joints) = refl
 
 joints_end : (all slot_entries : List SlotEntry) (joints : List (Option BodyJoint)) (colours : List (Option ℕ)) (m n k : ℕ) → (length slot_entries ≤ m) ⊎ (length joints ≤ m) → (m ≤ n) ⊎ (length colours ≤ n) → n ≤ k
     → joint_slots all (drop k slot_entries) (drop k joints) (drop k colours) ≡ []

@@ -52,15 +52,9 @@ ghost use Rattle.world_file_base.specs.declared.clause.Broken.TheVariants.{Claus
 
 use crate::clause::{Broken, Clause};
 use crate::decimals::{is_number, sized_number};
-use body_handles::{Handle, handle_of};
+use body_handles::{Handle, NO_HANDLE, handle_of};
 use fixed_geom::{Box2, Vec2, ZERO_VECTOR, is_within};
 use serde_json::Value;
-
-/// What is taken where a text is no id. The form is broken then.
-const NO_HANDLE: Handle = Handle {
-    slot: 0,
-    generation: 0,
-};
 
 /// Reads the values of keys, and keeps the first clause that any of them breaks. What is read in place of a value that breaks one means nothing.
 #[derive(Clone, Copy)]

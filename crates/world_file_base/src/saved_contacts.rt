@@ -40,10 +40,10 @@ use crate::members::{Members, array_value, pair_value};
 use crate::reader::{Reader, field, has_keys, item_at};
 use crate::saved::SavedContact;
 use crate::version::{Version, colour_value, read_colour};
-use contacts_base::limits::{
-    MAX_NORMAL, MAX_NORMAL_IMPULSE, MAX_OFFSET, MAX_SEPARATION, MAX_TANGENT_IMPULSE,
+use contacts_base::{
+    ContactEntry, ContactKey, ContactPoint, MAX_NORMAL, MAX_NORMAL_IMPULSE, MAX_OFFSET,
+    MAX_SEPARATION, MAX_TANGENT_IMPULSE, PackedContact, ShapeId,
 };
-use contacts_base::{ContactEntry, ContactKey, ContactPoint, PackedContact, ShapeId};
 use fixed_geom::Refusal;
 use serde_json::Value;
 use std::alloc::Global;

@@ -89,10 +89,10 @@ fn slot_keys(live: bool) -> usize
 }
 
 /// Whether nothing is in a slot at its last generation.
-pub fn is_in_time(place: SlotEntry) -> bool
-    ensures { result ≡ is_in_time place }
+pub fn is_in_time(slot_entry: SlotEntry) -> bool
+    ensures { result ≡ is_in_time slot_entry }
 {
-    !place.live || place.generation < WORN_OUT
+    !slot_entry.live || slot_entry.generation < WORN_OUT
 }
 
 /// Reads a slot, in which something is under this key if it isn't free.
@@ -104,9 +104,9 @@ fn read_slot_entry(reader: &mut Reader, value: &Value, key: &str) -> SlotEntry
     let generation = read_generation(reader, field(value, "generation"));
     let live = field(value, key).is_some();
     reader.ask(has_keys(value, slot_keys(live)), Clause::Form);
-    let place = SlotEntry { generation, live };
-    reader.ask(is_in_time(place), Clause::Generations);
-    place
+    let slot_entry = SlotEntry { generation, live };
+    reader.ask(is_in_time(slot_entry), Clause::Generations);
+    slot_entry
 }
 
 /// Reads what is in a slot of bodies.
@@ -151,8 +151,8 @@ fn read_body_slot(
     ensures asked { OnOk result (reader.new ≡ body_slot_asks most_ticks (view value.now) reader.old) }
     ensures memory { IfErr result (λ e. e ≡ NoMemory) }
 {
-    let place = read_slot_entry(reader, value, "body");
-    bodies.slot_entries.push(place)?;
+    let slot_entry = read_slot_entry(reader, value, "body");
+    bodies.slot_entries.push(slot_entry)?;
     read_slot_body(alloc, reader, field(value, "body"), most_ticks, bodies)
 }
 
@@ -235,9 +235,9 @@ fn read_joint_slot(
     ensures asked { OnOk result (reader.new ≡ joint_slot_asks version (view value.now) reader.old) }
     ensures memory { IfErr result (λ e. e ≡ NoMemory) }
 {
-    let place = read_slot_entry(reader, value, "joint");
+    let slot_entry = read_slot_entry(reader, value, "joint");
     let joint = read_slot_joint(reader, field(value, "joint"), version);
-    joints.slot_entries.push(place)?;
+    joints.slot_entries.push(slot_entry)?;
     joints.joints.push(joint)?;
     Ok(())
 }
@@ -297,15 +297,15 @@ fn put_body(
 
 fn body_slot_value(
     alloc: Global,
-    place: SlotEntry,
+    slot_entry: SlotEntry,
     entry: &Option<Body>,
     label: Option<Label>,
 ) -> Result<Value, Refusal>
-    ensures { IfOk result (λ value. view value ≡ body_slot_of place entry.now label) }
+    ensures { IfOk result (λ value. view value ≡ body_slot_of slot_entry entry.now label) }
 {
     let mut members = Members::new(alloc);
     put_body(&mut members, alloc, entry, label)?;
-    members.put("generation", Value::from(place.generation))?;
+    members.put("generation", Value::from(slot_entry.generation))?;
     Ok(members.object())
 }
 
@@ -355,19 +355,19 @@ fn put_joint(
 fn joint_slot_value(
     alloc: Global,
     slot_entries: &[SlotEntry],
-    place: SlotEntry,
+    slot_entry: SlotEntry,
     entry: &Option<BodyJoint>,
     colour: Option<u8>,
 ) -> Result<Value, Refusal>
-    ensures { IfOk result (λ value. view value ≡ joint_slot_of slot_entries.now place entry.now colour) }
+    ensures { IfOk result (λ value. view value ≡ joint_slot_of slot_entries.now slot_entry entry.now colour) }
 {
     let mut members = Members::new(alloc);
     put_joint(&mut members, alloc, slot_entries, entry, colour)?;
-    members.put("generation", Value::from(place.generation))?;
+    members.put("generation", Value::from(slot_entry.generation))?;
     Ok(members.object())
 }
 
-/// The joints as they are written, between bodies of these places, each with its colour.
+/// The joints as they are written, between bodies of these slot entries, each with its colour.
 pub fn joints_value(
     alloc: Global,
     slot_entries: &[SlotEntry],

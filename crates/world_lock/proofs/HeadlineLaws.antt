@@ -15,14 +15,14 @@ use Rattle.islands.specs.declared.label.IslandState.{IslandState}
 use Rattle.islands.specs.declared.label.IslandState.TheVariants.{Asleep, Loose, Whole}
 use Rattle.islands.specs.declared.label.Label.{Label}
 use Rattle.plain_world.specs.declared.body.Body.{Body}
-use Rattle.plain_world.specs.Bodies.{IsAtRest}
+use Rattle.plain_world.specs.Bodies.{IsAtRest, is_mover_in}
 use Rattle.plain_world.specs.Slots.{body_at}
 use Rattle.solver_sets.proofs.ListLaws.{in_map}
 use Rattle.solver_sets.specs.Census.{IsCensus, census_of, standings_of}
 use Rattle.solver_sets.specs.Laws.{ListsAreCensus, TiesAreWithin}
 use Rattle.solver_sets.specs.Tied.{AreTied}
 use Rattle.solver_sets.specs.Alike.{AreJointSlots}
-use Rattle.solver_sets.specs.Ties.{IsKeyWithin, JointSlots, is_mover_in, member_of, members_of, movers_of, tie_with}
+use Rattle.solver_sets.specs.Ties.{IsKeyWithin, JointSlots, member_of, members_of, movers_of, tie_with}
 use Rattle.world_rules.specs.Laws as rules
 use Rattle.world_rules.specs.Laws.{ColoursAreApart, LinkedMoversStandTogether, SleepingSetsAreComponents, SleepsIn, WhatActsHasAColour}
 use Rattle.world_rules.specs.Sets.{acting_of}

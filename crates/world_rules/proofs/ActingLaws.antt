@@ -14,7 +14,7 @@ use Rattle.islands.specs.Labels.{Labels, is_asleep, label_at, sleeping_name}
 use Rattle.islands.specs.declared.label.Label.{Label}
 use Rattle.colour_solver.proofs.VectorLaws.{same_x, same_y}
 use Rattle.plain_world.specs.declared.body.Body.{Body}
-use Rattle.plain_world.specs.Bodies.{AreBodies, is_awake, is_mover}
+use Rattle.plain_world.specs.Bodies.{AreBodies, is_awake, is_mover, is_mover_in}
 use Rattle.plain_world.specs.Momentum.{momentum}
 use Rattle.plain_world.specs.Joints.{AreJoints}
 use Rattle.plain_world.specs.Plain.{Plain}
@@ -29,7 +29,7 @@ use Rattle.sleep_wake.specs.Sleeping as naming
 use Rattle.sleep_wake.specs.Waking.{set_woken, woken_at, woken_by}
 use Rattle.solver_sets.specs.Tied.{AreTied}
 use Rattle.solver_sets.specs.Alike.{AreAlike}
-use Rattle.solver_sets.specs.Ties.{is_mover_in, members_of, ties_of}
+use Rattle.solver_sets.specs.Ties.{members_of, ties_of}
 use Rattle.world_core_base.specs.ContactBodies.{AreContactsOf}
 use Rattle.world_rules.specs.Sets.{acting_of, with_acting, with_woken}
 use Rattle.world_rules.specs.Sound.{AreSmall, AreTimers, AreTold, HasBodies}

@@ -17,7 +17,8 @@ use Rattle.plain_world.specs.Slots.{body_at}
 use Rattle.sleep_wake.specs.Acting.{Acting, are_awake, awake_label, is_mover_awake, second_awake}
 use Rattle.sleep_wake.specs.Bodies.{mover_gone}
 use Rattle.sleep_wake.proofs.ListLemmas.{in_links}
-use Rattle.solver_sets.specs.Ties.{moves, ties_of}
+use Rattle.plain_world.specs.Bodies.{moves}
+use Rattle.solver_sets.specs.Ties.{ties_of}
 use Rattle.world_rules.specs.Sets.{acting_of, with_woken}
 use Rattle.world_rules.specs.World.{World, joints_in_slots}
 use Rattle.world_rules.proofs.ActingLaws.{awake_name, stay_awake}

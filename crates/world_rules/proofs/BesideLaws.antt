@@ -19,7 +19,8 @@ use Rattle.plain_world.specs.Slots.{AreMatched, body_at, shapes_in}
 use Rattle.solver_sets.specs.Joining.{handle_at, unjoined, unjoined_all, unjoined_up}
 use Rattle.solver_sets.specs.Tied.{AreTied}
 use Rattle.solver_sets.specs.Alike.{AreAlikeBeside, HaveSameEnds, ends_in}
-use Rattle.solver_sets.specs.Ties.{JointSlots, is_enabled_in, is_mover_in}
+use Rattle.plain_world.specs.Bodies.{is_mover_in}
+use Rattle.solver_sets.specs.Ties.{JointSlots, is_enabled_in}
 use Rattle.world_core_base.specs.ContactBodies.{AreContactsOf, IsContactOf}
 use Rattle.world_rules.specs.Sound.{AreTimers, HasBodies}
 use Rattle.world_rules.proofs.KeptContacts.{all_without}

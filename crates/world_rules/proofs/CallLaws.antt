@@ -19,7 +19,8 @@ use Rattle.sleep_wake.specs.Acting.{are_awake, is_mover_awake}
 use Rattle.sleep_wake.specs.ChangeLists.{CanBegin, CanEnd}
 use Rattle.solver_sets.specs.Beside.{joined_to, stirred_by}
 use Rattle.solver_sets.specs.Joining.{handle_at}
-use Rattle.solver_sets.specs.Ties.{joint_movers, joint_ties_at, moves, ties_at}
+use Rattle.plain_world.specs.Bodies.{moves}
+use Rattle.solver_sets.specs.Ties.{joint_movers, joint_ties_at, ties_at}
 use Rattle.world_rules.specs.Sets.{acting_of, stirred, ties_ended, with_woken}
 use Rattle.world_rules.specs.World.{World, joints_in_slots}
 use Rattle.world_rules.proofs.ActingLaws.{IsWoken, waking_kept}

@@ -7,11 +7,11 @@ use Rattle.graph_colours.specs.Colours.{ids_of}
 use Rattle.graph_colours.specs.declared.member.Member.{Member}
 use Rattle.islands.specs.Labels.{Labels, label_at, sleeping_name}
 use Rattle.plain_world.specs.declared.body.Body.{Body}
-use Rattle.plain_world.specs.Bodies.{is_mover}
+use Rattle.plain_world.specs.Bodies.{is_mover, is_mover_in}
 use Rattle.plain_world.specs.Slots.{body_at}
 use Rattle.solver_sets.specs.Tied.{AreTied}
 use Rattle.solver_sets.specs.Alike.{AreAlike}
-use Rattle.solver_sets.specs.Ties.{is_enabled_in, is_mover_in, members_of}
+use Rattle.solver_sets.specs.Ties.{is_enabled_in, members_of}
 use Rattle.world_rules.specs.Sets.{acting_of}
 use Rattle.world_rules.specs.Sound.{AreTimers, AreTold}
 use Rattle.world_rules.specs.World.{World, joints_in_slots}

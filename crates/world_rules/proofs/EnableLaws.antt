@@ -15,7 +15,8 @@ use Rattle.plain_world.specs.declared.body.Body.{Body}
 use Rattle.plain_world.specs.declared.joint.BodyJoint.{BodyJoint}
 use Rattle.solver_sets.specs.Beside.{joined_by, joined_to, mover_at, mover_beside}
 use Rattle.solver_sets.specs.Alike.{AreAlikeBeside}
-use Rattle.solver_sets.specs.Ties.{Bond, JointSlots, is_bond_of, is_enabled, joint_bond, joint_bonds_from, joint_ties_at, movers_if, movers_with, moves, tie_of, tie_with}
+use Rattle.plain_world.specs.Bodies.{moves}
+use Rattle.solver_sets.specs.Ties.{Bond, JointSlots, is_bond_of, is_enabled, joint_bond, joint_bonds_from, joint_ties_at, movers_if, movers_with, tie_of, tie_with}
 
 -- the mover in the slot is one of these
 abbrev pub IsMoverOf : Movers → ℕ → Type 0

@@ -9,7 +9,7 @@ use Rattle.contacts.specs.declared.constraint.Constraint.{Constraint}
 use Rattle.islands.specs.Labels.{label_at, sleeping_name}
 use Rattle.islands.proofs.LabelLemmas.{added_here, added_other}
 use Rattle.plain_world.specs.declared.body.Body.{Body}
-use Rattle.plain_world.specs.Bodies.{AreBodies, IsBody, is_mover}
+use Rattle.plain_world.specs.Bodies.{AreBodies, IsBody, is_mover, is_mover_in}
 use Rattle.plain_world.specs.Changes.{enabled_body}
 use Rattle.plain_world.specs.Kinds.{is_dynamic}
 use Rattle.plain_world.specs.Sleep.{told}
@@ -17,7 +17,6 @@ use Rattle.plain_world.specs.Slots.{body_at, item_in}
 use Rattle.sleep_wake.specs.Acting.{Acting, are_awake}
 use Rattle.sleep_wake.specs.Bodies.{mover_made}
 use Rattle.sleep_wake.specs.Changes.{each_begun}
-use Rattle.solver_sets.specs.Ties.{is_mover_in}
 use Rattle.world_rules.specs.Sets.{acting_of, body_come}
 use Rattle.world_rules.specs.Sound.{AreTold}
 use Rattle.world_rules.specs.World.{World}

@@ -17,13 +17,12 @@ use Rattle.plain_world.specs.declared.body.Body.{Body}
 use Rattle.plain_world.specs.declared.joint.BodyJoint.{BodyJoint}
 use Rattle.plain_world.specs.Joints.{joint_at}
 use Rattle.plain_world.specs.Sleep.{told}
-use Rattle.plain_world.specs.Slots.{body_at}
 use Rattle.colour_solver.specs.States.{nobody}
 use Rattle.sleep_wake.specs.Acting.{Acting, are_awake, awake_label, is_mover_awake, second_awake}
-use Rattle.solver_sets.specs.Ties.{JointSlots, is_mover_in, member_of, members_of, movers_if, movers_in, movers_of, movers_with, moves, is_enabled, tie_with}
+use Rattle.plain_world.specs.Bodies.{moves}
+use Rattle.solver_sets.specs.Ties.{JointSlots, member_of, members_of, movers_if, movers_in, movers_of, movers_with, is_enabled, tie_with}
 use Rattle.world_core_base.specs.ConstraintRows.{HasJointOn, IsJointThere, IsMovable}
 use Rattle.world_core_base.specs.Gather.{HasMovable, states_of}
-use Rattle.world_core_base.specs.ContactBodies as contact_bodies
 use Rattle.world_core_base.specs.Solving.{solve_order}
 use Rattle.world_core_base.specs.SolvingArrays.{CanSolve}
 use Rattle.world_core_base.proofs.GatherLaws.{movable_at}
@@ -87,13 +86,9 @@ awake_some : (o : Option Label) → awake_label o ≡ true → is_some o ≡ tru
 awake_some None e = e
 awake_some (Some l) e = refl
 
-moves_alike : (o : Option Body) → is_mover_in o ≡ contact_bodies.moves_in o
-moves_alike None = refl
-moves_alike (Some b) = refl
-
 awake_movable : (w : World) (slot : ℕ) → IsKept w → is_mover_awake w.plain.islands slot ≡ true → (slice_index_or (states_of w.plain.bodies) slot nobody).movable ≡ true
 awake_movable w slot k up =
-    let moving : contact_bodies.moves w.plain.bodies slot ≡ true = sym (moves_alike (body_at w.plain.bodies slot)) ∙ sym (k.tied slot) ∙ awake_some (label_at w.plain.islands slot) up in
+    let moving : moves w.plain.bodies slot ≡ true = sym (k.tied slot) ∙ awake_some (label_at w.plain.islands slot) up in
     movable_at w.plain.bodies slot moving (λ b at. k.told slot b at ∙ awake_name (label_at w.plain.islands slot) up)
 
 -- the first mover of two bodies is one of them

@@ -23,7 +23,8 @@ use Rattle.sleep_wake.specs.Bodies.{mover_gone}
 use Rattle.sleep_wake.specs.ChangeLists.{CanEnd, each_without}
 use Rattle.solver_sets.specs.Joining.{unjoined_all}
 use Rattle.solver_sets.specs.Tied.{AreTied}
-use Rattle.solver_sets.specs.Ties.{JointSlots, is_mover_in, moves, ties_at, ties_of}
+use Rattle.plain_world.specs.Bodies.{is_mover_in, moves}
+use Rattle.solver_sets.specs.Ties.{JointSlots, ties_at, ties_of}
 use Rattle.world_rules.specs.Sets.{acting_of, body_gone, ties_ended}
 use Rattle.world_rules.specs.World.{World, joints_in_slots}
 use Rattle.world_rules.proofs.ActingLaws.{IsActing}

@@ -12,13 +12,12 @@ use Rattle.plain_world.specs.declared.body.Body.{Body}
 use Rattle.plain_world.specs.declared.body.SetName.TheVariants as sets
 use Rattle.plain_world.specs.declared.kind.Kind.{Kind}
 use Rattle.plain_world.specs.declared.kind.Kind.TheVariants.{Dynamic, Kinematic, Static}
-use Rattle.plain_world.specs.Bodies.{is_mover, set_of, sleeping_set, standing_of}
+use Rattle.plain_world.specs.Bodies.{is_mover, is_mover_in, set_of, sleeping_set, standing_of}
 use Rattle.plain_world.specs.Changes.{is_awake_in}
 use Rattle.plain_world.specs.Kinds.{is_dynamic}
 use Rattle.plain_world.specs.Slots.{body_at}
 use Rattle.sleep_wake.specs.Acting.{are_awake, awake_label, is_mover_awake, second_awake}
 use Rattle.solver_sets.specs.Tied.{AreTied}
-use Rattle.solver_sets.specs.Ties.{is_mover_in}
 use Rattle.world_rules.specs.Laws.{ColoursAreApart, LinkedMoversStandTogether, SleepingSetsAreComponents, SleepsIn, WhatActsHasAColour, movers_awake, second_awake_in}
 use Rattle.world_rules.specs.Sets.{acting_of}
 use Rattle.world_rules.specs.Sound.{AreTold}

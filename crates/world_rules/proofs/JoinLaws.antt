@@ -22,7 +22,8 @@ use Rattle.sleep_wake.specs.ChangeLists.{CanBegin, CanEnd, each_inserted, each_w
 use Rattle.solver_sets.specs.Laws.{with_tie, without_tie}
 use Rattle.solver_sets.specs.Tied.{AreTied}
 use Rattle.solver_sets.specs.Alike.{AreJointSlots}
-use Rattle.solver_sets.specs.Ties.{JointSlots, begun_with, ended_with, is_enabled, movers_if, movers_with, moves, ties_of}
+use Rattle.plain_world.specs.Bodies.{moves}
+use Rattle.solver_sets.specs.Ties.{JointSlots, begun_with, ended_with, is_enabled, movers_if, movers_with, ties_of}
 use Rattle.world_rules.specs.Apply.{with_joints}
 use Rattle.world_rules.specs.Sets.{acting_of, with_woken}
 use Rattle.world_rules.specs.World.{World, joints_in_slots}

@@ -18,7 +18,7 @@ use Rattle.colour_solver.proofs.VectorLaws.{same_x, same_y}
 use Rattle.plain_world.specs.declared.body.Body.{Body}
 use Rattle.plain_world.specs.declared.kind.Kind.{Kind}
 use Rattle.plain_world.specs.declared.kind.Kind.TheVariants.{Static, Kinematic, Dynamic}
-use Rattle.plain_world.specs.Bodies.{IsBody, IsMassOf, is_awake, is_mover}
+use Rattle.plain_world.specs.Bodies.{IsBody, IsMassOf, is_awake, is_mover, is_mover_in}
 use Rattle.plain_world.specs.Momentum.{momentum_in}
 use Rattle.plain_world.specs.Changes.{disabled_body}
 use Rattle.plain_world.specs.Formed.{HaveFilters}
@@ -31,7 +31,7 @@ use Rattle.sleep_wake.specs.Sleeping.{sleeping_names}
 use Rattle.solver_sets.specs.Beside.{stirred_by}
 use Rattle.solver_sets.specs.Joining.{unjoined_all}
 use Rattle.solver_sets.specs.Alike.{AreJointSlots}
-use Rattle.solver_sets.specs.Ties.{JointSlots, is_enabled_in, is_mover_in, slots_of}
+use Rattle.solver_sets.specs.Ties.{JointSlots, is_enabled_in, slots_of}
 use Rattle.world_rules.specs.Apply.{departed, destroyed, disabled, world_with}
 use Rattle.world_rules.specs.Sets.{acting_of, body_gone, stirred, with_woken}
 use Rattle.world_rules.specs.World.{World, body_named, joints_in_slots}

@@ -27,7 +27,7 @@ use Rattle.colour_solver.proofs.VectorLaws.{plus_zero, same_x, same_y}
 use Rattle.plain_world.specs.declared.body.Body.{Body}
 use Rattle.plain_world.specs.declared.kind.Course.{Course}
 use Rattle.plain_world.specs.declared.kind.Kind.TheVariants.{Kinematic}
-use Rattle.plain_world.specs.Bodies.{IsBody, is_awake, is_mover, pose_of}
+use Rattle.plain_world.specs.Bodies.{IsBody, is_awake, is_mover, is_mover_in, pose_of}
 use Rattle.plain_world.specs.Momentum.{momentum_in}
 use Rattle.plain_world.specs.Changes.{put_course, put_momenta, put_pose}
 use Rattle.plain_world.specs.InSlots.{CanPose, HaveSameSlots}
@@ -42,7 +42,6 @@ use Rattle.sleep_wake.specs.Acting as acting
 use Rattle.sleep_wake.specs.Sleeping.{islands_woken, sleeping_names}
 use Rattle.solver_sets.specs.Beside.{stirred_by}
 use Rattle.solver_sets.specs.Alike.{AreAlike}
-use Rattle.solver_sets.specs.Ties.{is_mover_in}
 use Rattle.world_rules.specs.Apply.{are_momenta, body_changed, booked, counted, is_push, posed, pushed, steered, with_impulse}
 use Rattle.world_rules.specs.Sets.{acting_of, stirred, with_woken}
 use Rattle.world_rules.specs.Sound.{IsRoomy}

@@ -13,7 +13,8 @@ use Rattle.plain_world.specs.Joints.{AreJoints, IsBodyJoint}
 use Rattle.plain_world.specs.Slots.{body_at, shapes_in, with_body}
 use Rattle.plain_world.specs.InSlots.{HaveSameSlots}
 use Rattle.solver_sets.specs.Alike.{AreAlike}
-use Rattle.world_core_base.specs.ContactBodies.{AreContactsOf, IsContactOf, moves, moves_in}
+use Rattle.plain_world.specs.Bodies.{is_mover_in, moves}
+use Rattle.world_core_base.specs.ContactBodies.{AreContactsOf, IsContactOf}
 use Rattle.world_rules.specs.Sound.{HasBodies}
 use Rattle.world_rules.proofs.ShapeLaws.{HaveSameShapes, same_shape}
 use Rattle.solver_sets.proofs.SlotLemmas.{item_at-set_other}
@@ -55,7 +56,7 @@ contacts_of_same old new contacts h all = contacts_of_more old new contacts (Mov
 -- ---- one slot
 
 pub moves-set_other : (bodies : List (Option Body)) (slot : ℕ) (o : Option Body) (k : ℕ) → k ≢ slot → moves (slice_set bodies slot o) k ≡ moves bodies k
-moves-set_other bodies slot o k ne = ap moves_in (item_at-set_other bodies slot o k ne)
+moves-set_other bodies slot o k ne = ap is_mover_in (item_at-set_other bodies slot o k ne)
 
 pub body_at-push : (bodies : List (Option Body)) (o : Option Body) (k : ℕ) → is_some (body_at bodies k) ≡ true → body_at (bodies ++ o ∷ []) k ≡ body_at bodies k
 body_at-push [] o k taken = cc
@@ -70,7 +71,7 @@ moves-push (a ∷ bs) o (suc k) m = moves-push bs o k m
 -- ---- a body that comes
 
 none_moves : (bodies : List (Option Body)) (slot : ℕ) → body_at bodies slot ≡ None → moves bodies slot ≡ false
-none_moves bodies slot e = ap moves_in e
+none_moves bodies slot e = ap is_mover_in e
 
 set_moves : (bodies : List (Option Body)) (slot : ℕ) (o : Option Body) → body_at bodies slot ≡ None → (k : ℕ) → moves bodies k ≡ true → moves (slice_set bodies slot o) k ≡ true
 set_moves bodies slot o none k m =

@@ -20,7 +20,7 @@ use Rattle.islands.specs.declared.label.Label.{Label}
 use Rattle.islands.specs.Labels.{Labels, label_at, sleeping_name}
 use Rattle.colour_solver.proofs.VectorLaws.{same_vector, same_x, same_y}
 use Rattle.plain_world.specs.declared.body.Body.{Body}
-use Rattle.plain_world.specs.Bodies.{IsBody, is_mover}
+use Rattle.plain_world.specs.Bodies.{IsBody, is_mover, is_mover_in, moves}
 use Rattle.plain_world.specs.Momentum.{momentum_in}
 use Rattle.plain_world.specs.Bodies as bodies
 use Rattle.plain_world.specs.Changes.{enabled_body}
@@ -35,7 +35,7 @@ use Rattle.sleep_wake.specs.ChangeLists.{CanBegin, each_inserted}
 use Rattle.solver_sets.specs.Beside.{joined_to}
 use Rattle.solver_sets.specs.Tied.{AreTied}
 use Rattle.solver_sets.specs.Alike.{AreAlike, AreAlikeBeside, IsBetweenEnabled}
-use Rattle.solver_sets.specs.Ties.{is_enabled, is_enabled_in, is_mover_in, joint_ties_at, moves, ties_of}
+use Rattle.solver_sets.specs.Ties.{is_enabled, is_enabled_in, joint_ties_at, ties_of}
 use Rattle.world_core_base.specs.ContactBodies.{IsContactOf}
 use Rattle.world_rules.specs.Apply.{counted, enabled}
 use Rattle.world_rules.specs.Sets.{acting_of, body_come, with_acting, with_woken}

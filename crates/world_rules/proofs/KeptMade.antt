@@ -24,7 +24,7 @@ use Rattle.colour_solver.proofs.VectorLaws.{same_x, same_y}
 use Rattle.plain_world.specs.declared.body.Body.{Body}
 use Rattle.plain_world.specs.declared.body.BodyDef.{BodyDef}
 use Rattle.plain_world.specs.declared.joint.BodyJoint.{BodyJoint}
-use Rattle.plain_world.specs.Bodies.{IsBody, is_awake, is_mover, made}
+use Rattle.plain_world.specs.Bodies.{IsBody, is_awake, is_mover, is_mover_in, made, moves}
 use Rattle.plain_world.specs.Momentum.{momentum_in}
 use Rattle.plain_world.specs.Formed.{HaveFilters}
 use Rattle.plain_world.specs.Joints.{AreJoints}
@@ -38,7 +38,7 @@ use Rattle.islands.proofs.WideLemmas.{wide_at}
 use Rattle.sleep_wake.proofs.LengthLemmas.{made_long, wide_long, wide_consistent}
 use Rattle.solver_sets.specs.Tied.{AreTied}
 use Rattle.solver_sets.specs.Alike.{IsBetweenEnabled}
-use Rattle.solver_sets.specs.Ties.{is_enabled_in, is_mover_in, members_of, moves}
+use Rattle.solver_sets.specs.Ties.{is_enabled_in, members_of}
 use Rattle.world_core_base.specs.ContactBodies.{AreContactsOf}
 use Rattle.world_rules.specs.Apply.{body_made, counted, with_made}
 use Rattle.world_rules.specs.Sets.{acting_of, body_come}

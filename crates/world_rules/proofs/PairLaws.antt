@@ -44,20 +44,20 @@ use Rattle.body_handles.specs.declared.slot_table.TheConstants.{MAX_SLOTS}
 use Rattle.plain_world.specs.declared.body.Body.{Body}
 use Rattle.plain_world.specs.declared.joint.BodyJoint.{BodyJoint}
 use Rattle.plain_world.specs.Joints.{forbidden_pairs}
-use Rattle.plain_world.specs.Bodies.{is_mover, pose_of, stirs, IsBody, AreBodies}
+use Rattle.plain_world.specs.Bodies.{is_mover, pose_of, stirs, IsBody, AreBodies, is_mover_in, moves}
 use Rattle.plain_world.specs.Kinds.{is_dynamic}
 use Rattle.plain_world.specs.Formed.{HasPoints, IsShapeOf, is_surface, mixed_of, mixed_surface, no_surface, shape_with_id, shape_of_body, surface_of}
 use Rattle.plain_world.specs.Slots.{body_at, shapes_in}
 use Rattle.solver_sets.specs.Ties.{IsKeyWithin}
 use Rattle.solver_sets.proofs.CollideLaws.{same_key}
-use Rattle.world_core_base.specs.ContactBodies.{moves_in, moves, IsContactOf, AreContactsOf}
+use Rattle.world_core_base.specs.ContactBodies.{IsContactOf, AreContactsOf}
 use Rattle.world_rules.specs.Collide.{shape_proxies, body_proxies, entry_proxies, proxies_from, proxies_of, contacts_after}
 use Rattle.world_rules.specs.Sound.{HasBodies}
 use Rattle.solver_sets.proofs.SlotLemmas.{below_length}
 
 -- ---- a body has eight shapes at most
 
-count_if : (few some forms : Bool) → cond some (cond few forms false) false ≡ true → few ≡ true
+count_if : (few some forms : Bool) → ((some && few) && forms) ≡ true → few ≡ true
 count_if true some forms e = refl
 count_if false true forms e = cc
 count_if false false forms e = cc
@@ -318,7 +318,7 @@ mover_if : (b : Body) → b.enabled ≡ true → is_dynamic b.kind ≡ true → 
 mover_if b on d = rw (on, d) refl
 
 dynamic_moves : (bodies : List (Option Body)) (p : Proxy) → IsProxyIn 0 bodies p → p.dynamic ≡ true → moves bodies p.id.slot ≡ true
-dynamic_moves bodies p h d = ap moves_in (body_there bodies p h) ∙ mover_if h.body h.is.enabled (sym h.is.dynamic ∙ d)
+dynamic_moves bodies p h d = ap is_mover_in (body_there bodies p h) ∙ mover_if h.body h.is.enabled (sym h.is.dynamic ∙ d)
 
 pub entry_within : (bodies : List (Option Body)) (old : List ContactEntry) (p q : Proxy) → IsProxyIn 0 bodies p → IsProxyIn 0 bodies q → is_near p q ≡ true → AreContactsOf bodies old → IsContactOf bodies (entry_of old p q)
 unfolding entry_of entry_with

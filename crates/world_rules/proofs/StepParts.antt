@@ -49,7 +49,7 @@ use Rattle.world_core_base.proofs.SolvingLaws.{arrays_are_solving}
 use Rattle.world_rules.specs.Apply.{bodies_ticked, rested_acting, step_entries, step_solved}
 use Rattle.world_rules.specs.Sets.{acting_of}
 use Rattle.solver_sets.specs.Tied.{AreTied}
-use Rattle.solver_sets.specs.Alike.{AreTold}
+use Rattle.solver_sets.specs.Alike.{AreTiedAndTold}
 use Rattle.world_rules.specs.Sound as sound
 use Rattle.world_rules.specs.Sound.{AreSmall, IsRoomy}
 use Rattle.world_rules.specs.World.{World}
@@ -197,5 +197,5 @@ arrays_left n g bodies joints contacts lists rows left sums rising can gathered 
 -- ---- who fell asleep and who woke
 
 -- the two forms of 'just the movers have labels, and each body sleeps just if its label does'
-pub told_as : (bodies : List (Option Body)) (labels : Labels) → AreTied bodies labels → sound.AreTold bodies labels → AreTold bodies labels
+pub told_as : (bodies : List (Option Body)) (labels : Labels) → AreTied bodies labels → sound.AreTold bodies labels → AreTiedAndTold bodies labels
 told_as bodies labels are told = record { tied = are; asleep = told }

@@ -15,7 +15,8 @@ use Rattle.sleep_wake.specs.Acting.{are_awake, is_mover_awake}
 use Rattle.sleep_wake.specs.ChangeLists.{CanEnd}
 use Rattle.solver_sets.specs.Beside.{neighbours, stirred_by, stirred_if}
 use Rattle.solver_sets.specs.Alike.{AreAlike, AreJointSlots}
-use Rattle.solver_sets.specs.Ties.{Bond, JointSlots, bonds_of, is_bond_of, is_enabled, is_enabled_in, is_mover_in, moves, tie_of, ties_at, ties_of}
+use Rattle.plain_world.specs.Bodies.{is_mover_in, moves}
+use Rattle.solver_sets.specs.Ties.{Bond, JointSlots, bonds_of, is_bond_of, is_enabled, is_enabled_in, tie_of, ties_at, ties_of}
 use Rattle.world_rules.specs.Sets.{acting_of, stirred}
 use Rattle.world_rules.specs.World.{World, joints_in_slots}
 use Rattle.world_rules.proofs.ActingLaws.{IsWoken, waking_kept}

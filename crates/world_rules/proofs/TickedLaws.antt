@@ -5,7 +5,7 @@ use Rattle.std.proofs.lemmas.Option.{none-some, same_Some}
 use Rattle.fixed_geom.specs.Vectors.{plus}
 use Rattle.momenta.specs.declared.state.BodyState.{BodyState}
 use Rattle.plain_world.specs.declared.body.Body.{Body}
-use Rattle.plain_world.specs.Bodies.{AreBodies, IsBody, can_move, is_awake, is_carried, is_mover, pose_of}
+use Rattle.plain_world.specs.Bodies.{AreBodies, IsBody, can_move, is_awake, is_carried, is_mover, is_mover_in, pose_of}
 use Rattle.plain_world.specs.Momentum.{momentum, momentum_in}
 use Rattle.plain_world.specs.Fats.{renewed_boxes}
 use Rattle.plain_world.specs.Kinds.{is_dynamic, is_kinematic}
@@ -15,7 +15,7 @@ use Rattle.plain_world.specs.InSlots.{HaveSameSlots}
 use Rattle.plain_world.specs.declared.kind.Kind.{Kind}
 use Rattle.plain_world.specs.declared.kind.Kind.TheVariants.{Static, Kinematic, Dynamic}
 use Rattle.solver_sets.specs.Alike.{AreAlike}
-use Rattle.solver_sets.specs.Ties.{is_enabled_in, is_mover_in}
+use Rattle.solver_sets.specs.Ties.{is_enabled_in}
 use Rattle.world_core_base.specs.Carried.{carried_to}
 use Rattle.world_core_base.specs.Gather.{with_motion, with_motions}
 use Rattle.world_core_base.specs.Renewal.{renewed_bodies, with_renewed}

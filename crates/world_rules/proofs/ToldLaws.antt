@@ -9,14 +9,14 @@ use Rattle.islands.specs.declared.label.Label.{Label}
 use Rattle.islands.specs.Labels.{Labels, label_at, sleeping_name}
 use Rattle.colour_solver.proofs.VectorLaws.{same_vector}
 use Rattle.plain_world.specs.declared.body.Body.{Body}
-use Rattle.plain_world.specs.Bodies.{AreBodies, IsAtRest, IsBody, is_awake, is_mover}
+use Rattle.plain_world.specs.Bodies.{AreBodies, IsAtRest, IsBody, is_awake, is_mover, is_mover_in}
 use Rattle.plain_world.specs.Momentum.{momentum, momentum_in}
 use Rattle.plain_world.specs.Sleep.{body_at_rest, roused, told, told_body, told_by, told_from}
 use Rattle.plain_world.specs.Slots.{body_at, shapes_in}
 use Rattle.plain_world.specs.InSlots.{HaveSameSlots}
 use Rattle.solver_sets.specs.Tied.{AreTied}
 use Rattle.solver_sets.specs.Alike.{AreAlike}
-use Rattle.solver_sets.specs.Ties.{is_enabled_in, is_mover_in}
+use Rattle.solver_sets.specs.Ties.{is_enabled_in}
 use Rattle.world_rules.specs.Sound.{AreTimers, AreTold}
 use Rattle.world_rules.proofs.ShapeLaws.{HaveSameShapes, shapes_of}
 use Rattle.world_rules.proofs.SlotLemmas.{body_at-in}

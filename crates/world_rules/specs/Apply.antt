@@ -4,6 +4,7 @@ use Rattle.fixed_geom.specs.Facings.{is_facing}
 use Rattle.fixed_geom.specs.Vectors.{cross, is_within, minus, plus, zero_vector}
 use Rattle.fixed_geom.specs.declared.limits.TheConstants.{MAX_POSITION}
 use Rattle.fixed_geom.specs.declared.vectors.Vec2.{Vec2}
+use Rattle.fixed_geom.specs.Refusals.{need, refused_unless}
 use Rattle.fixed_geom.specs.declared.refusal.Refusal.{Refusal}
 use Rattle.fixed_geom.specs.declared.refusal.Refusal.TheVariants.{NoMemory, StaleHandle, TooMany, OutOfRange, SameBody, NotAMover, NotKinematic, BodyDisabled, TooFast, WornOut}
 use Rattle.body_handles.specs.declared.handle.Handle.{Handle}
@@ -57,7 +58,6 @@ use Rattle.world_rules.specs.declared.command.Command.TheVariants.{CreateBody, D
 use Rattle.world_rules.specs.declared.command.Reply.{Reply}
 use Rattle.world_rules.specs.declared.command.Reply.TheVariants as replies
 use Rattle.world_rules.specs.Collide.{Collided, collided}
-use Rattle.world_rules.specs.Needs.{need, refused_unless}
 use Rattle.world_rules.specs.Sets.{acting_of, body_come, body_gone, stirred, with_acting, with_woken}
 use Rattle.world_rules.specs.World.{World, body_named, joints_in_slots}
 

@@ -1,5 +1,4 @@
 pub mod World
-pub mod Needs
 pub mod Settled
 pub mod Collide
 pub mod Sets

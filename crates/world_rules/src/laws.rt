@@ -1,4 +1,4 @@
-//! Laws of the definitions, for crates above. These functions do nothing; their contracts are the laws.
+//! Laws of the commands and of sound worlds, for crates above. These functions do nothing; their contracts are the laws.
 
 ghost use Rattle.world_rules.specs.Laws.{ColoursAreApart, EachCallCounts, EachStandsInOneSet, LinkedMoversStandTogether, PlainListsDetermineAll, PushesAreSmall, SleepingSetsAreComponents, WhatActsHasAColour};
 

@@ -48,7 +48,7 @@ pub enum Answer<'a> {
     Body(Handle),
     /// The joint that was made.
     Joint(Handle),
-    /// The number of the step, and its events. A shape has its body's id where the places of all slots are given.
+    /// The number of the step, and its events. A shape has its body's id where all slot entries are given.
     Stepped(u64, &'a Events, Option<&'a [SlotEntry]>),
     /// What can be seen of a body.
     Shown(BodyView),

@@ -2,7 +2,7 @@
 
 use crate::faults::{LineFault, Reason};
 use crate::values::{Content, Value};
-use body_handles::{Handle, handle_of};
+use body_handles::{Handle, NO_HANDLE, handle_of};
 use fixed_geom::{Rot, Vec2, ZERO_VECTOR};
 use shapes::{ShapeDef, Shapes};
 use std::alloc::Global;
@@ -13,12 +13,6 @@ const MOST_KEYS: usize = 16;
 
 /// How many shapes of a line are kept: one more than a body may have, so that the world refuses what the line means.
 const MOST_SHAPES: usize = 9;
-
-/// What is taken where a key has no id. Something is wrong then.
-const NO_HANDLE: Handle = Handle {
-    slot: 0,
-    generation: 0,
-};
 
 /// The keys of an object, each once, with the value that stood last. Each key that is allowed is taken; what is left then is
 /// unknown. What is wrong is noted, the first of it alone, and what is taken from then on means nothing: so whoever reads
@@ -62,7 +56,7 @@ impl<'a> Fields<'a> {
     }
 
     /// Puts a key's value in, in place of what the key had.
-    pub fn put(&mut self, key: &'a str, content: Content<'a>) {
+    pub(crate) fn put(&mut self, key: &'a str, content: Content<'a>) {
         match self.place_of(key) {
             Some(place) => self.replace(place, content),
             None => self.append(Value { key, content }),

@@ -112,18 +112,18 @@ impl<'a, W: fmt::Write> Pen<'a, W> {
         self.text("}");
     }
 
-    /// Writes the id of the body in a slot after what stands before it, where the slots' places are given.
+    /// Writes the id of the body in a slot after what stands before it, where the slot entries are given.
     fn id_in(&mut self, slot: u32, slot_entries: Option<&[SlotEntry]>) {
-        if let Some(place) = slot_entries.and_then(|slot_entries| slot_entries.get(slot as usize)) {
+        if let Some(entry) = slot_entries.and_then(|slot_entries| slot_entries.get(slot as usize)) {
             self.text(",");
             self.id(Handle {
                 slot,
-                generation: place.generation,
+                generation: entry.generation,
             });
         }
     }
 
-    /// Writes a shape, with its body's id where the slots' places are given.
+    /// Writes a shape, with its body's id where the slot entries are given.
     pub(crate) fn shape(&mut self, shape: ShapeId, slot_entries: Option<&[SlotEntry]>) {
         self.text("[");
         self.value(shape.slot);

@@ -44,7 +44,7 @@ impl<'a, W: fmt::Write> Pen<'a, W> {
     }
 
     /// Writes the body of a slot, if it has one that is asked for, and says whether it has.
-    fn body_in(&mut self, list: BodyList<'_>, slot: u32, place: &SlotEntry, count: usize) -> bool {
+    fn body_in(&mut self, list: BodyList<'_>, slot: u32, entry: &SlotEntry, count: usize) -> bool {
         let Some(Some(body)) = list.bodies.get(slot as usize) else {
             return false;
         };
@@ -52,7 +52,7 @@ impl<'a, W: fmt::Write> Pen<'a, W> {
             return false;
         }
         self.comma(count);
-        let generation = place.generation;
+        let generation = entry.generation;
         self.body(Handle { slot, generation }, body);
         true
     }
@@ -60,8 +60,8 @@ impl<'a, W: fmt::Write> Pen<'a, W> {
     pub fn body_list(&mut self, list: BodyList<'_>) {
         self.text("{\"bodies\":[");
         let (mut slot, mut count) = (0u32, 0usize);
-        for place in list.slot_entries {
-            if self.body_in(list, slot, place, count) {
+        for entry in list.slot_entries {
+            if self.body_in(list, slot, entry, count) {
                 count = count.saturating_add(1);
             }
             slot = slot.saturating_add(1);

@@ -233,9 +233,9 @@ fn broken_clause(alloc: Global, world: &Value) -> Option<Clause> {
     }
 }
 
-/// The first item of a text's saved world, in the order bodies, joints, contacts, that breaks by itself the clause that the world breaks first. Its way
-/// leads to the first value by which another one would mend it, if there is such a value. `None` where the clause isn't one item's doing, where the
-/// world breaks none, and where the text is no JSON. Refused 1 where memory is wanting.
+/// The first item of a text's saved world, in the order bodies, joints, contacts, that breaks by itself the clause that the world breaks first. Its
+/// way leads to the first value by which another one would mend it, if there is such a value. `None` where the clause isn't one item's doing, where
+/// the world breaks none, and where the text is no JSON. Refused 1 where memory is wanting.
 pub fn broken_path(alloc: Global, text: &str) -> Result<Option<SavedPath>, Refusal> {
     let Ok(world) = Value::from_str(alloc, text) else {
         return Ok(None);

@@ -5,7 +5,7 @@ use fixed_geom::Vec2;
 
 /// What a value is, as far as a request can have it. Shapes and requests stand beside the values, in the lists of their own.
 #[derive(Clone, Copy)]
-pub enum Content<'a> {
+pub(crate) enum Content<'a> {
     /// A whole number that 64 bits hold, with a sign or without.
     Whole(i128),
     Text(&'a str),
@@ -28,7 +28,7 @@ pub enum Content<'a> {
 
 /// The value of a key.
 #[derive(Clone, Copy)]
-pub struct Value<'a> {
-    pub key: &'a str,
-    pub content: Content<'a>,
+pub(crate) struct Value<'a> {
+    pub(crate) key: &'a str,
+    pub(crate) content: Content<'a>,
 }

@@ -1,4 +1,4 @@
-//! Handles from a list of places, as a saved world has it.
+//! Handles from a list of slot entries, as a saved world has it.
 
 ghost use Rattle.std.specs.Prelude.{◌≡◌, ◌≤◌, All, IfOk, length};
 ghost use Rattle.std.specs.Result.{IsOkUnless};
@@ -10,7 +10,7 @@ use fixed_geom::Refusal;
 use std::alloc::Global;
 
 impl Handles {
-    /// The handles of which these are the places by slot. Those that are free are given out again lowest first, each at the
+    /// The handles of which these are the entries by slot. Those that are free are given out again lowest first, each at the
     /// generation that it has here. Costs by their number. Refused for want of memory only.
     pub fn from_slot_entries(alloc: Global, slot_entries: &[SlotEntry]) -> Result<Handles, Refusal>
         requires each { All IsSlotEntry slot_entries.now }

@@ -18,7 +18,7 @@ use crate::{Id, Member};
 use fixed_geom::Refusal;
 use std::alloc::Global;
 
-/// Sets the marks of a colour, which has none yet, in the slots of its members' movers.
+/// Sets the bits of a colour, of which none is set yet, in the slots of its members' movers.
 fn set_list_bits<C: Id>(words: &mut Vec<u32>, colour: usize, members: &[Member<C>])
     requires colour { colour < COLOURS }
     requires below { AreAllBelow (length words.old.items) members.now }
@@ -32,7 +32,7 @@ fn set_list_bits<C: Id>(words: &mut Vec<u32>, colour: usize, members: &[Member<C
     }
 }
 
-/// Sets the marks of all colours, where no mark is set yet.
+/// Sets the bits of all colours, where no bit is set yet.
 fn set_all_bits<C: Id>(words: &mut Vec<u32>, lists: &[Vec<Member<C>>])
     requires count { length (members_of lists.now) ≡ COLOURS + 1 }
     requires below { All (AreAllBelow (length words.old.items)) (members_of lists.now) }
@@ -45,7 +45,7 @@ fn set_all_bits<C: Id>(words: &mut Vec<u32>, lists: &[Vec<Member<C>>])
     }
 }
 
-/// The marks of these lists, for slots below `slots`. Refused 1 where memory is wanting.
+/// The bits of these lists, for slots below `slots`. Refused 1 where memory is wanting.
 fn bits_of<C: Id>(
     alloc: Global,
     lists: &[Vec<Member<C>>],

@@ -8,8 +8,8 @@ ghost use Rattle.islands.specs.Given.{IsNamed, IsNext, labels_with, labels_with_
 
 use crate::islands::Islands;
 use crate::label::Label;
-use crate::parts::{no_head, part_at, set_state};
 use crate::thread_nodes::pad_node_entries;
+use crate::threads::{no_head, part_at, set_state};
 use fixed_geom::Refusal;
 use std::alloc::Global;
 

@@ -12,6 +12,6 @@ pub contact_ties_of-requires : goal.contact_ties_of-requires
 contact_ties_of-requires c =
     let s : Acting Constraint = c.in_ok-sets.sets.acting in
     let ties = s.ties ++ c.contact-tie.result ∷ [] in
-    let told = c.add_each.ensures.told s.ties (c.renew.ensures.told (λ q. absurd (false≢true (sym c.new-anchors.ensures.lapsed ∙ q)))) in
+    let listed = c.add_each.ensures.complete s.ties (c.renew.ensures.complete (λ q. absurd (false≢true (sym c.new-anchors.ensures.lapsed ∙ q)))) in
     let P : Acting Constraint → Type 0 = λ v. AreComplete c.add_each.new.self.holds c.add_each.new.self.lists v.ties in
-    c.tidy.ensures.told (subst P (sym c.in_ok-begin.ensures) (complete_with_fewer c.add_each.new.self.holds c.add_each.new.self.lists ties (begun constraint_number c.contact-tie.result s).ties (fewer_with_begun c.contact-tie.result s) told))
+    c.tidy.ensures.complete (subst P (sym c.in_ok-begin.ensures) (complete_with_fewer c.add_each.new.self.holds c.add_each.new.self.lists ties (begun constraint_number c.contact-tie.result s).ties (fewer_with_begun c.contact-tie.result s) listed))

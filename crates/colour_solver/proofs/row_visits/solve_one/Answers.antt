@@ -4,7 +4,7 @@ use Rattle.colour_solver_base.specs.RowsAfter.{RowAfter}
 use Rattle.colour_solver.proofs.IdleLaws.{idle_after, idle_got, idle_visit}
 use Rattle.colour_solver.specs.States.{as_vector, total}
 use Rattle.colour_solver.specs.RowVisits.{ends_64, ends_of, got}
-use Rattle.colour_solver.proofs.Turn64Laws.{all_after, same_after, total_after}
+use Rattle.colour_solver.proofs.Visit64Laws.{all_after, same_after, total_after}
 use Rattle.colour_solver.proofs.VectorLaws.{plus_zero}
 use Rattle.colour_solver.proofs.row_visits.solve_one.Goals as goal
 

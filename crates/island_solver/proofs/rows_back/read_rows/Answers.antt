@@ -160,8 +160,7 @@ returns c = λ now back.
     let second = c.read_contacts-2.ensures in
     let many = as_many_joints now (all_rows whole) back.kinds ∙ sym (ap length c.joints-joints.ensures) in
     let most = as_many_contacts now (all_rows whole) back.kinds ∙ sym (ap length c.contacts-contacts.ensures) in
-    let ordered = ap (λ l. joints_first l (contacts_among whole.left)) (sym c.joints_left.ensures.joints) ∙ c.joints_left.ensures.order in
-    all_read whole c.read_contacts-2.new.out now c.loop-colour.out.colours i j k (length c.joints-joints.result.now) (length c.contacts-contacts.result.now) c.read_joints-2.new.out.left le back.kinds ordered known.joints_at known.contacts_at (ap length c.joints-joints.ensures) (ap length c.contacts-contacts.ensures)
+    all_read whole c.read_contacts-2.new.out now c.loop-colour.out.colours i j k (length c.joints-joints.result.now) (length c.contacts-contacts.result.now) c.read_joints-2.new.out.left le back.kinds c.know_joints_first.ensures known.joints_at known.contacts_at (ap length c.joints-joints.ensures) (ap length c.contacts-contacts.ensures)
     (first.left (joints_among now) (subst (λ l. AreRowsBack joint_slots (share_at c.args.shares.now) c.args.states.now l (λ n. joints_among (run_at c.args.parts.now n).rows) (joints_among now)) (sym c.joints-joints.ensures) back.joints) many ∙ ap (λ l. l ++ map Joint (between j (length c.joints-joints.result.now) (joints_among now))) known.left)
     (second.left (contacts_among now) (subst (λ l. AreRowsBack contact_slots (share_at c.args.shares.now) c.args.states.now l (λ n. contacts_among (run_at c.args.parts.now n).rows) (contacts_among now)) (sym c.contacts-contacts.ensures) back.contacts) most)
     (second.colours ∙ first.colours) (known.rows now back) (known.counts now back)

@@ -1,5 +1,5 @@
 use Rattle.std.proofs.Common.{◌≡◌, ◌<◌, length, Some, sym, ap, ◌∙◌, arith}
-use Rattle.islands.specs.declared.parts.Head.{Head}
+use Rattle.islands.specs.declared.threads.Head.{Head}
 use Rattle.islands.specs.Standing.{AreExchanged, slot_at}
 use Rattle.islands.specs.Packed.{InPart, IsLowestIn, by_slot, head_at, no_head, note_at, part_in}
 use Rattle.islands.proofs.SlotLemmas.{any_default}

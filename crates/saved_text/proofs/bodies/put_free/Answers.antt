@@ -4,4 +4,4 @@ use Rattle.saved_text.proofs.Objects.{free_object}
 use Rattle.saved_text.proofs.bodies.put_free.Goals as goal
 
 pub returns : goal.returns
-returns c = record { text = c.put_object.ensures.text (slot_of c.args.place [] None) (free_object c.args.place) }
+returns c = record { text = c.put_object.ensures.text (slot_of c.args.slot_entry [] None) (free_object c.args.slot_entry) }

@@ -8,12 +8,12 @@ use Rattle.saved_text.proofs.bodies.put_taken.Goals as goal
 
 pub returns : goal.returns
 returns c =
-    let place = c.args.place in
+    let slot_entry = c.args.slot_entry in
     let b = c.args.body.now in
     let body = (codes "body", body_data b c.args.label) ∷ [] in
-    let generation = (codes "generation", natural place.generation) ∷ [] in
+    let generation = (codes "generation", natural slot_entry.generation) ∷ [] in
     let named = member_added (codes "body") (body_data b c.args.label) _ _ _ (wrote _ _ _ _ c.in_ok-key.ensures) c.in_ok-put_body.ensures.text in
     record {
-      text = object_added ((codes "body", body_data b c.args.label) ∷ generation) (body_slot_of place (Some b) c.args.label) _ _ _ _ (body_slot_object place b c.args.label)
+      text = object_added ((codes "body", body_data b c.args.label) ∷ generation) (body_slot_of slot_entry (Some b) c.args.label) _ _ _ _ (body_slot_object slot_entry b c.args.label)
           (wrote _ _ _ _ c.in_ok-begin_object.ensures) (members_then body generation _ _ _ named c.in_ok-put_members.ensures.text) (wrote _ _ _ _ c.in_ok-end_object.ensures);
     }

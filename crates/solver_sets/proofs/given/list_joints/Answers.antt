@@ -12,7 +12,7 @@ loop-index-preserved c =
     let short : i < length c.args.joints.now = c.loop-index-test.true in
     let slots = c.requires.slots in
     bond_tie_step c.args.bodies.now i c.args.slot_entries.now c.args.joints.now nowhere None _ c.loop-index.ties.items c.push_some.new.items.items _
-    (omega (arith, slots, short)) short c.in_ok-push_some.ensures.pushed c.as_ref.ensures.value c.joint_tie.ensures ∙ c.loop-index.invariant
+    (omega (arith, slots, short)) short c.in_ok-push_some.ensures.pushed c.as_ref.ensures.value c.joint_tie_in.ensures ∙ c.loop-index.invariant
 
 pub returns-clause-ties : goal.returns-clause-ties
 returns-clause-ties c =

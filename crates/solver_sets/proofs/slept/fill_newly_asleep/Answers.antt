@@ -8,10 +8,10 @@ use Rattle.solver_sets.proofs.slept.fill_newly_asleep.Goals as goal
 pub loop-place-preserved : goal.loop-place-preserved
 loop-place-preserved c = record {
   handles =
-      listed_more (λ slot. handle_if (sleeps c.args.islands.now.labels slot && not (was_asleep c.args.bodies.now slot)) slot (slice_get c.args.slot_entries.now slot)) c.loop-place.handles.items c.push_some.new.handles.items c.newly_asleep_at.result c.args.awake.now c.loop-place.place 0 c.loop-place-test.true c.push_some.ensures.items c.newly_asleep_at.ensures
+      listed_more (λ slot. handle_if (sleeps c.args.islands.now.labels slot && not (was_asleep c.args.bodies.now slot)) slot (slice_get c.args.slot_entries.now slot)) c.loop-place.handles.items c.put_some.new.items.items c.newly_asleep_at.result c.args.awake.now c.loop-place.place 0 c.loop-place-test.true c.put_some.ensures.items c.newly_asleep_at.ensures
       ∙ c.loop-place.invariant.handles;
-  len = omega (arith, c.push_some.ensures.len, c.loop-place.invariant.len);
-  capacity = omega (arith, c.push_some.ensures.capacity, c.loop-place.invariant.capacity);
+  len = omega (arith, c.put_some.ensures.len, c.loop-place.invariant.len);
+  capacity = omega (arith, c.put_some.ensures.capacity, c.loop-place.invariant.capacity);
 }
 
 pub returns-clause-handles : goal.returns-clause-handles

@@ -33,5 +33,5 @@ pub returns-clause-marked : goal.returns-clause-marked
 returns-clause-marked c = rw (c.clear_marks.ensures.bodies, c.clear_marks.ensures.cleared) at c.apply_all_changes.ensures.marked
 
 pub returns-clause-anchored : goal.returns-clause-anchored
-returns-clause-anchored c = λ tell. c.renew_anchors.ensures.told c.args.sets.now.acting
+returns-clause-anchored c = λ tell. c.renew_anchors.ensures.complete c.args.sets.now.acting
     (c.apply_all_changes.ensures.acting ∙ ap (λ (cs : List (Change Constraint)). after_changes constraint_number cs c.args.sets.now.acting) (c.deref.ensures.value ∙ sym c.deref-3.ensures.value)) tell

@@ -11,9 +11,9 @@ tie_at-requires c =
 
 pub loop-place-preserved : goal.loop-place-preserved
 loop-place-preserved c = record {
-  ties = listed_more (own_tie c.args.bodies.now c.args.body c.args.slot_entries.now c.args.joints.now) c.loop-place.ties.items c.put_tie.new.ties.items c.tie_at.result c.args.slots.now c.loop-place.place 0 c.loop-place-test.true c.put_tie.ensures.items c.tie_at.ensures ∙ c.loop-place.invariant.ties;
-  len = grown_by c.loop-place.ties.items c.put_tie.new.ties.items c.tie_at.result c.loop-place.place c.put_tie.ensures.items c.loop-place.invariant.len;
-  capacity = omega (arith, c.put_tie.ensures.capacity, c.loop-place.invariant.capacity);
+  ties = listed_more (own_tie c.args.bodies.now c.args.body c.args.slot_entries.now c.args.joints.now) c.loop-place.ties.items c.put_some.new.items.items c.tie_at.result c.args.slots.now c.loop-place.place 0 c.loop-place-test.true c.put_some.ensures.items c.tie_at.ensures ∙ c.loop-place.invariant.ties;
+  len = grown_by c.loop-place.ties.items c.put_some.new.items.items c.tie_at.result c.loop-place.place c.put_some.ensures.items c.loop-place.invariant.len;
+  capacity = omega (arith, c.put_some.ensures.capacity, c.loop-place.invariant.capacity);
 }
 
 pub returns-clause-ties : goal.returns-clause-ties

@@ -1,12 +1,12 @@
 use Rattle.std.proofs.Common.{sym, ◌∙◌}
-use Rattle.box_tree.proofs.IndexLemmas.{room_for, some_within, taken_place}
+use Rattle.box_tree.proofs.IndexLemmas.{room_for, some_within, taken_entry}
 use Rattle.box_tree.proofs.boxes.BoxTree.remove.Goals as goal
 
 pub remove-requires-clause-room : goal.remove-requires-clause-room
 remove-requires-clause-room c = some_within c.self.inside.boxes.items c.args.key (rw (← c.self.view_is) at c.requires)
 
-pub place_in-requires : goal.place_in-requires
-place_in-requires c = rw c.deref.ensures.value (room_for _ c.self.inside.places.items c.self.inside.boxes.items c.args.key c.self.invariant.index (some_within c.self.inside.boxes.items c.args.key (rw (← c.self.view_is) at c.requires)))
+pub entry_in-requires : goal.entry_in-requires
+entry_in-requires c = rw c.deref.ensures.value (room_for _ c.self.inside.entries.items c.self.inside.boxes.items c.args.key c.self.invariant.index (some_within c.self.inside.boxes.items c.args.key (rw (← c.self.view_is) at c.requires)))
 
 pub unreachable-requires : goal.unreachable-requires
-unreachable-requires c = taken_place _ c.self.inside.places.items c.self.inside.boxes.items c.args.key c.self.invariant.index (rw (← c.self.view_is) at c.requires) (rw c.deref.ensures.value at (sym c.place_in.ensures ∙ c.in_default.is))
+unreachable-requires c = taken_entry _ c.self.inside.entries.items c.self.inside.boxes.items c.args.key c.self.invariant.index (rw (← c.self.view_is) at c.requires) (rw c.deref.ensures.value at (sym c.entry_in.ensures ∙ c.in_default.is))

@@ -36,4 +36,4 @@ invariant_of-self g c =
     (rw c.change.ensures.bodies (changed_whole w c.args.handle (g.C.BodyChange.after c.args.change.now) c.self.inside.sets.acting _ _ c.self.invariant.whole woke (rw (← c.self.view_is) at c.requires.may)))
     refl refl refl refl
     (marked_after c.self.inside.bodies c.wake_planned.new.bodies c.change.new.self c.wake_planned.ensures.marked c.change.ensures.marked)
-    c.tidy.new.self (c.tidy.ensures.told (complete_with_fewer c.self.inside.anchors.holds c.self.inside.anchors.lists c.self.inside.sets.acting.ties c.wake_planned.new.sets.acting.ties (fewer_woken c.in_ok-waking.waking.names.items c.self.inside.sets.acting c.wake_planned.new.sets.acting c.wake_planned.ensures.acting) c.self.invariant.anchored))
+    c.tidy.new.self (c.tidy.ensures.complete (complete_with_fewer c.self.inside.anchors.holds c.self.inside.anchors.lists c.self.inside.sets.acting.ties c.wake_planned.new.sets.acting.ties (fewer_woken c.in_ok-waking.waking.names.items c.self.inside.sets.acting c.wake_planned.new.sets.acting c.wake_planned.ensures.acting) c.self.invariant.anchored))

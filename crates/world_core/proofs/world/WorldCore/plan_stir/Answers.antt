@@ -1,6 +1,6 @@
 use Rattle.std.proofs.Common.{◌≡◌, ◌∙◌, ℕ, true, List, sym, subst, IfOk}
 use Rattle.sleep_wake.specs.Sleeping.{sleeping_names}
-use Rattle.solver_sets.specs.Ties.{moves}
+use Rattle.plain_world.specs.Bodies.{moves}
 use Rattle.world_core.proofs.AnchoredLaws.{mover_stirs}
 use Rattle.world_core.proofs.world.WorldCore.plan_stir.Goals as goal
 

@@ -2,7 +2,7 @@ use Rattle.std.proofs.Common.{◌≡◌, ◌∙◌, ℕ, true, false, List, sym,
 use Rattle.sleep_wake.specs.Sleeping.{sleeping_names}
 use Rattle.solver_sets.specs.Beside.{stirred_by}
 use Rattle.solver_sets.specs.BesideByTies.{first_movers}
-use Rattle.solver_sets.specs.Ties.{moves}
+use Rattle.plain_world.specs.Bodies.{moves}
 use Rattle.world_core.specs.contracts.world.WorldCore.{the_view}
 use Rattle.world_core.proofs.AnchoredLaws.{mover_stirs, still_stirs}
 use Rattle.world_core.proofs.world.WorldCore.plan_stir_by_ties.Goals as goal

@@ -1,7 +1,7 @@
 use Rattle.std.proofs.Common.{◌≡◌, ◌∙◌, true, List, sym, subst, IfOk}
 use Rattle.contacts.specs.declared.constraint.Constraint.{Constraint}
 use Rattle.graph_colours.specs.declared.member.Member.{Member}
-use Rattle.solver_sets.specs.Ties.{moves}
+use Rattle.plain_world.specs.Bodies.{moves}
 use Rattle.world_core.specs.contracts.world.WorldCore.{the_view}
 use Rattle.world_core.proofs.MoverTies.{own_mover_ties}
 use Rattle.world_core.proofs.world.WorldCore.ties_at.Goals as goal

@@ -1,5 +1,5 @@
 use Rattle.std.proofs.Common.{◌≡◌, false}
-use Rattle.solver_sets.specs.Ties.{moves}
+use Rattle.plain_world.specs.Bodies.{moves}
 use Rattle.world_core.specs.contracts.world.WorldCore.{the_view}
 use Rattle.world_core.proofs.AnchoredLaws.{own_beside}
 use Rattle.world_core.proofs.world.WorldCore.ties_beside.Goals as goal

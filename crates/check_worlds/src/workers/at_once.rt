@@ -1,0 +1,278 @@
+//! Steps by workers beside the same steps by one thread.
+
+use crate::calls::{World, step_by_next_workers, step_by_workers};
+use crate::scenes::{Piles, Worlds};
+use crate::stop::Stop;
+use crate::texts::text_of;
+use crate::workers::gates::Meeting;
+use crew::{Gate, OpenGate};
+use crew_solver::StepCrew;
+use std::alloc::Global;
+use std::sync::Wait;
+use std::thread;
+use std::thread::{Scope, Threads};
+use world_core::{Refusal, Reply, StepSolver, WorldCore};
+use world_workers::IslandMemory;
+
+/// How many ticks each step has.
+const TICKS: i64 = 4;
+
+/// Workers that are started for each step.
+#[derive(Clone, Copy)]
+struct Workers {
+    count: u64,
+    /// Whether they go on with what those of the step before left.
+    remember: bool,
+}
+
+/// Which workers make all steps.
+const WORKERS: [Workers; 5] = [
+    Workers {
+        count: 1,
+        remember: false,
+    },
+    Workers {
+        count: 2,
+        remember: false,
+    },
+    Workers {
+        count: 3,
+        remember: false,
+    },
+    Workers {
+        count: 64,
+        remember: false,
+    },
+    Workers {
+        count: 3,
+        remember: true,
+    },
+];
+
+/// Two that are started anew for each step.
+const TWO: Workers = Workers {
+    count: 2,
+    remember: false,
+};
+
+/// How many steps are made by workers that stay.
+const FEW: usize = 3;
+
+/// Makes so many steps in a world, and answers its text after each.
+fn texts_of<W: World>(alloc: Global, world: &mut W, steps: u64) -> Result<Vec<String>, Refusal> {
+    let mut texts = Vec::new(alloc);
+    for _ in 0..steps {
+        let _ = world.step(TICKS)?;
+        texts.push(text_of(alloc, world)?)?;
+    }
+    Ok(texts)
+}
+
+/// Whether the world has this text.
+fn is_text<W: World>(alloc: Global, world: &W, text: &str) -> Result<bool, Refusal> {
+    Ok(text_of(alloc, world)?.as_str() == text)
+}
+
+/// Makes a step by workers.
+fn make_step<R: AllocGlobal + Threads + Wait + Sync, G: Gate + Sync>(
+    rt: &R,
+    gate: &G,
+    world: &mut WorldCore,
+    memory: &mut IslandMemory,
+    workers: Workers,
+) -> Result<Reply, Refusal> {
+    if workers.remember {
+        step_by_next_workers(rt, gate, world, memory, workers.count, TICKS)
+    } else {
+        step_by_workers(rt, gate, world, workers.count, TICKS)
+    }
+}
+
+/// Whether each step by workers that are started for it leaves what one thread leaves.
+fn are_steps_with<R: AllocGlobal + Threads + Wait + Sync, G: Gate + Sync>(
+    rt: &R,
+    gate: &G,
+    world: &mut WorldCore,
+    workers: Workers,
+    after: &[String],
+) -> Result<bool, Refusal> {
+    let mut memory = IslandMemory::new(rt.alloc());
+    for text in after {
+        let _ = make_step(rt, gate, world, &mut memory, workers)?;
+        if !is_text(rt.alloc(), world, text.as_str())? {
+            return Ok(false);
+        }
+    }
+    Ok(true)
+}
+
+/// The same from the beginning.
+fn are_alike<R: AllocGlobal + Threads + Wait + Sync, G: Gate + Sync>(
+    rt: &R,
+    gate: &G,
+    worlds: &mut Worlds<WorldCore>,
+    workers: Workers,
+    after: &[String],
+) -> Result<bool, Refusal> {
+    worlds.restart()?;
+    are_steps_with(rt, gate, &mut worlds.world, workers, after)
+}
+
+/// Whether each step by this solver leaves what one thread leaves.
+fn are_steps_by<W: World, S: StepSolver>(
+    alloc: Global,
+    world: &mut W,
+    solver: &mut S,
+    after: &[String],
+) -> Result<bool, Refusal> {
+    for text in after {
+        let _ = world.step_by(solver, TICKS)?;
+        if !is_text(alloc, world, text.as_str())? {
+            return Ok(false);
+        }
+    }
+    Ok(true)
+}
+
+/// The same from the beginning.
+fn are_alike_by<W: World, S: StepSolver>(
+    alloc: Global,
+    worlds: &mut Worlds<W>,
+    solver: &mut S,
+    after: &[String],
+) -> Result<bool, Refusal> {
+    worlds.restart()?;
+    are_steps_by(alloc, &mut worlds.world, solver, after)
+}
+
+/// Whether each step by a crew that stays leaves what one thread leaves.
+fn are_steps_of<'s, E, W: World, R: Threads + Wait + Sync, G: Gate + Sync>(
+    scope: &Scope<'s, E>,
+    rt: &'s R,
+    alloc: Global,
+    gate: &'s G,
+    workers: usize,
+    worlds: &mut Worlds<W>,
+    after: &[String],
+) -> Result<bool, Refusal> {
+    match StepCrew::start(scope, rt, alloc, gate, workers) {
+        Ok(mut crew) => {
+            let are_same = are_alike_by(alloc, worlds, &mut crew, after);
+            crew.end();
+            are_same
+        }
+        Err(refusal) => Err(refusal),
+    }
+}
+
+fn are_alike_by_crew<W: World, R: Threads + Wait + Sync, G: Gate + Sync>(
+    rt: &R,
+    alloc: Global,
+    gate: &G,
+    worlds: &mut Worlds<W>,
+    workers: usize,
+    after: &[String],
+) -> Result<bool, Refusal> {
+    thread::scope(thread::scope_env(), rt, |scope| {
+        are_steps_of(scope, rt, alloc, gate, workers, worlds, after)
+    })
+}
+
+fn print_workers<R: Print>(
+    rt: &R,
+    name: &str,
+    workers: Workers,
+    are_same: bool,
+) -> Result<(), Stop> {
+    let (count, remember) = (workers.count, workers.remember);
+    println!(rt;
+        "{name}, workers started for each step: {count}, remembering: {remember}, the same steps: {are_same}"
+    )?;
+    Ok(())
+}
+
+/// What two workers made that wait for each other.
+fn print_meeting<R: Print>(
+    rt: &R,
+    name: &str,
+    are_same: bool,
+    meeting: &Meeting,
+) -> Result<(), Stop> {
+    let (late, has_met) = (meeting.late(), meeting.has_met());
+    println!(rt;
+        "{name}, two workers that wait for each other: in vain {late}, met {has_met}, the same steps: {are_same}"
+    )?;
+    Ok(())
+}
+
+/// Makes all steps by workers that are started for each.
+fn check_workers<R: AllocGlobal + Print + Threads + Wait + Sync>(
+    rt: &R,
+    name: &str,
+    worlds: &mut Worlds<WorldCore>,
+    after: &[String],
+) -> Result<(), Stop> {
+    for workers in WORKERS {
+        let are_same = are_alike(rt, &OpenGate, worlds, workers, after)?;
+        print_workers(rt, name, workers, are_same)?;
+    }
+    Ok(())
+}
+
+/// Makes all steps of two piles by two workers that wait for each other.
+fn check_meeting<R: AllocGlobal + Print + Threads + Wait + Sync>(
+    rt: &R,
+    worlds: &mut Worlds<WorldCore>,
+    after: &[String],
+) -> Result<(), Stop> {
+    let meeting = Meeting::new();
+    let are_same = are_alike(rt, &meeting, worlds, TWO, after)?;
+    print_meeting(rt, "two piles", are_same, &meeting)
+}
+
+/// Makes some steps of a pile by crews that stay and solve a colour at a time. One has workers that wait for each other.
+fn check_crews<R: Print + Threads + Wait + Sync, W: World>(
+    rt: &R,
+    alloc: Global,
+    worlds: &mut Worlds<W>,
+    after: &[String],
+) -> Result<(), Stop> {
+    let are_same = are_alike_by_crew(rt, alloc, &OpenGate, worlds, 3, after)?;
+    println!(rt; "a pile, a crew of 3 that stays, the same steps: {are_same}")?;
+    let meeting = Meeting::new();
+    let are_same = are_alike_by_crew(rt, alloc, &meeting, worlds, 2, after)?;
+    print_meeting(rt, "a pile", are_same, &meeting)
+}
+
+/// Checks steps of piles. One pile is one island, which one worker solves. Two are solved at once.
+fn check_after<R: AllocGlobal + Print + Threads + Wait + Sync>(
+    rt: &R,
+    piles: Piles,
+    worlds: &mut Worlds<WorldCore>,
+    after: &[String],
+) -> Result<(), Stop> {
+    match piles {
+        Piles::One => {
+            check_workers(rt, "a pile", worlds, after)?;
+            let few = after.get(..FEW).unwrap_or(after);
+            check_crews(rt, rt.alloc(), worlds, few)
+        }
+        Piles::Two => {
+            check_workers(rt, "two piles", worlds, after)?;
+            check_meeting(rt, worlds, after)
+        }
+    }
+}
+
+/// Makes so many steps of piles by one thread, and the same by workers.
+pub fn check<R: AllocGlobal + Print + Threads + Wait + Sync>(
+    rt: &R,
+    piles: Piles,
+    worlds: &mut Worlds<WorldCore>,
+    steps: u64,
+) -> Result<(), Stop> {
+    match texts_of(rt.alloc(), &mut worlds.world, steps) {
+        Ok(after) => check_after(rt, piles, worlds, after.as_slice()),
+        Err(refusal) => Err(Stop::Refused(refusal)),
+    }
+}

@@ -1,0 +1,143 @@
+//! Steps by workers to which memory or threads may be refused.
+
+use crate::call_mark::CallMark;
+use crate::calls::{World, step_by_workers};
+use crate::scenes::Worlds;
+use crate::tasks::word_of_untried;
+use crew::OpenGate;
+use std::alloc::Global;
+use std::sync::Wait;
+use std::thread::Threads;
+use world_core::{Refusal, Reply, WorldCore};
+
+/// How many ticks the step has.
+const TICKS: i64 = 8;
+
+/// A step of so many ticks by so many workers.
+#[derive(Clone, Copy)]
+pub struct Call {
+    workers: u64,
+    ticks: i64,
+}
+
+impl Call {
+    /// The call that a word of the program names.
+    pub fn of_word(word: &str) -> Option<Call> {
+        let (workers, ticks) = match word {
+            "step_with" => (3, TICKS),
+            "no_workers" => (0, TICKS),
+            "too_many_workers" => (65, TICKS),
+            "too_many_ticks" => (3, TICKS + 1),
+            _ => return None,
+        };
+        Some(Call { workers, ticks })
+    }
+
+    /// What it is due in this world, by one thread.
+    fn due<W: World>(self, world: &mut W) -> Result<Reply, Refusal> {
+        if self.workers < 1 || self.workers > 64 {
+            return Err(Refusal::OutOfRange);
+        }
+        world.step(self.ticks)
+    }
+}
+
+/// What came of a call.
+#[derive(Clone, Copy)]
+enum Verdict {
+    /// It was answered what it was due, and has left what it was to leave.
+    PendingUpdate,
+    /// Memory or a thread was refused, and nothing has changed.
+    Refused,
+    /// This differs from what was to come.
+    Differs(&'static str),
+}
+
+/// Whether a call was refused for want of memory or of a thread.
+fn is_wanting(answer: Result<Reply, Refusal>) -> bool {
+    match answer {
+        Err(Refusal::NoMemory) => true,
+        Err(Refusal::NoThread) => true,
+        _ => false,
+    }
+}
+
+/// One verdict where the worlds are the same, and else the other.
+fn verdict_by(are_same: bool, same: Verdict, else_told: &'static str) -> Verdict {
+    if are_same {
+        same
+    } else {
+        Verdict::Differs(else_told)
+    }
+}
+
+/// Looks what came of the call in a world. In the reference, which was equal to it before, one thread makes the step if the call wasn't refused.
+fn judge<W: World>(
+    alloc: Global,
+    call: Call,
+    answer: Result<Reply, Refusal>,
+    worlds: &mut Worlds<W>,
+) -> Result<Verdict, Refusal> {
+    if is_wanting(answer) {
+        let are_same = worlds.are_same(alloc)?;
+        let told = "differs: the world after the refused call";
+        return Ok(verdict_by(are_same, Verdict::Refused, told));
+    }
+    if answer != call.due(&mut worlds.reference) {
+        return Ok(Verdict::Differs("differs: the answer"));
+    }
+    let are_same = worlds.are_same(alloc)?;
+    Ok(verdict_by(are_same, Verdict::PendingUpdate, "differs: the world"))
+}
+
+/// Makes the call between the marks of what may refuse memory or threads.
+fn attempt<R: AllocGlobal + Threads + Wait + Sync>(
+    rt: &R,
+    call: Call,
+    world: &mut WorldCore,
+) -> Result<Reply, Refusal> {
+    let mark = CallMark::begin(rt.alloc());
+    let answer = step_by_workers(rt, &OpenGate, world, call.workers, call.ticks);
+    let _was_there = mark.end();
+    answer
+}
+
+/// What is told of a call that was made again.
+fn told_again(verdict: Verdict) -> &'static str {
+    match verdict {
+        Verdict::PendingUpdate => "kept",
+        Verdict::Refused => "differs: it is refused again",
+        Verdict::Differs(told) => told,
+    }
+}
+
+/// Makes the call, and once more if memory or a thread was refused to it.
+fn try_twice<R: AllocGlobal + Threads + Wait + Sync>(
+    rt: &R,
+    call: Call,
+    worlds: &mut Worlds<WorldCore>,
+) -> Result<&'static str, Refusal> {
+    let answer = attempt(rt, call, &mut worlds.world);
+    match judge(rt.alloc(), call, answer, worlds)? {
+        Verdict::PendingUpdate => Ok("none"),
+        Verdict::Refused => {
+            let answer = attempt(rt, call, &mut worlds.world);
+            let verdict = judge(rt.alloc(), call, answer, worlds)?;
+            Ok(told_again(verdict))
+        }
+        Verdict::Differs(told) => Ok(told),
+    }
+}
+
+/// Makes a call in a world while memory or threads may be refused to it. Tells `kept` where a refused call left everything as it was and then
+/// succeeded, `none` where it met no refusal, `outside` where something beside it met one, and else what differs.
+pub fn word_of_try<R: AllocGlobal + Threads + Wait + Sync>(
+    rt: &R,
+    call: Call,
+    worlds: &mut Worlds<WorldCore>,
+) -> &'static str {
+    match try_twice(rt, call, worlds) {
+        Ok(told) => told,
+        Err(refusal) => word_of_untried(refusal),
+    }
+}

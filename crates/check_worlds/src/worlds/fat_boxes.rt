@@ -1,0 +1,24 @@
+//! When a fat box is made anew: a circle of 100 u flies in its box, which leaves 131,072 u round it, and out of it.
+
+use crate::calls::World;
+use crate::scenes::{FIRST, NO_GRAVITY, ORIGIN, circle};
+use crate::worlds::check::Check;
+
+pub fn run<W: World>(check: &mut Check<W>) {
+    check.begin(
+        "a fat box stays while the circle touches its side",
+        NO_GRAVITY,
+    );
+    fly(check, 131_072);
+    check.begin("a fat box is made anew one beyond its side", NO_GRAVITY);
+    fly(check, 131_073);
+}
+
+/// The fat box of a circle before a tick and after it, where a push moves the circle to the right by as much.
+fn fly<W: World>(check: &mut Check<W>, by: i64) {
+    check.add(1, ORIGIN, circle(100));
+    check.see_fat_box();
+    check.push(FIRST, by, 0);
+    check.step(1);
+    check.see_fat_box();
+}
