@@ -1,6 +1,6 @@
 """The worlds in which faults/run refuses memory, and the calls that it refuses it to.
 
-A world is a text of commands, a line each, as `crates/check_worlds/src/scenes/commands.rt` reads them. A call is a command, some commands that are
+A world is a text of commands, a line each, as `crates/check_scenes/src/commands.rt` reads them. A call is a command, some commands that are
 replayed, or one of the words `plain`, `census`, `copy`, `frame`, `save`, `load` and `region`. The last three lists of a world are:
 
 - calls that need memory there, so that each has to be refused at least once;

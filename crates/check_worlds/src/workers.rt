@@ -6,76 +6,105 @@
 
 mod at_once;
 mod gates;
+mod steps;
 mod tries;
 
-use crate::scenes::{Piles, Scene, Worlds};
-use crate::stop::Stop;
-use crate::tasks::{Task, do_task};
+use crate::whole_world::WholeWorld;
 use at_once::check;
+use check_scenes::{Piles, Stop, Worlds, commands_of, end_without};
+use std::alloc::Global;
 use std::sync::Wait;
 use std::thread::Threads;
-use std::time::Clock;
 use tries::{Call, word_of_try};
-use world_core::WorldCore;
+use world_core::{Command, Refusal, WorldCore};
 
 /// How many steps are made.
 const STEPS: u64 = 40;
 
 /// What workers do in a world.
 #[derive(Clone, Copy)]
-pub enum WorkerTask<'a> {
+enum Task<'a> {
     /// So many steps of piles, by workers and by one thread.
     Steps(Piles, u64),
     /// A call in the world of a text, while memory or threads may be refused to it.
     Try(&'a str, Call),
 }
 
-impl WorkerTask<'_> {
-    /// The world in which it is done.
-    pub fn scene(&self) -> Scene<'_> {
+impl Task<'_> {
+    /// The commands that make its world.
+    fn commands(&self, alloc: Global) -> Result<Vec<Command>, Refusal> {
         match self {
-            WorkerTask::Steps(piles, _) => Scene::Piles(*piles),
-            WorkerTask::Try(text, _) => Scene::Text(text),
+            Task::Steps(piles, _) => piles.commands(alloc),
+            Task::Try(text, _) => commands_of(alloc, text),
+        }
+    }
+
+    /// Whether memory may be refused to it, so that it tells what came of that.
+    fn is_try(&self) -> bool {
+        match self {
+            Task::Steps(_, _) => false,
+            Task::Try(_, _) => true,
         }
     }
 }
 
-/// Does a task in a world.
-pub fn do_in<R: AllocGlobal + Print + Threads + Wait + Sync>(
+fn do_in<R: AllocGlobal + Print + Threads + Wait + Sync, W: WholeWorld>(
     rt: &R,
-    task: WorkerTask<'_>,
-    worlds: &mut Worlds<WorldCore>,
+    task: Task<'_>,
+    worlds: &mut Worlds<W>,
 ) -> Result<(), Stop> {
     match task {
-        WorkerTask::Steps(piles, steps) => check(rt, piles, worlds, steps),
-        WorkerTask::Try(_, call) => {
+        Task::Steps(piles, steps) => check(rt, piles, worlds, steps),
+        Task::Try(_, call) => {
             println!(rt; "{}", word_of_try(rt, call, worlds))?;
             Ok(())
         }
     }
 }
 
-fn check_steps<R: AllocGlobal + Print + Threads + Wait + Clock + Sync>(
+/// Makes the worlds of a task and does it. It is the one function of this part that has worlds to drop.
+fn do_after<R: AllocGlobal + Print + Threads + Wait + Sync, W: WholeWorld>(
+    rt: &R,
+    task: Task<'_>,
+    commands: &[Command],
+) -> Result<(), Stop> {
+    match Worlds::<W>::after(rt.alloc(), commands) {
+        Ok(mut worlds) => do_in(rt, task, &mut worlds),
+        Err(refusal) => end_without(rt, task.is_try(), refusal),
+    }
+}
+
+fn do_task<R: AllocGlobal + Print + Threads + Wait + Sync>(
+    rt: &R,
+    task: Task<'_>,
+) -> Result<(), Stop> {
+    match task.commands(rt.alloc()) {
+        Ok(commands) => do_after::<R, WorldCore>(rt, task, commands.as_slice()),
+        Err(refusal) => end_without(rt, task.is_try(), refusal),
+    }
+}
+
+fn check_steps<R: AllocGlobal + Print + Threads + Wait + Sync>(
     rt: &R,
     steps: u64,
 ) -> Result<(), Stop> {
-    do_task(rt, Task::Worker(WorkerTask::Steps(Piles::One, steps)))?;
-    do_task(rt, Task::Worker(WorkerTask::Steps(Piles::Two, steps)))
+    do_task(rt, Task::Steps(Piles::One, steps))?;
+    do_task(rt, Task::Steps(Piles::Two, steps))
 }
 
-fn do_try<R: AllocGlobal + Print + Threads + Wait + Clock + Sync>(
+fn do_try<R: AllocGlobal + Print + Threads + Wait + Sync>(
     rt: &R,
     text: &str,
     call: &str,
 ) -> Result<(), Stop> {
     match Call::of_word(call) {
-        Some(call) => do_task(rt, Task::Worker(WorkerTask::Try(text, call))),
+        Some(call) => do_task(rt, Task::Try(text, call)),
         None => Err(Stop::UnknownWords),
     }
 }
 
 /// What a word and a number ask for.
-fn do_number<R: AllocGlobal + Print + Threads + Wait + Clock + Sync>(
+fn do_number<R: AllocGlobal + Print + Threads + Wait + Sync>(
     rt: &R,
     word: &str,
     number: &str,
@@ -87,7 +116,7 @@ fn do_number<R: AllocGlobal + Print + Threads + Wait + Clock + Sync>(
 }
 
 /// Does what the words after the part's name ask for.
-pub fn do_words<R: AllocGlobal + Print + Threads + Wait + Clock + Sync>(
+pub fn do_words<R: AllocGlobal + Print + Threads + Wait + Sync>(
     rt: &R,
     words: &[String],
 ) -> Result<(), Stop> {

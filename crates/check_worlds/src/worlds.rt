@@ -9,6 +9,7 @@ mod filters;
 mod frames;
 mod islands_apart;
 mod joints;
+mod making;
 mod meetings;
 mod one_body;
 mod parts;
@@ -19,14 +20,14 @@ mod seen;
 mod sleeping;
 mod trials;
 
-use crate::calls::World;
-use crate::stop::Stop;
+use crate::whole_world::WholeWorld;
 use check::Check;
+use check_scenes::Stop;
 use std::alloc::Global;
 use trials::try_call;
 use world_core::Refusal;
 
-fn run_all<W: World>(check: &mut Check<W>) {
+fn run_all<W: WholeWorld>(check: &mut Check<W>) {
     one_body::run(check);
     meetings::run(check);
     joints::run(check);
@@ -42,7 +43,7 @@ fn run_all<W: World>(check: &mut Check<W>) {
     trials::run(check);
 }
 
-fn print_lines<R: Print, W: World>(rt: &R, check: &Check<W>) -> Result<(), Stop> {
+fn print_lines<R: Print, W: WholeWorld>(rt: &R, check: &Check<W>) -> Result<(), Stop> {
     for line in check.lines() {
         println!(rt; "{line}")?;
     }
@@ -50,7 +51,7 @@ fn print_lines<R: Print, W: World>(rt: &R, check: &Check<W>) -> Result<(), Stop>
 }
 
 /// Runs all checks, and prints what they told.
-fn run_and_print<R: Print, W: World>(rt: &R, check: &mut Check<W>) -> Result<(), Stop> {
+fn run_and_print<R: Print, W: WholeWorld>(rt: &R, check: &mut Check<W>) -> Result<(), Stop> {
     run_all(check);
     print_lines(rt, check)?;
     if check.is_cut() {
@@ -59,7 +60,7 @@ fn run_and_print<R: Print, W: World>(rt: &R, check: &mut Check<W>) -> Result<(),
     Ok(())
 }
 
-fn print_checks<R: Print, W: World>(rt: &R, alloc: Global) -> Result<(), Stop> {
+fn print_checks<R: Print, W: WholeWorld>(rt: &R, alloc: Global) -> Result<(), Stop> {
     match Check::<W>::new(alloc) {
         Ok(mut check) => run_and_print(rt, &mut check),
         Err(refusal) => Err(Stop::Refused(refusal)),
@@ -67,7 +68,7 @@ fn print_checks<R: Print, W: World>(rt: &R, alloc: Global) -> Result<(), Stop> {
 }
 
 /// Makes a call in the world of a text, and prints what came of it.
-fn print_trial<R: Print, W: World>(
+fn print_trial<R: Print, W: WholeWorld>(
     rt: &R,
     alloc: Global,
     text: &str,
@@ -81,7 +82,11 @@ fn print_trial<R: Print, W: World>(
 }
 
 /// Does what the words after the part's name ask for.
-pub fn do_words<R: Print, W: World>(rt: &R, alloc: Global, words: &[String]) -> Result<(), Stop> {
+pub fn do_words<R: Print, W: WholeWorld>(
+    rt: &R,
+    alloc: Global,
+    words: &[String],
+) -> Result<(), Stop> {
     match words {
         [] => print_checks::<R, W>(rt, alloc),
         [text, call] => print_trial::<R, W>(rt, alloc, text.as_str(), call.as_str()),

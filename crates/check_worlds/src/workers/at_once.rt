@@ -1,10 +1,9 @@
 //! Steps by workers beside the same steps by one thread.
 
-use crate::calls::{World, step_by_next_workers, step_by_workers};
-use crate::scenes::{Piles, Worlds};
-use crate::stop::Stop;
-use crate::texts::text_of;
+use crate::whole_world::WholeWorld;
 use crate::workers::gates::Meeting;
+use crate::workers::steps::{step_by_next_workers, step_by_workers};
+use check_scenes::{Piles, Stop, World, Worlds, text_of};
 use crew::{Gate, OpenGate};
 use crew_solver::StepCrew;
 use std::alloc::Global;
@@ -59,7 +58,11 @@ const TWO: Workers = Workers {
 const FEW: usize = 3;
 
 /// Makes so many steps in a world, and answers its text after each.
-fn texts_of<W: World>(alloc: Global, world: &mut W, steps: u64) -> Result<Vec<String>, Refusal> {
+fn texts_of<W: WholeWorld>(
+    alloc: Global,
+    world: &mut W,
+    steps: u64,
+) -> Result<Vec<String>, Refusal> {
     let mut texts = Vec::new(alloc);
     for _ in 0..steps {
         let _ = world.step(TICKS)?;
@@ -71,6 +74,17 @@ fn texts_of<W: World>(alloc: Global, world: &mut W, steps: u64) -> Result<Vec<St
 /// Whether the world has this text.
 fn is_text<W: World>(alloc: Global, world: &W, text: &str) -> Result<bool, Refusal> {
     Ok(text_of(alloc, world)?.as_str() == text)
+}
+
+/// Makes the world equal to the reference again.
+fn restart<W: World>(worlds: &mut Worlds<W>) -> Result<(), Refusal> {
+    match worlds.reference.copied() {
+        Ok(world) => {
+            worlds.world = world;
+            Ok(())
+        }
+        Err(refusal) => Err(refusal),
+    }
 }
 
 /// Makes a step by workers.
@@ -89,16 +103,16 @@ fn make_step<R: AllocGlobal + Threads + Wait + Sync, G: Gate + Sync>(
 }
 
 /// Whether each step by workers that are started for it leaves what one thread leaves.
-fn are_steps_with<R: AllocGlobal + Threads + Wait + Sync, G: Gate + Sync>(
+fn are_steps_with<R: AllocGlobal + Threads + Wait + Sync, G: Gate + Sync, W: WholeWorld>(
     rt: &R,
     gate: &G,
-    world: &mut WorldCore,
+    world: &mut W,
     workers: Workers,
     after: &[String],
 ) -> Result<bool, Refusal> {
     let mut memory = IslandMemory::new(rt.alloc());
     for text in after {
-        let _ = make_step(rt, gate, world, &mut memory, workers)?;
+        let _ = make_step(rt, gate, world.core(), &mut memory, workers)?;
         if !is_text(rt.alloc(), world, text.as_str())? {
             return Ok(false);
         }
@@ -107,19 +121,19 @@ fn are_steps_with<R: AllocGlobal + Threads + Wait + Sync, G: Gate + Sync>(
 }
 
 /// The same from the beginning.
-fn are_alike<R: AllocGlobal + Threads + Wait + Sync, G: Gate + Sync>(
+fn are_alike<R: AllocGlobal + Threads + Wait + Sync, G: Gate + Sync, W: WholeWorld>(
     rt: &R,
     gate: &G,
-    worlds: &mut Worlds<WorldCore>,
+    worlds: &mut Worlds<W>,
     workers: Workers,
     after: &[String],
 ) -> Result<bool, Refusal> {
-    worlds.restart()?;
+    restart(worlds)?;
     are_steps_with(rt, gate, &mut worlds.world, workers, after)
 }
 
 /// Whether each step by this solver leaves what one thread leaves.
-fn are_steps_by<W: World, S: StepSolver>(
+fn are_steps_by<W: WholeWorld, S: StepSolver>(
     alloc: Global,
     world: &mut W,
     solver: &mut S,
@@ -135,18 +149,18 @@ fn are_steps_by<W: World, S: StepSolver>(
 }
 
 /// The same from the beginning.
-fn are_alike_by<W: World, S: StepSolver>(
+fn are_alike_by<W: WholeWorld, S: StepSolver>(
     alloc: Global,
     worlds: &mut Worlds<W>,
     solver: &mut S,
     after: &[String],
 ) -> Result<bool, Refusal> {
-    worlds.restart()?;
+    restart(worlds)?;
     are_steps_by(alloc, &mut worlds.world, solver, after)
 }
 
 /// Whether each step by a crew that stays leaves what one thread leaves.
-fn are_steps_of<'s, E, W: World, R: Threads + Wait + Sync, G: Gate + Sync>(
+fn are_steps_of<'s, E, W: WholeWorld, R: Threads + Wait + Sync, G: Gate + Sync>(
     scope: &Scope<'s, E>,
     rt: &'s R,
     alloc: Global,
@@ -165,7 +179,7 @@ fn are_steps_of<'s, E, W: World, R: Threads + Wait + Sync, G: Gate + Sync>(
     }
 }
 
-fn are_alike_by_crew<W: World, R: Threads + Wait + Sync, G: Gate + Sync>(
+fn are_alike_by_crew<W: WholeWorld, R: Threads + Wait + Sync, G: Gate + Sync>(
     rt: &R,
     alloc: Global,
     gate: &G,
@@ -206,10 +220,10 @@ fn print_meeting<R: Print>(
 }
 
 /// Makes all steps by workers that are started for each.
-fn check_workers<R: AllocGlobal + Print + Threads + Wait + Sync>(
+fn check_workers<R: AllocGlobal + Print + Threads + Wait + Sync, W: WholeWorld>(
     rt: &R,
     name: &str,
-    worlds: &mut Worlds<WorldCore>,
+    worlds: &mut Worlds<W>,
     after: &[String],
 ) -> Result<(), Stop> {
     for workers in WORKERS {
@@ -220,9 +234,9 @@ fn check_workers<R: AllocGlobal + Print + Threads + Wait + Sync>(
 }
 
 /// Makes all steps of two piles by two workers that wait for each other.
-fn check_meeting<R: AllocGlobal + Print + Threads + Wait + Sync>(
+fn check_meeting<R: AllocGlobal + Print + Threads + Wait + Sync, W: WholeWorld>(
     rt: &R,
-    worlds: &mut Worlds<WorldCore>,
+    worlds: &mut Worlds<W>,
     after: &[String],
 ) -> Result<(), Stop> {
     let meeting = Meeting::new();
@@ -231,7 +245,7 @@ fn check_meeting<R: AllocGlobal + Print + Threads + Wait + Sync>(
 }
 
 /// Makes some steps of a pile by crews that stay and solve a colour at a time. One has workers that wait for each other.
-fn check_crews<R: Print + Threads + Wait + Sync, W: World>(
+fn check_crews<R: Print + Threads + Wait + Sync, W: WholeWorld>(
     rt: &R,
     alloc: Global,
     worlds: &mut Worlds<W>,
@@ -245,10 +259,10 @@ fn check_crews<R: Print + Threads + Wait + Sync, W: World>(
 }
 
 /// Checks steps of piles. One pile is one island, which one worker solves. Two are solved at once.
-fn check_after<R: AllocGlobal + Print + Threads + Wait + Sync>(
+fn check_after<R: AllocGlobal + Print + Threads + Wait + Sync, W: WholeWorld>(
     rt: &R,
     piles: Piles,
-    worlds: &mut Worlds<WorldCore>,
+    worlds: &mut Worlds<W>,
     after: &[String],
 ) -> Result<(), Stop> {
     match piles {
@@ -265,10 +279,10 @@ fn check_after<R: AllocGlobal + Print + Threads + Wait + Sync>(
 }
 
 /// Makes so many steps of piles by one thread, and the same by workers.
-pub fn check<R: AllocGlobal + Print + Threads + Wait + Sync>(
+pub fn check<R: AllocGlobal + Print + Threads + Wait + Sync, W: WholeWorld>(
     rt: &R,
     piles: Piles,
-    worlds: &mut Worlds<WorldCore>,
+    worlds: &mut Worlds<W>,
     steps: u64,
 ) -> Result<(), Stop> {
     match texts_of(rt.alloc(), &mut worlds.world, steps) {

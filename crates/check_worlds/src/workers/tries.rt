@@ -1,9 +1,8 @@
 //! Steps by workers to which memory or threads may be refused.
 
-use crate::call_mark::CallMark;
-use crate::calls::{World, step_by_workers};
-use crate::scenes::Worlds;
-use crate::tasks::word_of_untried;
+use crate::whole_world::WholeWorld;
+use crate::workers::steps::step_by_workers;
+use check_scenes::{CallMark, World, Worlds, text_of, word_of_untried};
 use crew::OpenGate;
 use std::alloc::Global;
 use std::sync::Wait;
@@ -34,7 +33,7 @@ impl Call {
     }
 
     /// What it is due in this world, by one thread.
-    fn due<W: World>(self, world: &mut W) -> Result<Reply, Refusal> {
+    fn due<W: WholeWorld>(self, world: &mut W) -> Result<Reply, Refusal> {
         if self.workers < 1 || self.workers > 64 {
             return Err(Refusal::OutOfRange);
         }
@@ -46,7 +45,7 @@ impl Call {
 #[derive(Clone, Copy)]
 enum Verdict {
     /// It was answered what it was due, and has left what it was to leave.
-    PendingUpdate,
+    AsDue,
     /// Memory or a thread was refused, and nothing has changed.
     Refused,
     /// This differs from what was to come.
@@ -71,23 +70,28 @@ fn verdict_by(are_same: bool, same: Verdict, else_told: &'static str) -> Verdict
     }
 }
 
+/// Whether the two are equal.
+fn are_same<W: World>(alloc: Global, worlds: &Worlds<W>) -> Result<bool, Refusal> {
+    Ok(text_of(alloc, &worlds.world)?.as_str() == text_of(alloc, &worlds.reference)?.as_str())
+}
+
 /// Looks what came of the call in a world. In the reference, which was equal to it before, one thread makes the step if the call wasn't refused.
-fn judge<W: World>(
+fn judge<W: WholeWorld>(
     alloc: Global,
     call: Call,
     answer: Result<Reply, Refusal>,
     worlds: &mut Worlds<W>,
 ) -> Result<Verdict, Refusal> {
     if is_wanting(answer) {
-        let are_same = worlds.are_same(alloc)?;
+        let are_same = are_same(alloc, worlds)?;
         let told = "differs: the world after the refused call";
         return Ok(verdict_by(are_same, Verdict::Refused, told));
     }
     if answer != call.due(&mut worlds.reference) {
         return Ok(Verdict::Differs("differs: the answer"));
     }
-    let are_same = worlds.are_same(alloc)?;
-    Ok(verdict_by(are_same, Verdict::PendingUpdate, "differs: the world"))
+    let are_same = are_same(alloc, worlds)?;
+    Ok(verdict_by(are_same, Verdict::AsDue, "differs: the world"))
 }
 
 /// Makes the call between the marks of what may refuse memory or threads.
@@ -105,23 +109,23 @@ fn attempt<R: AllocGlobal + Threads + Wait + Sync>(
 /// What is told of a call that was made again.
 fn told_again(verdict: Verdict) -> &'static str {
     match verdict {
-        Verdict::PendingUpdate => "kept",
+        Verdict::AsDue => "kept",
         Verdict::Refused => "differs: it is refused again",
         Verdict::Differs(told) => told,
     }
 }
 
 /// Makes the call, and once more if memory or a thread was refused to it.
-fn try_twice<R: AllocGlobal + Threads + Wait + Sync>(
+fn try_twice<R: AllocGlobal + Threads + Wait + Sync, W: WholeWorld>(
     rt: &R,
     call: Call,
-    worlds: &mut Worlds<WorldCore>,
+    worlds: &mut Worlds<W>,
 ) -> Result<&'static str, Refusal> {
-    let answer = attempt(rt, call, &mut worlds.world);
+    let answer = attempt(rt, call, worlds.world.core());
     match judge(rt.alloc(), call, answer, worlds)? {
-        Verdict::PendingUpdate => Ok("none"),
+        Verdict::AsDue => Ok("none"),
         Verdict::Refused => {
-            let answer = attempt(rt, call, &mut worlds.world);
+            let answer = attempt(rt, call, worlds.world.core());
             let verdict = judge(rt.alloc(), call, answer, worlds)?;
             Ok(told_again(verdict))
         }
@@ -131,10 +135,10 @@ fn try_twice<R: AllocGlobal + Threads + Wait + Sync>(
 
 /// Makes a call in a world while memory or threads may be refused to it. Tells `kept` where a refused call left everything as it was and then
 /// succeeded, `none` where it met no refusal, `outside` where something beside it met one, and else what differs.
-pub fn word_of_try<R: AllocGlobal + Threads + Wait + Sync>(
+pub fn word_of_try<R: AllocGlobal + Threads + Wait + Sync, W: WholeWorld>(
     rt: &R,
     call: Call,
-    worlds: &mut Worlds<WorldCore>,
+    worlds: &mut Worlds<W>,
 ) -> &'static str {
     match try_twice(rt, call, worlds) {
         Ok(told) => told,

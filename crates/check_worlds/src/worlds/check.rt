@@ -1,9 +1,10 @@
 //! A check under way. What it asks for is told as it comes, and nothing ends it early, so that each check is a list of calls.
 
-use crate::calls::{Answer, World, first_static, hit_in, over_in};
-use crate::scenes::{NO_GRAVITY, ORIGIN, body_of, create_of};
+use crate::whole_world::{WholeWorld, first_static, over_in};
+use crate::worlds::making::create_of;
 use crate::worlds::readme::fall;
 use crate::worlds::seen::{Line, Seen};
+use check_scenes::{Answer, NO_GRAVITY, ORIGIN, body_of, hit_in};
 use contacts_base::ContactEntry;
 use fixed_geom::Box2;
 use islands::Label;
@@ -27,7 +28,7 @@ enum Excerpt {
 
 /// The world of a check, and the lines of all checks so far.
 #[derive(Drop)]
-pub struct Check<W: World> {
+pub struct Check<W: WholeWorld> {
     alloc: Global,
     world: W,
     lines: Vec<Line>,
@@ -35,7 +36,7 @@ pub struct Check<W: World> {
     is_cut: bool,
 }
 
-impl<W: World> Check<W> {
+impl<W: WholeWorld> Check<W> {
     pub fn new(alloc: Global) -> Result<Check<W>, Refusal> {
         match W::empty(alloc, NO_GRAVITY) {
             Ok(world) => Ok(Check {

@@ -1,10 +1,11 @@
 //! When a fat box is made anew: a circle of 100 u flies in its box, which leaves 131,072 u round it, and out of it.
 
-use crate::calls::World;
-use crate::scenes::{FIRST, NO_GRAVITY, ORIGIN, circle};
+use crate::whole_world::WholeWorld;
 use crate::worlds::check::Check;
+use crate::worlds::making::circle;
+use check_scenes::{FIRST, NO_GRAVITY, ORIGIN};
 
-pub fn run<W: World>(check: &mut Check<W>) {
+pub fn run<W: WholeWorld>(check: &mut Check<W>) {
     check.begin(
         "a fat box stays while the circle touches its side",
         NO_GRAVITY,
@@ -15,7 +16,7 @@ pub fn run<W: World>(check: &mut Check<W>) {
 }
 
 /// The fat box of a circle before a tick and after it, where a push moves the circle to the right by as much.
-fn fly<W: World>(check: &mut Check<W>, by: i64) {
+fn fly<W: WholeWorld>(check: &mut Check<W>, by: i64) {
     check.add(1, ORIGIN, circle(100));
     check.see_fat_box();
     check.push(FIRST, by, 0);

@@ -1,9 +1,10 @@
 //! What a ray hits of the shapes that its filter lets through.
 
-use crate::calls::World;
-use crate::scenes::{FIRST, NO_GRAVITY, ORIGIN, SECOND, STALE, UPRIGHT, circle, right};
+use crate::whole_world::WholeWorld;
 use crate::worlds::check::Check;
+use crate::worlds::making::{SECOND, STALE, circle};
 use crate::worlds::seen::Seen;
+use check_scenes::{FIRST, NO_GRAVITY, ORIGIN, UPRIGHT, right};
 use shapes::{Filter, Shape, ShapeDef, Shapes};
 use std::alloc::Global;
 use world_core::{BodyDef, Command, Handle, Kind, MassData, Refusal, Vec2};
@@ -18,7 +19,7 @@ const AGAIN: Handle = Handle {
     generation: 2,
 };
 
-pub fn run<W: World>(check: &mut Check<W>) {
+pub fn run<W: WholeWorld>(check: &mut Check<W>) {
     a_body_is_left_out(check);
     a_body_that_is_gone_cannot_be_left_out(check);
     categories_meet_a_mask(check);
@@ -42,7 +43,7 @@ fn circle_in(category: u64, x: i64) -> ShapeDef {
     }
 }
 
-fn see_all<W: World>(check: &mut Check<W>) {
+fn see_all<W: WholeWorld>(check: &mut Check<W>) {
     check.see_hit_through(
         AHEAD,
         QueryFilter {
@@ -52,7 +53,7 @@ fn see_all<W: World>(check: &mut Check<W>) {
     );
 }
 
-fn see_without<W: World>(check: &mut Check<W>, handle: Handle) {
+fn see_without<W: WholeWorld>(check: &mut Check<W>, handle: Handle) {
     check.see_hit_through(
         AHEAD,
         QueryFilter {
@@ -62,7 +63,7 @@ fn see_without<W: World>(check: &mut Check<W>, handle: Handle) {
     );
 }
 
-fn see_in<W: World>(check: &mut Check<W>, mask: u64) {
+fn see_in<W: WholeWorld>(check: &mut Check<W>, mask: u64) {
     check.see_hit_through(
         AHEAD,
         QueryFilter {
@@ -73,7 +74,7 @@ fn see_in<W: World>(check: &mut Check<W>, mask: u64) {
 }
 
 /// The first circle is hit 900 u from the origin, the second 1900 u from it.
-fn a_body_is_left_out<W: World>(check: &mut Check<W>) {
+fn a_body_is_left_out<W: WholeWorld>(check: &mut Check<W>) {
     check.begin("a ray leaves a body out", NO_GRAVITY);
     check.add(1, right(1_000), circle(100));
     check.add(1, right(2_000), circle(100));
@@ -86,7 +87,7 @@ fn a_body_is_left_out<W: World>(check: &mut Check<W>) {
     see_without(check, SECOND);
 }
 
-fn a_body_that_is_gone_cannot_be_left_out<W: World>(check: &mut Check<W>) {
+fn a_body_that_is_gone_cannot_be_left_out<W: WholeWorld>(check: &mut Check<W>) {
     check.begin("a ray cannot leave out a body that is gone", NO_GRAVITY);
     check.add(1, right(1_000), circle(100));
     check.apply(Command::DestroyBody(FIRST));
@@ -98,7 +99,7 @@ fn a_body_that_is_gone_cannot_be_left_out<W: World>(check: &mut Check<W>) {
     see_all(check);
 }
 
-fn categories_meet_a_mask<W: World>(check: &mut Check<W>) {
+fn categories_meet_a_mask<W: WholeWorld>(check: &mut Check<W>) {
     check.begin("a ray hits the categories of its mask", NO_GRAVITY);
     check.add(1, right(1_000), circle_in(1, 0));
     check.add(1, right(2_000), circle_in(6 + (1 << 63), 0));
@@ -125,7 +126,7 @@ fn categories_meet_a_mask<W: World>(check: &mut Check<W>) {
     );
 }
 
-fn a_shape_without_a_category_meets_no_mask<W: World>(check: &mut Check<W>) {
+fn a_shape_without_a_category_meets_no_mask<W: WholeWorld>(check: &mut Check<W>) {
     check.begin("a shape without a category meets no mask", NO_GRAVITY);
     check.add(1, right(1_000), circle_in(0, 0));
     see_all(check);
@@ -149,7 +150,7 @@ fn pair_of(alloc: Global) -> Result<Command, Refusal> {
     }))
 }
 
-fn one_shape_of_a_body_is_passed_by<W: World>(check: &mut Check<W>) {
+fn one_shape_of_a_body_is_passed_by<W: WholeWorld>(check: &mut Check<W>) {
     check.begin("a ray passes one shape of a body by", NO_GRAVITY);
     match pair_of(check.alloc()) {
         Ok(command) => check.apply(command),

@@ -1,14 +1,12 @@
 //! Islands that come apart: a loose one is split when it is about to sleep, and its parts sleep in sets of their own.
 
-use crate::calls::World;
-use crate::scenes::{
-    FIRST, NO_GRAVITY, ORIGIN, PULL, RADIUS, SECOND, THIRD, UPRIGHT, between, circle, contact,
-    first_in, floor, on_floor, right,
-};
+use crate::whole_world::WholeWorld;
 use crate::worlds::check::Check;
+use crate::worlds::making::{RADIUS, SECOND, THIRD, circle, contact, first_in, floor, on_floor};
+use check_scenes::{FIRST, NO_GRAVITY, ORIGIN, PULL, UPRIGHT, between, right};
 use world_core::{Command, Pose};
 
-pub fn run<W: World>(check: &mut Check<W>) {
+pub fn run<W: WholeWorld>(check: &mut Check<W>) {
     a_row_without_its_middle_sleeps_in_two_sets(check);
     a_joint_that_goes_wakes_and_loosens(check);
     sleep_by_command_splits_first(check);
@@ -16,7 +14,7 @@ pub fn run<W: World>(check: &mut Check<W>) {
     a_floor_that_goes_wakes_all_that_lie_on_it(check);
 }
 
-fn add_three<W: World>(check: &mut Check<W>) {
+fn add_three<W: WholeWorld>(check: &mut Check<W>) {
     check.add(1, ORIGIN, circle(100));
     check.add(1, right(1_000), circle(100));
     check.add(1, right(2_000), circle(100));
@@ -25,7 +23,7 @@ fn add_three<W: World>(check: &mut Check<W>) {
 }
 
 /// Three circles in a row; the middle one is destroyed.
-fn a_row_without_its_middle_sleeps_in_two_sets<W: World>(check: &mut Check<W>) {
+fn a_row_without_its_middle_sleeps_in_two_sets<W: WholeWorld>(check: &mut Check<W>) {
     check.begin("a row without its middle sleeps in two sets", NO_GRAVITY);
     add_three(check);
     check.see_islands(3);
@@ -41,7 +39,7 @@ fn a_row_without_its_middle_sleeps_in_two_sets<W: World>(check: &mut Check<W>) {
 }
 
 /// A sleeping pair whose joint is destroyed wakes as one loose island, and falls asleep as two.
-fn a_joint_that_goes_wakes_and_loosens<W: World>(check: &mut Check<W>) {
+fn a_joint_that_goes_wakes_and_loosens<W: WholeWorld>(check: &mut Check<W>) {
     check.begin("a joint that goes wakes and loosens", NO_GRAVITY);
     check.add(1, ORIGIN, circle(100));
     check.add(1, right(1_000), circle(100));
@@ -56,7 +54,7 @@ fn a_joint_that_goes_wakes_and_loosens<W: World>(check: &mut Check<W>) {
 }
 
 /// Only the part of the body that is put to rest sleeps; the other part is an island of its own and awake.
-fn sleep_by_command_splits_first<W: World>(check: &mut Check<W>) {
+fn sleep_by_command_splits_first<W: WholeWorld>(check: &mut Check<W>) {
     check.begin("sleep by command splits first", NO_GRAVITY);
     add_three(check);
     check.apply(Command::DestroyJoint(FIRST));
@@ -67,7 +65,7 @@ fn sleep_by_command_splits_first<W: World>(check: &mut Check<W>) {
 
 /// Two circles that touch; the second is put far away and to rest, so that both sleep with a contact that is over. The next collide
 /// finds that.
-fn a_contact_of_sleepers_that_ends_wakes_both<W: World>(check: &mut Check<W>) {
+fn a_contact_of_sleepers_that_ends_wakes_both<W: WholeWorld>(check: &mut Check<W>) {
     check.begin("a contact of sleepers that ends wakes both", NO_GRAVITY);
     check.add(1, ORIGIN, circle(100));
     check.add(1, right(150), circle(100));
@@ -86,7 +84,7 @@ fn a_contact_of_sleepers_that_ends_wakes_both<W: World>(check: &mut Check<W>) {
 }
 
 /// Three circles that sleep on a floor, each in a set of its own.
-fn a_floor_that_goes_wakes_all_that_lie_on_it<W: World>(check: &mut Check<W>) {
+fn a_floor_that_goes_wakes_all_that_lie_on_it<W: WholeWorld>(check: &mut Check<W>) {
     check.begin("a floor that goes wakes all that lie on it", PULL);
     check.add(0, ORIGIN, floor());
     for x in [-600_000, 0, 600_000] {

@@ -1,11 +1,12 @@
 //! Joints: which colours they have, what refuses them, and which bodies they keep from colliding.
 
-use crate::calls::World;
-use crate::scenes::{FIRST, NO_GRAVITY, ORIGIN, SECOND, between, circle, first_in, right};
+use crate::whole_world::WholeWorld;
 use crate::worlds::check::Check;
+use crate::worlds::making::{SECOND, circle, first_in};
+use check_scenes::{FIRST, NO_GRAVITY, ORIGIN, between, right};
 use world_core::{Command, Constraint, Handle, JointDef, Vec2};
 
-pub fn run<W: World>(check: &mut Check<W>) {
+pub fn run<W: WholeWorld>(check: &mut Check<W>) {
     joints_take_the_least_colour_and_keep_it(check);
     joints_are_refused_in_their_order(check);
     joined_bodies_do_not_collide(check);
@@ -13,16 +14,16 @@ pub fn run<W: World>(check: &mut Check<W>) {
     joints_go_with_their_bodies(check);
 }
 
-fn ask_join<W: World>(check: &mut Check<W>, def: JointDef) {
+fn ask_join<W: WholeWorld>(check: &mut Check<W>, def: JointDef) {
     check.ask(Command::CreateJoint(def));
 }
 
-fn ask_unjoin<W: World>(check: &mut Check<W>, joint: Handle) {
+fn ask_unjoin<W: WholeWorld>(check: &mut Check<W>, joint: Handle) {
     check.ask(Command::DestroyJoint(joint));
 }
 
 /// A hub and twenty-five movers beside it, each jointed to it.
-fn add_hub<W: World>(check: &mut Check<W>) {
+fn add_hub<W: WholeWorld>(check: &mut Check<W>) {
     check.add(1, ORIGIN, circle(100));
     for slot in 1..26 {
         check.add(1, right(1_000), circle(100));
@@ -31,13 +32,13 @@ fn add_hub<W: World>(check: &mut Check<W>) {
 }
 
 /// The colours of the joints in slots 0, 23 and 24.
-fn see_colours<W: World>(check: &mut Check<W>) {
+fn see_colours<W: WholeWorld>(check: &mut Check<W>) {
     for slot in [0, 23, 24] {
         check.see_colour(Constraint::Joint(first_in(slot)));
     }
 }
 
-fn joints_take_the_least_colour_and_keep_it<W: World>(check: &mut Check<W>) {
+fn joints_take_the_least_colour_and_keep_it<W: WholeWorld>(check: &mut Check<W>) {
     check.begin("joints take the least colour and keep it", NO_GRAVITY);
     add_hub(check);
     see_colours(check);
@@ -51,12 +52,12 @@ fn joints_take_the_least_colour_and_keep_it<W: World>(check: &mut Check<W>) {
 }
 
 /// Two circles that touch; static ones where the mass is 0.
-fn add_pair<W: World>(check: &mut Check<W>, mass: i64) {
+fn add_pair<W: WholeWorld>(check: &mut Check<W>, mass: i64) {
     check.add(mass, ORIGIN, circle(100));
     check.add(mass, right(150), circle(100));
 }
 
-fn joints_are_refused_in_their_order<W: World>(check: &mut Check<W>) {
+fn joints_are_refused_in_their_order<W: WholeWorld>(check: &mut Check<W>) {
     check.begin("joints are refused in their order", NO_GRAVITY);
     add_pair(check, 1);
     let good = between(FIRST, SECOND, 1_000);
@@ -76,14 +77,14 @@ fn joints_are_refused_in_their_order<W: World>(check: &mut Check<W>) {
     ask_join(check, JointDef { length: -1, ..good });
 }
 
-fn see_a_tick<W: World>(check: &mut Check<W>) {
+fn see_a_tick<W: WholeWorld>(check: &mut Check<W>) {
     check.step(1);
     check.see_events();
 }
 
 /// The meetings of a tick, those of the next once the bodies are joined by a joint that leaves them where they are, and those of a
 /// third once they aren't any more.
-fn joined_bodies_do_not_collide<W: World>(check: &mut Check<W>) {
+fn joined_bodies_do_not_collide<W: WholeWorld>(check: &mut Check<W>) {
     check.begin("joined bodies do not collide", NO_GRAVITY);
     add_pair(check, 1);
     see_a_tick(check);
@@ -95,7 +96,7 @@ fn joined_bodies_do_not_collide<W: World>(check: &mut Check<W>) {
 
 /// Two circles 1,000 u apart, which a joint of length 200 pulls together: an eighth of the error in the first tick, half of it by each;
 /// in the second the kept impulse is given once more, of which the solver takes most back.
-fn a_joint_pulls_and_keeps_its_impulse<W: World>(check: &mut Check<W>) {
+fn a_joint_pulls_and_keeps_its_impulse<W: WholeWorld>(check: &mut Check<W>) {
     check.begin("a joint pulls and keeps its impulse", NO_GRAVITY);
     check.add(1, ORIGIN, circle(100));
     check.add(1, right(1_000), circle(100));
@@ -107,7 +108,7 @@ fn a_joint_pulls_and_keeps_its_impulse<W: World>(check: &mut Check<W>) {
 }
 
 /// The colour of a joint, and what its destroying answers once one of its bodies is gone.
-fn let_go<W: World>(check: &mut Check<W>, mass: i64) {
+fn let_go<W: WholeWorld>(check: &mut Check<W>, mass: i64) {
     add_pair(check, mass);
     check.join(between(FIRST, SECOND, 1_000));
     check.see_colour(Constraint::Joint(FIRST));
@@ -115,7 +116,7 @@ fn let_go<W: World>(check: &mut Check<W>, mass: i64) {
     ask_unjoin(check, FIRST);
 }
 
-fn joints_go_with_their_bodies<W: World>(check: &mut Check<W>) {
+fn joints_go_with_their_bodies<W: WholeWorld>(check: &mut Check<W>) {
     check.begin("a joint of movers goes with its body", NO_GRAVITY);
     let_go(check, 1);
     check.begin("a joint of static bodies goes with its body", NO_GRAVITY);

@@ -1,18 +1,16 @@
 //! Shapes that meet: which colours their contacts have, and what is told and booked of them. The places and momenta that
 //! meetings leave are shown by the stored scripts of the repository.
 
-use crate::calls::World;
-use crate::scenes::{
-    FIRST, NO_GRAVITY, ORIGIN, PULL, RADIUS, SECOND, UPRIGHT, circle, contact, floor, on_floor,
-    right,
-};
+use crate::whole_world::WholeWorld;
 use crate::worlds::check::Check;
+use crate::worlds::making::{RADIUS, SECOND, circle, contact, floor, on_floor};
+use check_scenes::{FIRST, NO_GRAVITY, ORIGIN, PULL, UPRIGHT, right};
 use world_core::{Command, Pose, Vec2};
 
 /// How many slots the hub and its small circles take.
 const HUB_SLOTS: u32 = 28;
 
-pub fn run<W: World>(check: &mut Check<W>) {
+pub fn run<W: WholeWorld>(check: &mut Check<W>) {
     two_circles_on_a_floor_have_one_colour(check);
     gravity_and_the_floor_are_booked(check);
     a_hub_takes_all_colours(check);
@@ -22,7 +20,7 @@ pub fn run<W: World>(check: &mut Check<W>) {
     a_destroyed_body_takes_its_contacts_along(check);
 }
 
-fn two_circles_on_a_floor_have_one_colour<W: World>(check: &mut Check<W>) {
+fn two_circles_on_a_floor_have_one_colour<W: WholeWorld>(check: &mut Check<W>) {
     check.begin("two circles on a floor have one colour", PULL);
     check.add(0, ORIGIN, floor());
     check.add(1, on_floor(0), circle(RADIUS));
@@ -33,7 +31,7 @@ fn two_circles_on_a_floor_have_one_colour<W: World>(check: &mut Check<W>) {
     check.see_colour(contact(0, 2));
 }
 
-fn gravity_and_the_floor_are_booked<W: World>(check: &mut Check<W>) {
+fn gravity_and_the_floor_are_booked<W: WholeWorld>(check: &mut Check<W>) {
     check.begin("gravity and the floor are booked", PULL);
     check.add(0, ORIGIN, floor());
     check.add(256, on_floor(0), circle(RADIUS));
@@ -43,7 +41,7 @@ fn gravity_and_the_floor_are_booked<W: World>(check: &mut Check<W>) {
 
 /// A great circle, as slot 0, that twenty-seven small ones lie in: their contacts have the colours in their order, the last three the
 /// overflow.
-fn a_hub_takes_all_colours<W: World>(check: &mut Check<W>) {
+fn a_hub_takes_all_colours<W: WholeWorld>(check: &mut Check<W>) {
     check.begin("a hub takes all colours", NO_GRAVITY);
     check.add(1000, ORIGIN, circle(100_000));
     for number in 1..HUB_SLOTS {
@@ -58,7 +56,7 @@ fn a_hub_takes_all_colours<W: World>(check: &mut Check<W>) {
 
 /// A great circle, as slot 0, and fifteen small ones in it that don't touch one another: the contacts with it have the colours in the order of
 /// their keys. All sixteen are so near that each pair has a contact.
-fn a_hub_of_fifteen_circles<W: World>(check: &mut Check<W>) {
+fn a_hub_of_fifteen_circles<W: WholeWorld>(check: &mut Check<W>) {
     check.begin("a hub of fifteen circles", NO_GRAVITY);
     check.add(1000, ORIGIN, circle(100_000));
     for number in 1..16 {
@@ -72,7 +70,7 @@ fn a_hub_of_fifteen_circles<W: World>(check: &mut Check<W>) {
 }
 
 /// A circle lies on a floor and is put far above it: the contact stands with its colour, and ends in the next step.
-fn a_contact_stands_until_the_next_step<W: World>(check: &mut Check<W>) {
+fn a_contact_stands_until_the_next_step<W: WholeWorld>(check: &mut Check<W>) {
     check.begin("a contact stands until the next step", PULL);
     check.add(0, ORIGIN, floor());
     check.add(256, on_floor(0), circle(RADIUS));
@@ -93,19 +91,19 @@ fn a_contact_stands_until_the_next_step<W: World>(check: &mut Check<W>) {
 }
 
 /// A circle that comes from the left to one that stays, and meets it in the second step of one tick.
-fn approach<W: World>(check: &mut Check<W>) {
+fn approach<W: WholeWorld>(check: &mut Check<W>) {
     check.add(1, ORIGIN, circle(RADIUS));
     check.add(1, right(200_000), circle(RADIUS));
     check.push(FIRST, 100_000, 0);
 }
 
-fn see_a_tick<W: World>(check: &mut Check<W>) {
+fn see_a_tick<W: WholeWorld>(check: &mut Check<W>) {
     check.step(1);
     check.see_events();
     check.see_colour(contact(0, 1));
 }
 
-fn circles_meet_and_part<W: World>(check: &mut Check<W>) {
+fn circles_meet_and_part<W: WholeWorld>(check: &mut Check<W>) {
     check.begin("circles meet and part", NO_GRAVITY);
     approach(check);
     see_a_tick(check);
@@ -115,7 +113,7 @@ fn circles_meet_and_part<W: World>(check: &mut Check<W>) {
     see_a_tick(check);
 }
 
-fn a_destroyed_body_takes_its_contacts_along<W: World>(check: &mut Check<W>) {
+fn a_destroyed_body_takes_its_contacts_along<W: WholeWorld>(check: &mut Check<W>) {
     check.begin("a destroyed body takes its contacts along", NO_GRAVITY);
     approach(check);
     check.step(1);

@@ -1,11 +1,12 @@
 //! Bodies that are disabled and take part again, and what the commands on parts and on islands refuse.
 
-use crate::calls::World;
-use crate::scenes::{FIRST, NO_GRAVITY, ORIGIN, SECOND, STALE, between, circle, right};
+use crate::whole_world::WholeWorld;
 use crate::worlds::check::Check;
+use crate::worlds::making::{SECOND, STALE, circle};
+use check_scenes::{FIRST, NO_GRAVITY, ORIGIN, between, right};
 use world_core::{Command, Constraint, Handle, Kind, MassData, NO_COURSE};
 
-pub fn run<W: World>(check: &mut Check<W>) {
+pub fn run<W: WholeWorld>(check: &mut Check<W>) {
     a_disabled_body_leaves_and_comes_again(check);
     a_disabled_sleeper_wakes_its_neighbour(check);
     a_stale_handle_is_refused(check);
@@ -13,13 +14,13 @@ pub fn run<W: World>(check: &mut Check<W>) {
     disabled_bodies_are_refused(check);
 }
 
-fn add_joined<W: World>(check: &mut Check<W>) {
+fn add_joined<W: WholeWorld>(check: &mut Check<W>) {
     check.add(1, ORIGIN, circle(100));
     check.add(1, right(1_000), circle(100));
     check.join(between(FIRST, SECOND, 1_000));
 }
 
-fn see_pair<W: World>(check: &mut Check<W>) {
+fn see_pair<W: WholeWorld>(check: &mut Check<W>) {
     check.see_body(FIRST);
     check.see_body(SECOND);
     check.see_colour(Constraint::Joint(FIRST));
@@ -28,7 +29,7 @@ fn see_pair<W: World>(check: &mut Check<W>) {
 
 /// The momentum departs, body and joint stand in disabled, where the joint does nothing, and the neighbour stays behind in a loose island. Enabled,
 /// the body is at rest, and its joint makes one loose island of both, which is split into itself before it sleeps.
-fn a_disabled_body_leaves_and_comes_again<W: World>(check: &mut Check<W>) {
+fn a_disabled_body_leaves_and_comes_again<W: WholeWorld>(check: &mut Check<W>) {
     check.begin("a disabled body leaves and comes again", NO_GRAVITY);
     add_joined(check);
     check.push(FIRST, 5, 0);
@@ -50,7 +51,7 @@ fn a_disabled_body_leaves_and_comes_again<W: World>(check: &mut Check<W>) {
 }
 
 /// A sleeper has no momentum that could depart.
-fn a_disabled_sleeper_wakes_its_neighbour<W: World>(check: &mut Check<W>) {
+fn a_disabled_sleeper_wakes_its_neighbour<W: WholeWorld>(check: &mut Check<W>) {
     check.begin("a disabled sleeper wakes its neighbour", NO_GRAVITY);
     add_joined(check);
     check.apply(Command::Sleep(FIRST));
@@ -65,7 +66,7 @@ fn a_disabled_sleeper_wakes_its_neighbour<W: World>(check: &mut Check<W>) {
 }
 
 /// What the four commands answer of a body.
-fn ask_all<W: World>(check: &mut Check<W>, handle: Handle) {
+fn ask_all<W: WholeWorld>(check: &mut Check<W>, handle: Handle) {
     check.ask(Command::Disable(handle));
     check.ask(Command::Wake(handle));
     check.ask(Command::Sleep(handle));
@@ -73,7 +74,7 @@ fn ask_all<W: World>(check: &mut Check<W>, handle: Handle) {
 }
 
 /// A refused command is no call.
-fn a_stale_handle_is_refused<W: World>(check: &mut Check<W>) {
+fn a_stale_handle_is_refused<W: WholeWorld>(check: &mut Check<W>) {
     check.begin("a stale handle is refused", NO_GRAVITY);
     check.add(1, ORIGIN, circle(100));
     ask_all(check, STALE);
@@ -82,7 +83,7 @@ fn a_stale_handle_is_refused<W: World>(check: &mut Check<W>) {
 }
 
 /// Static and kinematic bodies can be disabled and enabled, and neither sleep nor wake, whether they are disabled or not.
-fn bodies_that_do_not_move_are_refused<W: World>(check: &mut Check<W>) {
+fn bodies_that_do_not_move_are_refused<W: WholeWorld>(check: &mut Check<W>) {
     let none = MassData {
         mass: 0,
         inertia: 0,
@@ -99,7 +100,7 @@ fn bodies_that_do_not_move_are_refused<W: World>(check: &mut Check<W>) {
 }
 
 /// A disabled mover is disabled for each command but `Enable`, also for a push that is beyond the limits.
-fn disabled_bodies_are_refused<W: World>(check: &mut Check<W>) {
+fn disabled_bodies_are_refused<W: WholeWorld>(check: &mut Check<W>) {
     check.begin("disabled bodies are refused", NO_GRAVITY);
     check.add(1, ORIGIN, circle(100));
     check.apply(Command::Disable(FIRST));

@@ -1,8 +1,9 @@
 //! What lies beside a kinematic body that moves doesn't fall asleep by itself.
 
-use crate::calls::World;
-use crate::scenes::{FIRST, NO_GRAVITY, ORIGIN, SECOND, circle, contact, right};
+use crate::whole_world::WholeWorld;
 use crate::worlds::check::Check;
+use crate::worlds::making::{SECOND, circle, contact};
+use check_scenes::{FIRST, NO_GRAVITY, ORIGIN, right};
 use world_core::{Course, Kind, MassData};
 
 fn to_the_right(x: i64) -> Course {
@@ -14,7 +15,7 @@ fn to_the_right(x: i64) -> Course {
 
 /// A kinematic circle shoves another one along by ten u a tick. Once it stands, the other falls asleep in the next step, since it was
 /// slow all the time; steered again, it wakes it.
-pub fn run<W: World>(check: &mut Check<W>) {
+pub fn run<W: WholeWorld>(check: &mut Check<W>) {
     let none = MassData {
         mass: 0,
         inertia: 0,
@@ -39,7 +40,7 @@ pub fn run<W: World>(check: &mut Check<W>) {
     see_both(check);
 }
 
-fn see_both<W: World>(check: &mut Check<W>) {
+fn see_both<W: WholeWorld>(check: &mut Check<W>) {
     check.see_body(FIRST);
     check.see_body(SECOND);
 }

@@ -1,13 +1,14 @@
 //! What rays and regions see of two circles in one place.
 
-use crate::calls::World;
-use crate::scenes::{FIRST, NO_GRAVITY, SECOND, circle, right};
+use crate::whole_world::WholeWorld;
 use crate::worlds::check::Check;
+use crate::worlds::making::{SECOND, circle};
+use check_scenes::{FIRST, NO_GRAVITY, right};
 use world_core::{Command, Vec2};
 
 /// The circles have the radius 100, so that 900 u from the origin a box touches them, and one less doesn't. One that is disabled isn't there for
 /// them.
-pub fn run<W: World>(check: &mut Check<W>) {
+pub fn run<W: WholeWorld>(check: &mut Check<W>) {
     check.begin("two circles are seen", NO_GRAVITY);
     check.add(1, right(1_000), circle(100));
     check.add(1, right(1_000), circle(100));

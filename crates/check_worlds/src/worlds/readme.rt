@@ -1,14 +1,14 @@
 //! The example that the repository's README shows: it has the lines of `fall`, which stands there of `WorldCore` alone.
 
-use crate::calls::World;
-use crate::scenes::PULL;
+use crate::whole_world::WholeWorld;
 use crate::worlds::check::Check;
+use check_scenes::PULL;
 use shapes::{Shape, ShapeDef, Shapes};
 use std::alloc::Global;
 use world_core::{BodyDef, BodyView, Command, Kind, MassData, Refusal, Reply, Rot, Vec2};
 
 /// What is seen of a circle that fell for four ticks.
-pub fn fall<W: World>(alloc: Global, world: &mut W) -> Result<Option<BodyView>, Refusal> {
+pub fn fall<W: WholeWorld>(alloc: Global, world: &mut W) -> Result<Option<BodyView>, Refusal> {
     let (center, radius) = (Vec2 { x: 0, y: 0 }, 65_536);
     let (mass, inertia) = (256, 0);
     let mut shapes = Shapes::new(alloc);
@@ -31,7 +31,7 @@ pub fn fall<W: World>(alloc: Global, world: &mut W) -> Result<Option<BodyView>, 
 }
 
 /// The circle has moved by 157 times 1, 2, 3 and 4 u.
-pub fn run<W: World>(check: &mut Check<W>) {
+pub fn run<W: WholeWorld>(check: &mut Check<W>) {
     check.begin("the example of the README", PULL);
     check.see_fall();
 }

@@ -1,7 +1,7 @@
 //! What a check sees of a world, and how it is told.
 
-use crate::calls::Answer;
 use crate::worlds::trials::{Outcome, Stop};
+use check_scenes::Answer;
 use fixed_geom::Box2;
 use impulse_ledger::Entry;
 use islands::{IslandState, Label};

@@ -1,15 +1,13 @@
 //! How islands fall asleep and wake. A mover is slow at 205 u a tick and below, and an island falls asleep once each of its movers
 //! was slow for 128 ticks: sixteen steps of eight.
 
-use crate::calls::World;
-use crate::scenes::{
-    FIRST, NO_GRAVITY, ORIGIN, PULL, RADIUS, SECOND, UPRIGHT, between, circle, contact, floor,
-    on_floor, right,
-};
+use crate::whole_world::WholeWorld;
 use crate::worlds::check::Check;
+use crate::worlds::making::{RADIUS, SECOND, circle, contact, floor, on_floor};
+use check_scenes::{FIRST, NO_GRAVITY, ORIGIN, PULL, UPRIGHT, between, right};
 use world_core::{Cause, Command, Constraint, Pose};
 
-pub fn run<W: World>(check: &mut Check<W>) {
+pub fn run<W: WholeWorld>(check: &mut Check<W>) {
     a_slow_circle_falls_asleep(check);
     a_push_wakes_a_sleeper(check);
     a_circle_at_the_limit_is_slow(check);
@@ -24,14 +22,14 @@ pub fn run<W: World>(check: &mut Check<W>) {
 }
 
 /// A circle of mass 1 that was pushed to the right, and so many steps of eight ticks.
-fn let_drift<W: World>(check: &mut Check<W>, by: i64, steps: u32) {
+fn let_drift<W: WholeWorld>(check: &mut Check<W>, by: i64, steps: u32) {
     check.add(1, ORIGIN, circle(100));
     check.push(FIRST, by, 0);
     check.steps(steps, 8);
 }
 
 /// Seven u a tick are 840 u in fifteen steps, and 896 in sixteen. The sixteenth step is the eighteenth call.
-fn a_slow_circle_falls_asleep<W: World>(check: &mut Check<W>) {
+fn a_slow_circle_falls_asleep<W: WholeWorld>(check: &mut Check<W>) {
     check.begin("a slow circle falls asleep", NO_GRAVITY);
     let_drift(check, 7, 15);
     check.see_events();
@@ -45,7 +43,7 @@ fn a_slow_circle_falls_asleep<W: World>(check: &mut Check<W>) {
 }
 
 /// The push wakes first, and is all that the circle has then. What a command wakes is no event: those of the last step stay.
-fn a_push_wakes_a_sleeper<W: World>(check: &mut Check<W>) {
+fn a_push_wakes_a_sleeper<W: WholeWorld>(check: &mut Check<W>) {
     check.begin("a push wakes a sleeper", NO_GRAVITY);
     let_drift(check, 7, 16);
     check.ask_push(FIRST, 5, 0);
@@ -60,7 +58,7 @@ fn a_push_wakes_a_sleeper<W: World>(check: &mut Check<W>) {
 }
 
 /// 205 u a tick are 26,240 u in 128 ticks.
-fn a_circle_at_the_limit_is_slow<W: World>(check: &mut Check<W>) {
+fn a_circle_at_the_limit_is_slow<W: WholeWorld>(check: &mut Check<W>) {
     check.begin("a circle at the limit is slow", NO_GRAVITY);
     let_drift(check, 205, 16);
     check.see_body(FIRST);
@@ -68,7 +66,7 @@ fn a_circle_at_the_limit_is_slow<W: World>(check: &mut Check<W>) {
 }
 
 /// 206 u a tick are 26,368 u in 128 ticks.
-fn a_circle_beyond_the_limit_is_not_slow<W: World>(check: &mut Check<W>) {
+fn a_circle_beyond_the_limit_is_not_slow<W: WholeWorld>(check: &mut Check<W>) {
     check.begin("a circle beyond the limit is not slow", NO_GRAVITY);
     let_drift(check, 206, 16);
     check.see_body(FIRST);
@@ -77,7 +75,7 @@ fn a_circle_beyond_the_limit_is_not_slow<W: World>(check: &mut Check<W>) {
 }
 
 /// To put a sleeper to rest, and to wake one that is awake, are accepted calls that change nothing else.
-fn commands_put_to_rest_and_wake<W: World>(check: &mut Check<W>) {
+fn commands_put_to_rest_and_wake<W: WholeWorld>(check: &mut Check<W>) {
     check.begin("commands put to rest and wake", NO_GRAVITY);
     check.add(1, ORIGIN, circle(100));
     check.push(FIRST, 7, 0);
@@ -98,7 +96,7 @@ fn commands_put_to_rest_and_wake<W: World>(check: &mut Check<W>) {
 }
 
 /// A mover keeps its timer while it sleeps, and begins at 0 when it is woken: three steps of four ticks, and then sixteen of eight.
-fn a_woken_circle_begins_anew<W: World>(check: &mut Check<W>) {
+fn a_woken_circle_begins_anew<W: WholeWorld>(check: &mut Check<W>) {
     check.begin("a woken circle begins anew", NO_GRAVITY);
     check.add(1, ORIGIN, circle(100));
     check.steps(3, 4);
@@ -113,7 +111,7 @@ fn a_woken_circle_begins_anew<W: World>(check: &mut Check<W>) {
     check.see_events();
 }
 
-fn see_pair<W: World>(check: &mut Check<W>) {
+fn see_pair<W: WholeWorld>(check: &mut Check<W>) {
     check.see_body(FIRST);
     check.see_body(SECOND);
     check.see_colour(Constraint::Joint(FIRST));
@@ -122,7 +120,7 @@ fn see_pair<W: World>(check: &mut Check<W>) {
 
 /// Two circles with a joint that neither pulls nor pushes fall asleep in one set. A push of the one wakes both, and the sleep of the
 /// other is that of both.
-fn a_joint_keeps_two_asleep_together<W: World>(check: &mut Check<W>) {
+fn a_joint_keeps_two_asleep_together<W: WholeWorld>(check: &mut Check<W>) {
     check.begin("a joint keeps two asleep together", NO_GRAVITY);
     check.add(1, ORIGIN, circle(100));
     check.add(1, right(1_000), circle(100));
@@ -140,7 +138,7 @@ fn a_joint_keeps_two_asleep_together<W: World>(check: &mut Check<W>) {
 
 /// A circle lies on a floor and falls asleep in the thirty-second step of four ticks. A second one, made beside it, touches it and
 /// the floor: the sleeper wakes, both are one island, and the contacts with the floor have one colour.
-fn a_touch_wakes_a_sleeper<W: World>(check: &mut Check<W>) {
+fn a_touch_wakes_a_sleeper<W: WholeWorld>(check: &mut Check<W>) {
     check.begin("a touch wakes a sleeper", PULL);
     check.add(0, ORIGIN, floor());
     check.add(256, on_floor(0), circle(RADIUS));
@@ -161,7 +159,7 @@ fn a_touch_wakes_a_sleeper<W: World>(check: &mut Check<W>) {
 }
 
 /// Gravity wakes nobody, and a sleeper doesn't fall. Another pose wakes.
-fn other_commands_wake_or_do_not<W: World>(check: &mut Check<W>) {
+fn other_commands_wake_or_do_not<W: WholeWorld>(check: &mut Check<W>) {
     check.begin("gravity lets sleepers sleep and a pose wakes", NO_GRAVITY);
     check.add(1, ORIGIN, circle(100));
     check.apply(Command::Sleep(FIRST));
@@ -178,7 +176,7 @@ fn other_commands_wake_or_do_not<W: World>(check: &mut Check<W>) {
 }
 
 /// What is done in a copy leaves the world asleep.
-fn a_copy_sleeps_too<W: World>(check: &mut Check<W>) {
+fn a_copy_sleeps_too<W: WholeWorld>(check: &mut Check<W>) {
     check.begin("a copy sleeps too", NO_GRAVITY);
     let_drift(check, 7, 16);
     let left = check.go_on_in_copy();
@@ -193,7 +191,7 @@ fn a_copy_sleeps_too<W: World>(check: &mut Check<W>) {
     check.see_events();
 }
 
-fn a_replay_sleeps_and_wakes<W: World>(check: &mut Check<W>) {
+fn a_replay_sleeps_and_wakes<W: WholeWorld>(check: &mut Check<W>) {
     check.begin("a replay sleeps and wakes", NO_GRAVITY);
     check.add(1, ORIGIN, circle(100));
     check.replay(&[

@@ -8,7 +8,7 @@ mod stop;
 mod trial;
 mod worlds;
 
-use crate::calls::World;
+use crate::whole_world::WholeWorld;
 use crate::worlds::check::Check;
 use crate::worlds::seen::Seen;
 use differences::compare;
@@ -56,7 +56,7 @@ const CALLS: [&str; 18] = [
 ];
 
 /// Makes each call while all memory is there, then tells what is found in worlds that differ in a known way.
-pub fn run<W: World>(check: &mut Check<W>) {
+pub fn run<W: WholeWorld>(check: &mut Check<W>) {
     check.name("calls to which no memory is refused");
     for call in CALLS {
         let outcome = try_call::<W>(check.alloc(), SCENE, call);

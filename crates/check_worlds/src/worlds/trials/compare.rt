@@ -1,21 +1,13 @@
 //! Two worlds compared, part by part.
 
-use crate::calls::World;
+use crate::whole_world::WholeWorld;
 use crate::worlds::trials::stop::{Moment, Part, Stop};
+use check_scenes::CAUSES;
 use graph_colours::COLOURS;
-use impulse_ledger::{Cause, Ledger};
+use impulse_ledger::Ledger;
 use plain_world::Body;
 use solver_sets::{Census, SleepingSet};
 use world_core::{Events, Frame, FrameBody, Plain};
-
-const CAUSES: [Cause; 6] = [
-    Cause::Command,
-    Cause::Gravity,
-    Cause::Immovable,
-    Cause::Clamp,
-    Cause::Rest,
-    Cause::Departed,
-];
 
 /// Stops where the two aren't equal.
 pub fn expect(moment: Moment, part: Part, is_same: bool) -> Result<(), Stop> {
@@ -53,7 +45,11 @@ impl Comparison {
 }
 
 /// Stops where the two worlds differ: in their plain lists, their ledgers or their events.
-pub fn expect_same_worlds<W: World>(moment: Moment, first: &W, second: &W) -> Result<(), Stop> {
+pub fn expect_same_worlds<W: WholeWorld>(
+    moment: Moment,
+    first: &W,
+    second: &W,
+) -> Result<(), Stop> {
     match first.lists() {
         Ok(lists) => expect_world_of(moment, &lists, first, second),
         Err(refusal) => Err(Stop::from(refusal)),
@@ -61,7 +57,7 @@ pub fn expect_same_worlds<W: World>(moment: Moment, first: &W, second: &W) -> Re
 }
 
 /// Stops where the second world differs from the first, whose lists these are.
-fn expect_world_of<W: World>(
+fn expect_world_of<W: WholeWorld>(
     moment: Moment,
     lists: &Plain,
     first: &W,
@@ -72,7 +68,7 @@ fn expect_world_of<W: World>(
 }
 
 /// Stops where these aren't the world's lists.
-fn expect_lists_of<W: World>(moment: Moment, lists: &Plain, world: &W) -> Result<(), Stop> {
+fn expect_lists_of<W: WholeWorld>(moment: Moment, lists: &Plain, world: &W) -> Result<(), Stop> {
     match world.lists() {
         Ok(others) => expect_same_lists(moment, lists, &others),
         Err(refusal) => Err(Stop::from(refusal)),
@@ -80,7 +76,7 @@ fn expect_lists_of<W: World>(moment: Moment, lists: &Plain, world: &W) -> Result
 }
 
 /// In what the two worlds differ of their ledgers and their events.
-fn difference_of_books<W: World>(first: &W, second: &W) -> Option<Part> {
+fn difference_of_books<W: WholeWorld>(first: &W, second: &W) -> Option<Part> {
     let mut books = Comparison::new();
     let (ledger, other) = (first.ledger(), second.ledger());
     books.expect(Part::Entries, ledger.entries() == other.entries());

@@ -1,10 +1,10 @@
 //! What the comparison finds in worlds that differ: one that found nothing would let every trial through.
 
-use crate::calls::World;
-use crate::scenes::{apply_all, commands_of};
+use crate::whole_world::WholeWorld;
 use crate::worlds::trials::SCENE;
 use crate::worlds::trials::stop::Stop;
 use crate::worlds::trials::worlds::TrialWorlds;
+use check_scenes::{apply_all, commands_of};
 use std::alloc::Global;
 use world_core::Command;
 
@@ -25,13 +25,13 @@ pub const ALL: [(&str, &str, &str); 8] = [
 ];
 
 /// Compares two worlds that differ so, and stops where something is found.
-pub fn compare<W: World>(alloc: Global, change: &str, other: &str) -> Result<(), Stop> {
+pub fn compare<W: WholeWorld>(alloc: Global, change: &str, other: &str) -> Result<(), Stop> {
     let changes = commands_of(alloc, change)?;
     let others = commands_of(alloc, other)?;
     compare_after::<W>(alloc, changes.as_slice(), others.as_slice())
 }
 
-fn compare_after<W: World>(
+fn compare_after<W: WholeWorld>(
     alloc: Global,
     changes: &[Command],
     others: &[Command],
@@ -40,7 +40,7 @@ fn compare_after<W: World>(
     compare_in(&mut worlds, changes, others)
 }
 
-fn compare_in<W: World>(
+fn compare_in<W: WholeWorld>(
     worlds: &mut TrialWorlds<W>,
     changes: &[Command],
     others: &[Command],

@@ -1,6 +1,6 @@
 //! Trials of the calls that take no memory.
 
-use crate::calls::World;
+use crate::whole_world::WholeWorld;
 use crate::worlds::trials::compare::expect;
 use crate::worlds::trials::stop::{Moment, Part, Stop};
 use crate::worlds::trials::trial::Outcome;
@@ -30,7 +30,7 @@ struct Sight {
 }
 
 /// What a ray hits first if a body is left out.
-fn hit_behind<W: World>(world: &W, handle: Handle, from: Vec2, along: Vec2) -> Option<Hit> {
+fn hit_behind<W: WholeWorld>(world: &W, handle: Handle, from: Vec2, along: Vec2) -> Option<Hit> {
     let filter = QueryFilter {
         without: Some(handle),
         mask: None,
@@ -39,7 +39,7 @@ fn hit_behind<W: World>(world: &W, handle: Handle, from: Vec2, along: Vec2) -> O
 }
 
 /// Looks at the body, the joint and the shape of a slot, and along the axis.
-fn look<W: World>(world: &W, slot: u32) -> Sight {
+fn look<W: WholeWorld>(world: &W, slot: u32) -> Sight {
     let handle = Handle {
         slot,
         generation: 1,
@@ -64,12 +64,12 @@ fn look<W: World>(world: &W, slot: u32) -> Sight {
 }
 
 /// Looks at the first two bodies.
-fn look_twice<W: World>(world: &W) -> (Sight, Sight) {
+fn look_twice<W: WholeWorld>(world: &W) -> (Sight, Sight) {
     (look(world, 0), look(world, 1))
 }
 
 /// Looks while memory may be refused, and stops where something else is seen than in the reference.
-pub fn try_look<W: World>(worlds: &mut TrialWorlds<W>) -> Result<Outcome, Stop> {
+pub fn try_look<W: WholeWorld>(worlds: &mut TrialWorlds<W>) -> Result<Outcome, Stop> {
     let expected = look_twice(&worlds.reference);
     worlds.begin();
     let seen = look_twice(&worlds.world);
@@ -80,7 +80,7 @@ pub fn try_look<W: World>(worlds: &mut TrialWorlds<W>) -> Result<Outcome, Stop> 
 }
 
 /// Settles the ledger while memory may be refused.
-pub fn try_settle<W: World>(worlds: &mut TrialWorlds<W>) -> Result<Outcome, Stop> {
+pub fn try_settle<W: WholeWorld>(worlds: &mut TrialWorlds<W>) -> Result<Outcome, Stop> {
     worlds.reference.settle();
     worlds.begin();
     worlds.world.settle();

@@ -1,6 +1,6 @@
 //! Trials of worlds that are saved and loaded, and of regions.
 
-use crate::calls::World;
+use crate::whole_world::WholeWorld;
 use crate::worlds::trials::compare::expect;
 use crate::worlds::trials::stop::{Moment, Part, Stop};
 use crate::worlds::trials::trial::{Outcome, again, met};
@@ -23,14 +23,14 @@ const ALL_OVER: Box2 = Box2 {
 };
 
 /// Saves the scene's world.
-pub fn save_twice<W: World>(worlds: &mut TrialWorlds<W>) -> Result<Outcome, Stop> {
+pub fn save_twice<W: WholeWorld>(worlds: &mut TrialWorlds<W>) -> Result<Outcome, Stop> {
     match worlds.reference.saved() {
         Ok(expected) => expect_saved_twice(worlds, &expected),
         Err(refusal) => Err(Stop::from(refusal)),
     }
 }
 
-fn expect_saved_twice<W: World>(
+fn expect_saved_twice<W: WholeWorld>(
     worlds: &mut TrialWorlds<W>,
     expected: &Value,
 ) -> Result<Outcome, Stop> {
@@ -41,7 +41,7 @@ fn expect_saved_twice<W: World>(
     again(is_saved(worlds, expected)?)
 }
 
-fn is_saved<W: World>(worlds: &mut TrialWorlds<W>, expected: &Value) -> Result<bool, Stop> {
+fn is_saved<W: WholeWorld>(worlds: &mut TrialWorlds<W>, expected: &Value) -> Result<bool, Stop> {
     worlds.begin();
     let saved = worlds.world.saved();
     worlds.end();
@@ -52,14 +52,17 @@ fn is_saved<W: World>(worlds: &mut TrialWorlds<W>, expected: &Value) -> Result<b
 }
 
 /// Loads the world that the scene's saved.
-pub fn load_twice<W: World>(alloc: Global, worlds: &mut TrialWorlds<W>) -> Result<Outcome, Stop> {
+pub fn load_twice<W: WholeWorld>(
+    alloc: Global,
+    worlds: &mut TrialWorlds<W>,
+) -> Result<Outcome, Stop> {
     match worlds.reference.saved() {
         Ok(value) => load_value_twice(alloc, worlds, &value),
         Err(refusal) => Err(Stop::from(refusal)),
     }
 }
 
-fn load_value_twice<W: World>(
+fn load_value_twice<W: WholeWorld>(
     alloc: Global,
     worlds: &mut TrialWorlds<W>,
     value: &Value,
@@ -72,7 +75,7 @@ fn load_value_twice<W: World>(
 }
 
 /// Whether the value is loaded. Stops where the loaded world is saved as another value.
-fn is_loaded<W: World>(
+fn is_loaded<W: WholeWorld>(
     alloc: Global,
     worlds: &mut TrialWorlds<W>,
     value: &Value,
@@ -86,7 +89,7 @@ fn is_loaded<W: World>(
     }
 }
 
-fn is_saved_as<W: World>(world: &W, value: &Value) -> Result<bool, Stop> {
+fn is_saved_as<W: WholeWorld>(world: &W, value: &Value) -> Result<bool, Stop> {
     match world.saved() {
         Ok(saved) => met(expect(Moment::Accepted, Part::Answer, saved == *value)),
         Err(refusal) => Err(Stop::from(refusal)),
@@ -94,7 +97,10 @@ fn is_saved_as<W: World>(world: &W, value: &Value) -> Result<bool, Stop> {
 }
 
 /// Asks for the shapes over all of the scene.
-pub fn ask_twice<W: World>(alloc: Global, worlds: &mut TrialWorlds<W>) -> Result<Outcome, Stop> {
+pub fn ask_twice<W: WholeWorld>(
+    alloc: Global,
+    worlds: &mut TrialWorlds<W>,
+) -> Result<Outcome, Stop> {
     let expected = worlds.reference.region(alloc, &ALL_OVER)?;
     if is_answered(alloc, worlds, &expected)? {
         return Ok(Outcome::Unmet);
@@ -103,7 +109,7 @@ pub fn ask_twice<W: World>(alloc: Global, worlds: &mut TrialWorlds<W>) -> Result
     again(is_answered(alloc, worlds, &expected)?)
 }
 
-fn is_answered<W: World>(
+fn is_answered<W: WholeWorld>(
     alloc: Global,
     worlds: &mut TrialWorlds<W>,
     expected: &[ShapeId],

@@ -1,7 +1,6 @@
 //! One call, tried in a world: what it does, and that a refused one changes nothing.
 
-use crate::calls::{Answer, World};
-use crate::scenes::commands_of;
+use crate::whole_world::WholeWorld;
 use crate::worlds::trials::compare::{
     are_same_censuses, are_same_frames, expect, expect_same_lists, expect_same_worlds,
 };
@@ -9,6 +8,7 @@ use crate::worlds::trials::looks::{try_look, try_settle};
 use crate::worlds::trials::saved::{ask_twice, load_twice, save_twice};
 use crate::worlds::trials::stop::{Moment, Part, Stop};
 use crate::worlds::trials::worlds::TrialWorlds;
+use check_scenes::{Answer, commands_of};
 use fixed_geom::Refusal;
 use solver_sets::Census;
 use std::alloc::Global;
@@ -35,12 +35,12 @@ impl fmt::Display for Outcome {
 
 /// Makes a call in the world of a text, and once more if memory was refused to it. The reference, the copy and whatever else needs memory
 /// come before the call. The call is one of these words, a line with a command, or lines with commands that are replayed.
-pub fn try_call<W: World>(alloc: Global, text: &str, call: &str) -> Result<Outcome, Stop> {
+pub fn try_call<W: WholeWorld>(alloc: Global, text: &str, call: &str) -> Result<Outcome, Stop> {
     let mut worlds: TrialWorlds<W> = TrialWorlds::of(alloc, text)?;
     try_in(alloc, &mut worlds, call)
 }
 
-fn try_in<W: World>(
+fn try_in<W: WholeWorld>(
     alloc: Global,
     worlds: &mut TrialWorlds<W>,
     call: &str,
@@ -59,7 +59,7 @@ fn try_in<W: World>(
     }
 }
 
-fn try_commands<W: World>(
+fn try_commands<W: WholeWorld>(
     alloc: Global,
     worlds: &mut TrialWorlds<W>,
     text: &str,
@@ -86,7 +86,10 @@ pub(crate) fn again(is_accepted: bool) -> Result<Outcome, Stop> {
 }
 
 /// Applies the command, which may also be refused for another reason: then it is refused so without memory.
-fn apply_twice<W: World>(worlds: &mut TrialWorlds<W>, command: &Command) -> Result<Outcome, Stop> {
+fn apply_twice<W: WholeWorld>(
+    worlds: &mut TrialWorlds<W>,
+    command: &Command,
+) -> Result<Outcome, Stop> {
     let expected = worlds.apply_to_reference(command);
     if is_applied(worlds, command, expected)? {
         return Ok(Outcome::Unmet);
@@ -96,7 +99,7 @@ fn apply_twice<W: World>(worlds: &mut TrialWorlds<W>, command: &Command) -> Resu
 }
 
 /// Applies the command, and stops where it is accepted and gives something else than in the reference.
-fn is_applied<W: World>(
+fn is_applied<W: WholeWorld>(
     worlds: &mut TrialWorlds<W>,
     command: &Command,
     expected: Answer,
@@ -110,14 +113,14 @@ fn is_applied<W: World>(
     Ok(true)
 }
 
-fn list_twice<W: World>(worlds: &mut TrialWorlds<W>) -> Result<Outcome, Stop> {
+fn list_twice<W: WholeWorld>(worlds: &mut TrialWorlds<W>) -> Result<Outcome, Stop> {
     match worlds.reference.lists() {
         Ok(expected) => expect_lists_twice(worlds, &expected),
         Err(refusal) => Err(Stop::from(refusal)),
     }
 }
 
-fn expect_lists_twice<W: World>(
+fn expect_lists_twice<W: WholeWorld>(
     worlds: &mut TrialWorlds<W>,
     expected: &Plain,
 ) -> Result<Outcome, Stop> {
@@ -128,7 +131,7 @@ fn expect_lists_twice<W: World>(
     again(is_listed(worlds, expected)?)
 }
 
-fn is_listed<W: World>(worlds: &mut TrialWorlds<W>, expected: &Plain) -> Result<bool, Stop> {
+fn is_listed<W: WholeWorld>(worlds: &mut TrialWorlds<W>, expected: &Plain) -> Result<bool, Stop> {
     worlds.begin();
     let listed = worlds.world.lists();
     worlds.end();
@@ -138,14 +141,14 @@ fn is_listed<W: World>(worlds: &mut TrialWorlds<W>, expected: &Plain) -> Result<
     }
 }
 
-fn count_twice<W: World>(worlds: &mut TrialWorlds<W>) -> Result<Outcome, Stop> {
+fn count_twice<W: WholeWorld>(worlds: &mut TrialWorlds<W>) -> Result<Outcome, Stop> {
     match worlds.reference.census() {
         Ok(expected) => expect_census_twice(worlds, &expected),
         Err(refusal) => Err(Stop::from(refusal)),
     }
 }
 
-fn expect_census_twice<W: World>(
+fn expect_census_twice<W: WholeWorld>(
     worlds: &mut TrialWorlds<W>,
     expected: &Census,
 ) -> Result<Outcome, Stop> {
@@ -156,7 +159,7 @@ fn expect_census_twice<W: World>(
     again(is_counted(worlds, expected)?)
 }
 
-fn is_counted<W: World>(worlds: &mut TrialWorlds<W>, expected: &Census) -> Result<bool, Stop> {
+fn is_counted<W: WholeWorld>(worlds: &mut TrialWorlds<W>, expected: &Census) -> Result<bool, Stop> {
     worlds.begin();
     let counted = worlds.world.census();
     worlds.end();
@@ -169,7 +172,7 @@ fn is_counted<W: World>(worlds: &mut TrialWorlds<W>, expected: &Census) -> Resul
     }
 }
 
-fn copy_twice<W: World>(worlds: &mut TrialWorlds<W>) -> Result<Outcome, Stop> {
+fn copy_twice<W: WholeWorld>(worlds: &mut TrialWorlds<W>) -> Result<Outcome, Stop> {
     if is_copied(worlds)? {
         return Ok(Outcome::Unmet);
     }
@@ -177,7 +180,7 @@ fn copy_twice<W: World>(worlds: &mut TrialWorlds<W>) -> Result<Outcome, Stop> {
     again(is_copied(worlds)?)
 }
 
-fn is_copied<W: World>(worlds: &mut TrialWorlds<W>) -> Result<bool, Stop> {
+fn is_copied<W: WholeWorld>(worlds: &mut TrialWorlds<W>) -> Result<bool, Stop> {
     worlds.begin();
     let copied = worlds.world.copied();
     worlds.end();
@@ -187,14 +190,14 @@ fn is_copied<W: World>(worlds: &mut TrialWorlds<W>) -> Result<bool, Stop> {
     }
 }
 
-fn show_twice<W: World>(worlds: &mut TrialWorlds<W>) -> Result<Outcome, Stop> {
+fn show_twice<W: WholeWorld>(worlds: &mut TrialWorlds<W>) -> Result<Outcome, Stop> {
     match worlds.reference.frame() {
         Ok(expected) => expect_frame_twice(worlds, &expected),
         Err(refusal) => Err(Stop::from(refusal)),
     }
 }
 
-fn expect_frame_twice<W: World>(
+fn expect_frame_twice<W: WholeWorld>(
     worlds: &mut TrialWorlds<W>,
     expected: &Frame,
 ) -> Result<Outcome, Stop> {
@@ -205,7 +208,7 @@ fn expect_frame_twice<W: World>(
     again(is_shown(worlds, expected)?)
 }
 
-fn is_shown<W: World>(worlds: &mut TrialWorlds<W>, expected: &Frame) -> Result<bool, Stop> {
+fn is_shown<W: WholeWorld>(worlds: &mut TrialWorlds<W>, expected: &Frame) -> Result<bool, Stop> {
     worlds.begin();
     let shown = worlds.world.frame();
     worlds.end();
@@ -218,7 +221,7 @@ fn is_shown<W: World>(worlds: &mut TrialWorlds<W>, expected: &Frame) -> Result<b
     }
 }
 
-fn replay_all<W: World>(
+fn replay_all<W: WholeWorld>(
     alloc: Global,
     worlds: &mut TrialWorlds<W>,
     commands: &[Command],
@@ -229,7 +232,7 @@ fn replay_all<W: World>(
 
 /// A replay that was refused has made the commands before the one that met the refusal. The replay of
 /// the others does the rest.
-fn replay_twice<W: World>(
+fn replay_twice<W: WholeWorld>(
     alloc: Global,
     worlds: &mut TrialWorlds<W>,
     commands: &[Command],
@@ -244,7 +247,7 @@ fn replay_twice<W: World>(
 
 /// Stops where the commands before the refusal, so many, have left something else than in a world that met none; then the
 /// replay of the others.
-fn replay_rest<W: World>(
+fn replay_rest<W: WholeWorld>(
     alloc: Global,
     worlds: &mut TrialWorlds<W>,
     commands: &[Command],
@@ -263,7 +266,7 @@ fn replay_rest<W: World>(
     again(is_replayed(alloc, worlds, rest, answers)?)
 }
 
-fn is_replayed<W: World>(
+fn is_replayed<W: WholeWorld>(
     alloc: Global,
     worlds: &mut TrialWorlds<W>,
     commands: &[Command],
@@ -279,7 +282,7 @@ fn is_replayed<W: World>(
 }
 
 /// Stops where the answers aren't the expected ones, or the world isn't as the reference.
-fn expect_answers<W: World>(worlds: &TrialWorlds<W>, are_same: bool) -> Result<bool, Stop> {
+fn expect_answers<W: WholeWorld>(worlds: &TrialWorlds<W>, are_same: bool) -> Result<bool, Stop> {
     expect(Moment::Accepted, Part::Answer, are_same)?;
     worlds.expect_as_reference()?;
     Ok(true)

@@ -1,17 +1,16 @@
 //! The three equal worlds of a trial: the one that is called, its copy, and the reference.
 
-use crate::call_mark::CallMark;
-use crate::calls::{Answer, World, calls_of};
-use crate::scenes::{commands_of, world_after};
+use crate::whole_world::{WholeWorld, calls_of};
 use crate::worlds::trials::compare::expect_same_worlds;
 use crate::worlds::trials::stop::{Moment, Stop};
+use check_scenes::{Answer, CallMark, commands_of, world_after};
 use fixed_geom::Refusal;
 use std::alloc::Global;
 use world_core::Command;
 
 /// Three equal worlds.
 #[derive(Drop)]
-pub struct TrialWorlds<W: World> {
+pub struct TrialWorlds<W: WholeWorld> {
     alloc: Global,
     /// The one in which the call is made that may meet a refusal.
     pub world: W,
@@ -23,7 +22,7 @@ pub struct TrialWorlds<W: World> {
     mark: Option<CallMark>,
 }
 
-impl<W: World> TrialWorlds<W> {
+impl<W: WholeWorld> TrialWorlds<W> {
     /// The world of a text, three times.
     pub fn of(alloc: Global, text: &str) -> Result<TrialWorlds<W>, Refusal> {
         match commands_of(alloc, text) {

@@ -1,0 +1,4 @@
+use Rattle.check_shared.proofs.shared.seats.start_all.Given as goal
+
+abbrev pub invariant-loop-seat : goal.invariant-loop-seat
+invariant-loop-seat g l = Unit {0}

@@ -1,0 +1,327 @@
+//! What is done with a publisher and its readers.
+
+ghost use Rattle.std.specs.Prelude.{◌≡◌};
+
+use crate::calls::{Called, Reads, Shared, Shows, Told, give_back};
+use crate::mirrors::crowd::{Letters, race};
+use crate::mirrors::example::{publish_first, publish_second, read_on};
+use crate::mirrors::refused::{Call, try_call};
+use crate::mirrors::timing::{time_frames, time_poses, time_readers};
+use crate::shared::{Round, RoundWork, race as race_round};
+use check_scenes::World;
+use frame_mirror::{Absorb, Change, Mark, Mirrored, Publisher, Reader, Showing};
+use seat_book::Roster;
+use std::alloc::Global;
+use std::fmt::Write;
+use std::marker::Brand;
+use std::sync::{Mutex, Wait};
+use std::thread::Threads;
+use std::time::Clock;
+use world_core::{Command, Refusal, Reply, WorldCore};
+use world_lock::{Opened, Seat, SharedWorld};
+
+/// How many readers look on threads of their own.
+const CROWD: usize = 4;
+
+/// What is done with a mirror.
+#[derive(Clone, Copy)]
+pub enum MirrorWork {
+    /// The worked example, with two readers.
+    Example,
+    /// Readers on threads of their own.
+    Crowd,
+    /// One call, while memory may be refused to it.
+    Try(Call),
+    /// So many poses, and as many thousandths of publications, are timed.
+    Time(u64),
+    /// So many poses of each of these readers are timed, while frames are published.
+    TimeReaders(usize, u64),
+    /// The other seats work meanwhile, each on a thread of its own.
+    Round(RoundWork),
+}
+
+impl MirrorWork {
+    /// How many readers it has.
+    pub fn readers(self) -> usize {
+        match self {
+            MirrorWork::Example => 2,
+            MirrorWork::Crowd => CROWD,
+            MirrorWork::Try(_) => 1,
+            MirrorWork::Time(_) => 1,
+            MirrorWork::TimeReaders(readers, _) => readers,
+            MirrorWork::Round(work) => work.readers(),
+        }
+    }
+
+    /// Whether memory may be refused to the opening of the mirror.
+    pub fn tries_open(self) -> bool {
+        match self {
+            MirrorWork::Try(call) => call == Call::Open,
+            _ => false,
+        }
+    }
+}
+
+/// Tries to publish a second world, and drops it.
+fn publish_and_drop<
+    T: Drop,
+    S: Called<T> + Shared<T>,
+    K: Told,
+    P: Shows<S, T, K>,
+    D: Reads<K>,
+    R: Wait,
+>(
+    rt: &R,
+    told: &mut String,
+    shared: S,
+    mut seats: Vec<T>,
+    publisher: &mut P,
+    reader: &mut D,
+) -> Result<(), Refusal> {
+    match seats.first_mut() {
+        Some(seat) => publish_second(rt, told, &shared, seat, publisher, reader),
+        None => Err(Refusal::WrongSeats),
+    }
+}
+
+/// Opens a second world, and tries to publish it.
+fn share_second<M: Opened, J: Mirrored, R: Wait>(
+    rt: &R,
+    told: &mut String,
+    alloc: Global,
+    world: WorldCore,
+    roster: Roster<Command, Reply>,
+    publisher: &mut Publisher<J>,
+    reader: &mut Reader<J>,
+) -> Result<(), Refusal>
+where
+    Showing<Mark<J>>: Absorb<Change<Mark<J>>, State = ()>,
+    requires { (roster.table ≡ M.table) × (roster.seats ≡ M.seats) × (world ≡ M.opening) }
+{
+    match SharedWorld::<M>::open(alloc, world, roster) {
+        Ok((shared, seats)) => publish_and_drop(rt, told, shared, seats, publisher, reader),
+        Err((world, refusal)) => {
+            drop(world);
+            Err(refusal)
+        }
+    }
+}
+
+fn try_second<J: Mirrored, R: Wait>(
+    rt: &R,
+    told: &mut String,
+    alloc: Global,
+    reference: &WorldCore,
+    publisher: &mut Publisher<J>,
+    reader: &mut Reader<J>,
+) -> Result<(), Refusal>
+where
+    Showing<Mark<J>>: Absorb<Change<Mark<J>>, State = ()>,
+{
+    let roster = Roster::new(alloc, 1)?;
+    let world: WorldCore = World::copied(reference)?;
+    share_second::<Brand, J, R>(rt, told, alloc, world, roster, publisher, reader)
+}
+
+/// The worked example.
+fn show_example<N: Opened, J: Mirrored, R: Wait>(
+    rt: &R,
+    alloc: Global,
+    shared: &SharedWorld<N>,
+    seat: &mut Seat<N>,
+    publisher: &mut Publisher<J>,
+    mut readers: Vec<Reader<J>>,
+    reference: &WorldCore,
+) -> Result<String, Refusal>
+where
+    Showing<Mark<J>>: Absorb<Change<Mark<J>>, State = ()>,
+{
+    let mut told = String::new(alloc);
+    let (Some(mut untold), Some(mut reader)) = (readers.pop(), readers.pop()) else {
+        return Err(Refusal::OutOfRange);
+    };
+    publish_first(rt, &mut told, shared, seat, publisher, &mut reader)?;
+    try_second(rt, &mut told, alloc, reference, publisher, &mut reader)?;
+    read_on(&mut told, alloc, &mut reader, &mut untold)?;
+    Ok(told)
+}
+
+/// A box of letters for each reader.
+fn boxes_for<K: Drop>(alloc: Global, readers: usize) -> Result<Vec<Mutex<Letters<K>>>, Refusal> {
+    let mut boxes = Vec::new(alloc);
+    for _ in 0..readers {
+        boxes.push(Mutex::new(Letters::new(alloc)))?;
+    }
+    Ok(boxes)
+}
+
+/// What came of the readers on threads of their own.
+fn told_by_crowd<K: Drop>(alloc: Global, boxes: Vec<Mutex<Letters<K>>>) -> Result<String, Refusal> {
+    let mut told = String::new(alloc);
+    for letters in boxes {
+        let letters = letters.into_inner();
+        let (learnt, went_back) = (letters.learnt, letters.went_back);
+        writeln!(
+            told,
+            "on a thread: {learnt} marks learnt, went back: {went_back}"
+        )?;
+    }
+    Ok(told)
+}
+
+/// Readers on threads of their own.
+fn show_crowd<N: Opened, J: Mirrored + Send + Sync, R: Threads + Wait + Sync>(
+    rt: &R,
+    alloc: Global,
+    shared: &SharedWorld<N>,
+    seat: &mut Seat<N>,
+    publisher: &mut Publisher<J>,
+    readers: Vec<Reader<J>>,
+) -> Result<String, Refusal>
+where
+    Showing<Mark<J>>: Absorb<Change<Mark<J>>, State = ()>,
+{
+    let boxes = boxes_for(alloc, readers.len())?;
+    race(rt, shared, seat, publisher, readers, boxes.as_slice())?;
+    told_by_crowd(alloc, boxes)
+}
+
+/// One call, while memory may be refused to it.
+fn show_trial<N: Opened, J: Mirrored, R: Wait>(
+    rt: &R,
+    alloc: Global,
+    call: Call,
+    shared: &SharedWorld<N>,
+    seat: &mut Seat<N>,
+    publisher: &mut Publisher<J>,
+    mut readers: Vec<Reader<J>>,
+) -> Result<String, Refusal>
+where
+    Showing<Mark<J>>: Absorb<Change<Mark<J>>, State = ()>,
+{
+    match readers.first_mut() {
+        Some(reader) => {
+            let word = try_call(rt, alloc, call, shared, seat, publisher, reader)?;
+            Ok(format!(in alloc; "{word}\n")?)
+        }
+        None => Err(Refusal::OutOfRange),
+    }
+}
+
+/// How long poses and publications take.
+fn show_times<N: Opened, J: Mirrored, R: Wait + Clock>(
+    rt: &R,
+    alloc: Global,
+    shared: &SharedWorld<N>,
+    seat: &mut Seat<N>,
+    publisher: &mut Publisher<J>,
+    mut readers: Vec<Reader<J>>,
+    times: u64,
+) -> Result<String, Refusal>
+where
+    Showing<Mark<J>>: Absorb<Change<Mark<J>>, State = ()>,
+{
+    let mut told = String::new(alloc);
+    match readers.first_mut() {
+        Some(reader) => time_poses(rt, &mut told, reader, times)?,
+        None => return Err(Refusal::OutOfRange),
+    }
+    time_frames(rt, &mut told, shared, seat, publisher, times / 1_000)?;
+    Ok(told)
+}
+
+/// How long poses of readers take, each of which is on a thread of its own.
+fn show_readers<N: Opened, J: Mirrored + Send + Sync, R: Threads + Wait + Clock + Sync>(
+    rt: &R,
+    alloc: Global,
+    shared: &SharedWorld<N>,
+    seat: &mut Seat<N>,
+    publisher: &mut Publisher<J>,
+    readers: Vec<Reader<J>>,
+    times: u64,
+) -> Result<String, Refusal>
+where
+    Showing<Mark<J>>: Absorb<Change<Mark<J>>, State = ()>,
+{
+    let mut told = String::new(alloc);
+    time_readers(rt, &mut told, shared, seat, publisher, readers, times)?;
+    Ok(told)
+}
+
+/// Nothing is told of what went well.
+fn told_nothing(alloc: Global, done: Result<(), Refusal>) -> Result<String, Refusal> {
+    match done {
+        Ok(()) => Ok(String::new(alloc)),
+        Err(refusal) => Err(refusal),
+    }
+}
+
+/// Gives back seats that do nothing.
+fn give_all_back<T: Drop, R: Wait>(rt: &R, seats: Vec<T>, back: &Mutex<Vec<T>>) {
+    for seat in seats {
+        give_back(rt, seat, back);
+    }
+}
+
+/// Does the work that needs no other seat.
+fn do_alone<N: Opened, J: Mirrored + Send + Sync, R: Threads + Wait + Clock + Sync>(
+    rt: &R,
+    alloc: Global,
+    work: MirrorWork,
+    shared: &SharedWorld<N>,
+    seat: &mut Seat<N>,
+    publisher: &mut Publisher<J>,
+    readers: Vec<Reader<J>>,
+    reference: &WorldCore,
+) -> Result<String, Refusal>
+where
+    Showing<Mark<J>>: Absorb<Change<Mark<J>>, State = ()>,
+{
+    match work {
+        MirrorWork::Example => show_example(rt, alloc, shared, seat, publisher, readers, reference),
+        MirrorWork::Crowd => show_crowd(rt, alloc, shared, seat, publisher, readers),
+        MirrorWork::Try(Call::Open) => Ok(String::new(alloc)),
+        MirrorWork::Try(call) => show_trial(rt, alloc, call, shared, seat, publisher, readers),
+        MirrorWork::Time(times) => show_times(rt, alloc, shared, seat, publisher, readers, times),
+        MirrorWork::TimeReaders(_, times) => {
+            show_readers(rt, alloc, shared, seat, publisher, readers, times)
+        }
+        MirrorWork::Round(_) => Ok(String::new(alloc)),
+    }
+}
+
+/// Does the work with the publisher and the readers of a mirror. The other seats of the world go to those that are given back. Answers what there is to
+/// tell.
+pub fn do_work<
+    N: Opened + Send + Sync,
+    J: Mirrored + Send + Sync,
+    R: Threads + Wait + Clock + Sync,
+>(
+    rt: &R,
+    alloc: Global,
+    work: MirrorWork,
+    shared: &SharedWorld<N>,
+    seats: Vec<Seat<N>>,
+    back: &Mutex<Vec<Seat<N>>>,
+    seat: &mut Seat<N>,
+    publisher: &mut Publisher<J>,
+    readers: Vec<Reader<J>>,
+    round: &Round,
+    reference: &WorldCore,
+) -> Result<String, Refusal>
+where
+    Showing<Mark<J>>: Absorb<Change<Mark<J>>, State = ()>,
+{
+    match work {
+        MirrorWork::Round(work) => told_nothing(
+            alloc,
+            race_round(
+                rt, alloc, work, shared, seats, back, seat, publisher, readers, round,
+            ),
+        ),
+        work => {
+            give_all_back(rt, seats, back);
+            do_alone(rt, alloc, work, shared, seat, publisher, readers, reference)
+        }
+    }
+}

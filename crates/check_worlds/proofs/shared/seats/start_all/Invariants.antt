@@ -1,4 +1,0 @@
-use Rattle.check_worlds.proofs.shared.seats.start_all.Given as goal
-
-abbrev pub invariant-loop-seat : goal.invariant-loop-seat
-invariant-loop-seat g l = Unit {0}

@@ -1,4 +1,0 @@
-use Rattle.check_worlds.proofs.shared.seats.start_seats.Goals as goal
-
-pub start_all-requires-sync-S : goal.start_all-requires-sync-S
-start_all-requires-sync-S g c = λ κs fits. record { shared = c.may_be_shared.ensures.shared }
