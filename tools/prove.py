@@ -4,8 +4,9 @@
     tools/prove.py [CHECKOUT] [--tests] [--edits] [--from OTHER] [CRATE..]
 
 It proves these crates and all below them, or with no name every crate, side by side. `--tests` proves their tests too,
-and `--edits` tries the edits of `must-fail/`. `--from` first takes what another checkout has proved of the same text.
-The checkout is that of this script where none is named.
+and `--edits` tries the edits of `must-fail/` by `rt must-fail`. `--from` first takes what another checkout has proved of
+the same text. Where the kit's `rt ci` keeps what it has proved on the machine, that is taken too. The checkout is that of
+this script where none is named.
 
 A proof stands as long as the crate's own files and the libraries below are the same, byte for byte. A change of proofs
 alone leaves a library as it was, so the crates above aren't proved again. The libraries lie in `crates/*/out`, where
@@ -20,6 +21,7 @@ import importlib.machinery
 import importlib.util
 import os
 import shutil
+import subprocess
 import sys
 import threading
 import time
@@ -71,6 +73,8 @@ class Chain:
         self.crates = [crate for crate in self.crates if crate.name in asked]
         self.sums, self.failed, self.begun = {}, [], time.monotonic()
         self.printing = threading.Lock()
+        # (what `rt ci` keeps beside the kit; older kits keep nothing)
+        self.store = rt.Kept(self.crates) if hasattr(rt, "Kept") else None
 
     def tell(self, text):
         with self.printing:
@@ -119,6 +123,18 @@ class Chain:
         shutil.copyfile(there / file.name, file)
         return True
 
+    def is_taken(self, crate, note, key):
+        """Whether `rt ci` has proved the same on this machine. What it made is laid into `out/`, and noted as proved."""
+        if not self.store:
+            return False
+        if note == "proof" and crate.makes_rlib():
+            # (what stands there would make the kit drop what it keeps)
+            shutil.rmtree(Path(crate.rlib).parent, ignore_errors=True)
+        if not self.store.give(crate, note == "tests", self.store.key(crate)):
+            return False
+        Path(crate.folder, "out", f"kept_{note}").write_text(key)
+        return True
+
     def prove(self, crate, note, given, jobs):
         """Proves the crate, or its tests, unless that is done."""
         lacking = [below.name for below in crate.below() if not given[below.name, "proof"]]
@@ -126,7 +142,7 @@ class Chain:
             self.tell(f"{crate.name}: {note} not tried, since {lacking[0]} isn't proved")
             return self.end(crate, note, False)
         key = self.key_of(crate)
-        if not self.is_kept(crate, note, key):
+        if not self.is_kept(crate, note, key) and not self.is_taken(crate, note, key):
             log, begun = Path(crate.folder, "out", f"{note}.log"), time.monotonic()
             log.parent.mkdir(exist_ok=True)
             tried = copy.copy(crate)
@@ -141,6 +157,8 @@ class Chain:
             log.with_name(f"kept_{note}").write_text(key)
         if note == "proof":
             self.stamp(crate)
+            if self.store:
+                self.store.is_built(crate)
         return self.end(crate, note, True)
 
     def try_edits(self, crate, given):
@@ -152,11 +170,10 @@ class Chain:
         if self.is_kept(crate, "edits", key):
             return True
         begun = time.monotonic()
-        tried = self.rt.must_fail_all(crate, edits, ["--jobs", "1"])
-        for refused, text in tried:
-            self.tell(f"{'' if refused else 'FAILED: '}{text}")
-        self.tell(f"{crate.name}: {len(edits)} edits, {(time.monotonic() - begun) / 60:.1f} min")
-        if all(refused for refused, _ in tried):
+        tried = subprocess.run(["rt", "must-fail", crate.name], stdout=subprocess.PIPE, stderr=subprocess.STDOUT, text=True, errors="replace")
+        Path(crate.folder, "out", "edits.log").write_text(tried.stdout)
+        self.tell(f"{crate.name}: {len(edits)} edits {'NOT ' if tried.returncode else ''}refused, {(time.monotonic() - begun) / 60:.1f} min")
+        if tried.returncode == 0:
             Path(crate.folder, "out", "kept_edits").write_text(key)
             return True
         return self.end(crate, "edits", False)
