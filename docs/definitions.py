@@ -5,8 +5,9 @@
     docs/definitions.py --check     fails where a page isn't what the script makes of the sources as they are
 
 A contract is worth what the definitions that it cites say. A page has those that some contracts rest on: what their
-clauses name, what these definitions name, and so on. In each part a definition stands before those that it uses. The
-types and constants that definitions take from the code, and the names that they take from the kit's library, come last.
+clauses name, what these definitions name, and so on. A part begins with what its contracts name. In it a definition
+stands before those that it uses. The types and constants that definitions take from the code, and the names that they
+take from the kit's library, come last.
 
 The definitions of a page are counted in two ways, and the script fails where these disagree:
 
@@ -68,6 +69,26 @@ PAGES = [
     ),
 ]
 
+# How a reader who knows no proof language reads a page.
+NOTATION = [
+    ("`abbrev pub f : A → B → C`, `unfoldable pub f : ..`", "the type of f: it takes an A and a B, and is a C; both words mean a definition"),
+    ("`f x y = ..`", "what f is at x and y; where there are several such lines, each is a case"),
+    ("`f x y`, `f (g x)`", "f of x and y; f of what g is at x"),
+    ("`record { a = ..; b = ..; }`", "a value with these fields; `record w { a = ..; }` is w with another a"),
+    ("`cond b x y`", "x if b is true, else y"),
+    ("`[]`, `x ∷ xs`, `xs ++ ys`", "the empty list; x before the list xs; one list and then another"),
+    ("`None`, `Some x`; `Ok x`, `Err e`", "as in Rust"),
+    ("`λ x. ..`", "the function that takes x, as a closure"),
+    ("`ℕ`, `ℤ`, `pos n`", "the whole numbers from 0; all whole numbers; n as one of these"),
+    ("`slice_get xs n`, `slice_set xs n x`", "the item at n, or none; the list with x at n"),
+    ("`option_map f o`, `replicate n x`", "f of what is there, or none; n times x"),
+    ("`.. → Type 0`", "a statement, which holds or doesn't, or a type; its name has a capital letter"),
+    ("`pub record N .. where`", "a type with these fields; of a statement the fields are what has to hold together"),
+    ("`a ≡ b`, `a × b`, `a ↔ b`, `⊥`", "a equals b; both; one just if the other; what never holds"),
+    ("`(x : A) → ..`, `(x : A) × ..`", "for each x; there is an x"),
+    ("`self.old`, `self.new`, `x.now`, `result`", "in a clause: the value before the call and after it, the argument x, the answer"),
+]
+
 
 class Reading:
     """What the parts of a page rest on, part by part."""
@@ -85,7 +106,7 @@ class Reading:
             self.met += found
             self.starts += starts
             definitions = [each for each in found if isinstance(each, Definition)]
-            self.parts.append((part, contracts, reach.reading_order(definitions)))
+            self.parts.append((part, contracts, reach.reading_order(definitions, starts)))
         self.kit = reach.kit - before
         items = [each for each in self.met[len(known) :] if not isinstance(each, Definition)]
         self.items = sorted(items, key=lambda item: (reach.crates.index(item.file.split("/")[0]), item.file, item.line))
@@ -186,6 +207,18 @@ def kit_lines(kit):
     return lines + [""]
 
 
+def notation_lines():
+    """How to read the definitions."""
+    about = (
+        "A part begins with its contracts, and then has what their clauses name. To find a definition search for its name "
+        "at the head of a line, as `apply_step w n =`. A line that begins with `--` is a comment. A definition is written "
+        "in the language of the kit's proofs, of which a reader needs no more than this:"
+    )
+    lines = ["## How to read this page", "", *textwrap.wrap(about, 120, break_on_hyphens=False), ""]
+    lines += ["| Written | Read |", "|---|---|"] + [f"| {written} | {read} |" for written, read in NOTATION]
+    return lines + [""]
+
+
 def page_lines(page, reading):
     """The text of a page."""
     definitions, reach = reading.definitions(), reading.reach
@@ -202,7 +235,9 @@ def page_lines(page, reading):
     taken = [many(types, "type"), many(constants, "constant"), many(reading.kit, "name")]
     beside = ", beside those of [DEFINITIONS.md](DEFINITIONS.md)" if page.without else ""
     summed = f"They take {taken[0]} and {taken[1]} from the code, and {taken[2]} from the kit's library{beside}."
-    lines += textwrap.wrap(summed, 120, break_on_hyphens=False) + [""]
+    if page.without:
+        summed += " [How to read](DEFINITIONS.md#how-to-read-this-page) them stands there."
+    lines += textwrap.wrap(summed, 120, break_on_hyphens=False) + [""] + ([] if page.without else notation_lines())
     for number, (part, contracts, own) in enumerate(reading.parts, start=1):
         lines += [f"## {number}. {part.title}", "", *contract_lines(reach, part, contracts), *definition_lines(reach, own)]
     if types:

@@ -147,9 +147,10 @@ class Reach:
                 waiting += self.uses_of(node)
         return found
 
-    def reading_order(self, nodes):
-        """Each before those that it uses: one file as long as it can be read on, then one of the highest crate."""
+    def reading_order(self, nodes, starts=()):
+        """Each before those that it uses, the starts first: one file as long as it can be read on, then one of the highest crate."""
         left = {(node.file, node.name): node for node in nodes}
+        first = {(node.file, node.name): place for place, node in enumerate(starts)}
         used_by = {key: 0 for key in left}
         uses = {key: [(each.file, each.name) for each in self.uses_of(node)] for key, node in left.items()}
         for key, named in uses.items():
@@ -161,7 +162,7 @@ class Reach:
             ready = [node for key, node in left.items() if used_by[key] == 0]
             if not ready:
                 raise SystemExit(f"definitions that use one another: {', '.join(node.name for node in left.values())}")
-            last = min(ready, key=lambda node: self.place_after(last, node))
+            last = min(ready, key=lambda node: (first.get((node.file, node.name), len(first)), *self.place_after(last, node)))
             del left[last.file, last.name]
             order.append(last)
             for each in uses[last.file, last.name]:

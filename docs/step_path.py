@@ -26,9 +26,9 @@ REFUSABLE = (
     ("room", "for rows, colours,", "islands and entries"),
 )
 COMMIT = (
-    ("contacts", "become what the collide", "made of them"),
-    ("islands", "woken, merged and made", "loose, in order of keys"),
-    ("colours", "taken and given up;", "rows gathered by colour"),
+    ("contacts", "become what the", "collide made of them"),
+    ("islands", "woken, merged, made", "loose in order of keys"),
+    ("colours", "taken and given up;", "rows are gathered"),
 )
 TICKS = (
     ("gravity", "and the speed limit"),

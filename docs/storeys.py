@@ -13,7 +13,7 @@ from pathlib import Path
 
 TOP = Path(__file__).resolve().parent.parent
 PICTURES = TOP / "docs" / "pictures"
-WIDTH, LEFT, GAP = 960, 206, 8
+WIDTH, LEFT, GAP = 960, 218, 8
 BOX, LETTER, PADDING = 26, 7.3, 18
 LIGHT = {
     "ground": "#ffffff", "bands": ("#f3f6fa", "#e9eef5"), "name": "#44546a", "box": "#ffffff", "edge": "#9db2cc", "text": "#1f2a38",
@@ -36,8 +36,9 @@ def read_storeys(lines):
                 storeys.append((comment.split(":")[0], []))
                 comment = None
             crate, _, below = line.partition(":")
-            storeys[-1][1].append(crate.strip())
-            stands_on[crate.strip()] = below.split()
+            name = crate.split()[0]
+            storeys[-1][1].append(name)
+            stands_on[name] = below.split()
     return storeys, stands_on
 
 
@@ -106,23 +107,30 @@ def draw_box(crate, box, colours):
     )
 
 
-def draw_arrow(source, target, colours):
-    """From the top of the crate that stands on another down to up: the other is above it."""
+def draw_line(source, target, colours):
+    """From the top of the crate that stands on another up to that one, which is above it."""
     x, y = source[0] + source[2] / 2, source[1]
-    to_x, to_y = target[0] + target[2] / 2, target[1] + BOX
-    return (
-        f'<path d="M{x:g} {y} L{to_x:g} {to_y + 2}" fill="none" stroke="{colours["arrow"]}" stroke-width="1.6" '
-        f'stroke-dasharray="5 3" marker-end="url(#tip)"/>'
-    )
+    to_x, to_y = target[0] + target[2] / 2, target[1] + BOX + 2
+    return f'<path d="M{x:g} {y} L{to_x:g} {to_y}" fill="none" stroke="{colours["arrow"]}" stroke-width="1.6" stroke-dasharray="5 3"/>'
+
+
+def draw_tip(source, target, colours):
+    """The end of that line."""
+    x, y = source[0] + source[2] / 2, source[1]
+    to_x, to_y = target[0] + target[2] / 2, target[1] + BOX + 2
+    from_x = to_x + (x - to_x) / (y - to_y)
+    return f'<path d="M{from_x:g} {to_y + 1} L{to_x:g} {to_y}" stroke="{colours["arrow"]}" stroke-width="1.6" marker-end="url(#tip)"/>'
 
 
 def picture(storeys, stands_on, colours):
     bands, boxes, height = lay_out(storeys)
     parts = [draw_band(band, number, colours) for number, band in enumerate(bands)]
+    arrows = [(boxes[crate], boxes[below]) for crate, below in upward_edges(storeys, stands_on)]
+    parts += [draw_line(*arrow, colours) for arrow in arrows]
     parts += [draw_box(crate, box, colours) for crate, box in boxes.items()]
-    parts += [draw_arrow(boxes[crate], boxes[below], colours) for crate, below in upward_edges(storeys, stands_on)]
+    parts += [draw_tip(*arrow, colours) for arrow in arrows]
     tip = (
-        f'<defs><marker id="tip" viewBox="0 0 8 8" refX="7" refY="4" markerWidth="7" markerHeight="7" orient="auto">'
+        f'<defs><marker id="tip" viewBox="0 0 8 8" refX="7" refY="4" markerWidth="5" markerHeight="5" orient="auto">'
         f'<path d="M0 0 L8 4 L0 8 z" fill="{colours["arrow"]}"/></marker></defs>'
     )
     legend = "A crate stands on crates of its own storey and of lower ones. A dashed arrow points to one of a higher storey."
