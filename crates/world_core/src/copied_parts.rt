@@ -8,7 +8,6 @@ use contacts::{Constraint, ContactTable};
 use event_feed::Events;
 use fixed_geom::Refusal;
 use impulse_ledger::Ledger;
-use packed_sets::SolverSets;
 use sleep_wake::Sets;
 use std::alloc::Global;
 use world_core_base::{BodyTable, JointTable};
@@ -20,12 +19,11 @@ pub(crate) struct CopiedBodies {
     pub table: BodyTable,
 }
 
-/// The joints, their sets and their handles.
+/// The joints and their handles.
 #[derive(Drop)]
 pub(crate) struct CopiedJoints {
     pub handles: Handles,
     pub table: JointTable,
-    pub sets: SolverSets,
 }
 
 /// The contacts, and the sets of the constraints.
@@ -58,21 +56,18 @@ pub(crate) fn copy_body_parts(
     })
 }
 
-/// A copy of the joints, their sets and their handles. Refused 1 where memory is wanting.
+/// A copy of the joints and their handles. Refused 1 where memory is wanting.
 pub(crate) fn copy_joint_parts(
     handles: &Handles,
     joints: &JointTable,
-    sets: &SolverSets,
 ) -> Result<CopiedJoints, Refusal>
     ensures slot_entries { IfOk result (λ copied. copied.handles.slot_entries ≡ handles.now.slot_entries) }
     ensures joints { IfOk result (λ copied. copied.table.joints ≡ joints.now.joints) }
-    ensures sets { IfOk result (λ copied. copied.sets ≡ sets.now) }
     ensures memory_only { IsOkUnless result Refusal.NoMemory }
 {
     Ok(CopiedJoints {
         handles: handles.try_copy()?,
         table: joints.try_copy()?,
-        sets: sets.try_copy()?,
     })
 }
 

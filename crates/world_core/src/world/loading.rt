@@ -28,7 +28,7 @@ use serde_json::Value;
 use sleep_wake::Sets;
 use solver_sets::{Anchors, count_members, list_all_ties, list_members};
 use std::alloc::Global;
-use world_core_base::{BodyTable, JointTable, list_joint_stands};
+use world_core_base::{BodyTable, JointTable};
 use world_file::{Broken, read};
 
 /// The contacts of a plain world. Refused 1 where memory is wanting.
@@ -83,7 +83,6 @@ impl WorldCore {
             calls: plain.calls(),
             ledger: Ledger::from_totals(alloc, totals),
             events: Events::new(alloc),
-            joint_sets: list_joint_stands(alloc, plain.bodies(), plain.joints())?,
         })
     }
 

@@ -1,19 +1,11 @@
 use Rattle.std.proofs.Common.{◌∙◌}
 use Rattle.world_core.proofs.Refusals.{handed_on}
 use Rattle.world_core.proofs.LoadingLaws.{Parts, contacts_are, made_core, made_same, totals_within}
-use Rattle.world_core.proofs.KeepLaws.{named_asleep, told_acting}
-use Rattle.world_rules.specs.Sets.{acting_of}
 use Rattle.world_core.proofs.FewerTies.{tell_lapsed}
 use Rattle.world_core.proofs.world.WorldCore.from_plain.Goals as goal
 
 pub contacts_of-requires : goal.contacts_of-requires
 contacts_of-requires c = contacts_are c.args.plain.now c.args.totals c.requires.sound
-
-pub from_bodies-requires-clause-named : goal.from_bodies-requires-clause-named
-from_bodies-requires-clause-named c = rw c.bodies.ensures (named_asleep c.args.plain.now.bodies (acting_of c.args.plain.now) c.requires.sound.promises.consistent (told_acting c.args.plain.now c.requires.sound.promises.told))
-
-pub list_joint_stands-requires-clause-named : goal.list_joint_stands-requires-clause-named
-list_joint_stands-requires-clause-named c = rw c.bodies-2.ensures (named_asleep c.args.plain.now.bodies (acting_of c.args.plain.now) c.requires.sound.promises.consistent (told_acting c.args.plain.now c.requires.sound.promises.told))
 
 pub from_totals-requires : goal.from_totals-requires
 from_totals-requires c = totals_within c.args.plain.now c.args.totals c.requires.sound
@@ -50,7 +42,6 @@ invariant_of-result c =
       events_are = c.new-4.ensures;
     })
     c.in_ok-from_bodies.ensures.all c.new.result (tell_lapsed _ _ _ c.new.ensures.lapsed)
-    c.in_ok-list_joint_stands.field-0 (rw (c.in_ok-from_bodies.ensures.bodies, c.bodies.ensures, c.in_ok-from_joints.ensures.joints, c.joints.ensures) (rw (c.bodies-2.ensures, c.joints-2.ensures) at c.in_ok-list_joint_stands.ensures.stands))
 
 pub returns-clause-made : goal.returns-clause-made
 returns-clause-made c =
