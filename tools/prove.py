@@ -132,7 +132,9 @@ class Chain:
             shutil.rmtree(Path(crate.rlib).parent, ignore_errors=True)
         if not self.store.give(crate, note == "tests", self.store.key(crate)):
             return False
-        Path(crate.folder, "out", f"kept_{note}").write_text(key)
+        kept = Path(crate.folder, "out", f"kept_{note}")
+        kept.parent.mkdir(exist_ok=True)
+        kept.write_text(key)
         return True
 
     def prove(self, crate, note, given, jobs):
