@@ -1,3 +1,2 @@
 pub mod SceneLaws
 pub mod RowLaws
-pub mod SleepLaws

@@ -1,5 +1,3 @@
 pub mod Packs
 pub mod Notes
 pub mod Marks
-pub mod Stands
-pub mod Threads

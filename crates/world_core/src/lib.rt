@@ -22,7 +22,6 @@ mod scratch;
 mod sleep_phase;
 mod sleep_test;
 mod solving;
-mod telling;
 mod wake_and_sleep;
 mod world;
 

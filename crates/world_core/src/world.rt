@@ -6,7 +6,6 @@ mod joints;
 mod loading;
 mod saving;
 mod sleeping;
-mod standing;
 mod steps;
 
 ghost use Rattle.std.specs.Prelude.{◌≡◌, ◌+◌, ◌<◌, ◌≤◌, ◌^◌, [], IfOk, OnErr, length, nat_le, option_map};
@@ -36,7 +35,6 @@ use contacts_base::ContactEntry;
 use event_feed::Events;
 use fixed_geom::{Refusal, Vec2, ZERO_VECTOR, is_within};
 use impulse_ledger::Ledger;
-use packed_sets::SolverSets;
 use plain_world::{Body, BodyView, Plain, body_of, copy_bodies};
 use sleep_wake::Sets;
 use solver_sets::{Anchors, Census, take_census};
@@ -71,8 +69,6 @@ pub struct WorldCore {
     calls: u64,
     ledger: Ledger,
     events: Events,
-    // Each joint where it stands by its bodies, by slot. The table of bodies has those of the bodies.
-    joint_sets: SolverSets,
 }
 
 impl Model for WorldCore {
@@ -84,7 +80,7 @@ impl Model for WorldCore {
 
     ghost view = { λ a. world_of a };
 
-    ghost invariant = { λ a. IsWorldCore (world_of a) a.sets.acting a.bodies.marks a.anchors a.joint_sets };
+    ghost invariant = { λ a. IsWorldCore (world_of a) a.sets.acting a.bodies.marks a.anchors };
 }
 
 impl WorldCore {
@@ -112,7 +108,6 @@ impl WorldCore {
             calls: 0,
             ledger: Ledger::new(alloc),
             events: Events::new(alloc),
-            joint_sets: SolverSets::new(alloc),
         })
     }
 
@@ -123,7 +118,7 @@ impl WorldCore {
     {
         let alloc = self.bodies.allocator();
         let records = copy_records(&self.ledger, &self.events)?;
-        let joints = copy_joint_parts(&self.joint_handles, &self.joints, &self.joint_sets)?;
+        let joints = copy_joint_parts(&self.joint_handles, &self.joints)?;
         let bodies = copy_body_parts(&self.handles, &self.bodies)?;
         let constraints = copy_constraint_parts(&self.contacts, &self.sets, alloc)?;
         Ok(WorldCore {
@@ -141,7 +136,6 @@ impl WorldCore {
             calls: self.calls,
             ledger: records.ledger,
             events: records.events,
-            joint_sets: joints.sets,
         })
     }
 

@@ -11,9 +11,6 @@ pub mod TableLaws
 pub mod TellLaws
 pub mod TellSomeLaws
 pub mod TimeLaws
-pub mod FollowLaws
-pub mod StandLaws
-pub mod JointStandLaws
 pub mod StandingLaws
 mod ColourLists
 mod RowOrderLaws
@@ -29,7 +26,7 @@ pub mod MarkedLaws
 pub mod CoverLaws
 mod JointImpulseLaws
 mod GivenJointLaws
-pub mod JointEndLaws
-pub mod OwnJointLaws
+mod JointEndLaws
+mod OwnJointLaws
 mod JointTableLaws
 pub mod ForbiddingLaws
