@@ -1,6 +1,6 @@
 //! What is made of lists, as a saved world has them: handles, islands, bodies, joints and sums.
 
-ghost use Rattle.std.specs.Prelude.{◌≡◌, IfOk};
+ghost use Rattle.std.specs.Prelude.{◌≡◌, IfOk, None};
 
 use crate::assertions::{same, same_items};
 use crate::body_handles_slots::give;
@@ -141,7 +141,9 @@ fn islands_have_the_labels_that_they_are_given(rt: HostRuntime) -> Result<(), Fa
     Ok(())
 }
 
-fn body(alloc: Global, kind: Kind) -> Body {
+fn body(alloc: Global, kind: Kind) -> Body
+    ensures { result.asleep ≡ None }
+{
     Body {
         kind,
         mass: MassData {

@@ -47,6 +47,8 @@ mod packed_sets_lists;
 #[cfg(test)]
 mod packed_sets_marks;
 #[cfg(test)]
+mod packed_sets_solver_sets;
+#[cfg(test)]
 mod seat_book_seats;
 #[cfg(test)]
 mod shape_rays_hits;

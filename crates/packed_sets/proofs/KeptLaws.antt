@@ -64,7 +64,7 @@ within_sets sets s p x h = elim (cases_lt s (length sets)) [
 
 -- ---- how many ids stand in a set
 
-distinct_fits : (xs : List ℕ) (x n : ℕ) → x < n → ((k y : ℕ) → slice_get xs k ≡ Some y → y < n) → ((k : ℕ) → slice_get xs k ≡ Some x → ⊥) → ((j k y : ℕ) → slice_get xs j ≡ Some y → slice_get xs k ≡ Some y → j ≡ k) → length xs < n
+pub distinct_fits : (xs : List ℕ) (x n : ℕ) → x < n → ((k y : ℕ) → slice_get xs k ≡ Some y → y < n) → ((k : ℕ) → slice_get xs k ≡ Some x → ⊥) → ((j k y : ℕ) → slice_get xs j ≡ Some y → slice_get xs k ≡ Some y → j ≡ k) → length xs < n
 distinct_fits xs x n lt below absent apart =
     let there : (k : ℕ) → k < length xs → slice_get xs k ≡ Some (get_or xs k x) = λ k less. slice_get-get_or xs k x less in
     let behind : get_or xs (length xs) x ≡ x = get_or_past xs (length xs) x (omega arith) in

@@ -8,3 +8,7 @@ pub mod ViewLaws
 pub mod DropLaws
 pub mod ShiftLaws
 pub mod MarkLaws
+pub mod ItemLaws
+pub mod StandLaws
+pub mod ThreadLaws
+pub mod SetListLaws

@@ -18,6 +18,14 @@
 //! permutation of the old one with one id more, or less, and that all others are what they were. No id stands twice in
 //! all of them (the clause `once` of `members`). Two ids with one number are the same id, by a law of [`Id`].
 //!
+//! # Solver sets
+//!
+//! [`SolverSets`] keep in which solver set each item of one kind stands: a body by its slot, say. What stands in the static, the disabled or
+//! the awake set is in a list, where the item notes its place, and a removal moves the last item in. A sleeping set is a thread: its first
+//! item stands at the set's name, and each item tells the next one. So an island falls asleep with no memory for a list. A sleeping
+//! set takes items and is emptied as a whole by [`SolverSets::wake`]: no item is taken out of it alone, since whatever changes a sleeping
+//! set wakes it first. Each list has room for all items that there are, so that only [`SolverSets::reserve`] and a copy take memory.
+//!
 //! # Marks
 //!
 //! [`Marks`] are one set of slots: a flag for each, and a list of those that are marked.
@@ -27,9 +35,18 @@ mod copying;
 mod ids;
 mod marks;
 mod packing;
+mod set_items;
+mod set_lists;
+mod set_room;
+mod set_threads;
 mod sets;
+mod solver_sets;
 mod spots;
+mod stands;
 
 pub use ids::Id;
 pub use marks::{MAX_MARKS, Marks, limits_in_digits};
+pub use set_items::items_stand_there;
 pub use sets::{MAX_SETS, PackedSets};
+pub use solver_sets::SolverSets;
+pub use stands::{ListedSet, MAX_ITEMS, Stand};

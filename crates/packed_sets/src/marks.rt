@@ -6,6 +6,7 @@ ghost use Rattle.std.specs.Result.{IsOkUnless};
 ghost use Rattle.packed_sets.specs.Marks.{AreListed, IsMarks};
 
 use crate::sets::MAX_SETS;
+use crate::stands::MAX_ITEMS;
 use fixed_geom::Refusal;
 use std::alloc::Global;
 use std::marker::Model;
@@ -192,4 +193,5 @@ impl Marks {
 pub fn limits_in_digits()
     ensures marks { MAX_MARKS ≡ 4294967296 }
     ensures sets { MAX_SETS ≡ 4294967296 }
+    ensures items { MAX_ITEMS ≡ 4294967295 }
 {}

@@ -101,7 +101,7 @@ pub(crate) fn drop_list<I: Id>(lists: &mut Vec<Vec<I>>, spots: &mut Vec<Option<S
 // ---- ids
 
 /// Adds an id behind the others, for which there is room.
-fn push_reserved<I: Id>(list: &mut Vec<I>, id: I)
+pub(crate) fn push_reserved<I: Id>(list: &mut Vec<I>, id: I)
     requires { vec_len list.old < vec_capacity list.old }
     ensures items { list.new.items ≡ list.old.items ++ id ∷ [] }
     ensures capacity { vec_capacity list.old ≤ vec_capacity list.new }
@@ -129,7 +129,7 @@ pub(crate) fn put_in<I: Id>(lists: &mut Vec<Vec<I>>, spots: &mut Vec<Option<Spot
 }
 
 /// Takes the id at a place out of a list. The last one moves there.
-fn swap_out<I: Id>(list: &mut Vec<I>, place: usize) -> I
+pub(crate) fn swap_out<I: Id>(list: &mut Vec<I>, place: usize) -> I
     requires { place < length list.old.items }
     ensures swapped { IsSwappedOut list.old.items list.new.items place result }
     ensures capacity { vec_capacity list.new ≡ vec_capacity list.old }

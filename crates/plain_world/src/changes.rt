@@ -1,9 +1,9 @@
 //! Changes of one body in its slot.
 
-ghost use Rattle.std.specs.Prelude.{◌≡◌, ◌<◌, false, true, vec_len};
+ghost use Rattle.std.specs.Prelude.{◌≡◌, ◌<◌, false, option_map, true, vec_len};
 ghost use Rattle.std.specs.Option.{ForSome};
 ghost use Rattle.plain_world.specs.declared.body.Body.{Body};
-ghost use Rattle.plain_world.specs.Bodies.{is_awake, is_carried};
+ghost use Rattle.plain_world.specs.Bodies.{is_awake, is_carried, standing_of};
 ghost use Rattle.plain_world.specs.Changes.{changed_at, is_awake_in, disabled_body, enabled_body, put_course, put_momenta, put_pose};
 ghost use Rattle.plain_world.specs.InSlots.{CanPose, is_carried_in};
 ghost use Rattle.plain_world.specs.Kinds.{is_kinematic};
@@ -16,7 +16,7 @@ use fixed_geom::Vec2;
 use momenta::Momenta;
 use shapes::Pose;
 
-/// A change of a body that leaves it an awake mover, or carried along, or neither, as it was.
+/// A change of a body that leaves it in its set, and an awake mover, or carried along, or neither, as it was.
 pub trait BodyChange {
     ghost after: { Self → Body → Body };
 
@@ -27,7 +27,8 @@ pub trait BodyChange {
         requires { fits self.now body.old }
         ensures value { body.new ≡ after self.now body.old }
         ensures awake { is_awake body.new ≡ is_awake body.old }
-        ensures carried { is_carried body.new ≡ is_carried body.old };
+        ensures carried { is_carried body.new ≡ is_carried body.old }
+        ensures standing { standing_of body.new ≡ standing_of body.old };
 
     /// Whether the broad phase may see other shapes of the body afterwards.
     fn moves(&self) -> bool
@@ -133,6 +134,7 @@ pub fn change_slot<C: BodyChange>(bodies: &mut Vec<Option<Body>>, slot: usize, c
     ensures value { bodies.new.items ≡ changed_at (C.after change.now) bodies.old.items slot }
     ensures awake { is_awake_in (body_at bodies.new.items slot) ≡ is_awake_in (body_at bodies.old.items slot) }
     ensures carried { is_carried_in (body_at bodies.new.items slot) ≡ is_carried_in (body_at bodies.old.items slot) }
+    ensures standing { option_map standing_of (body_at bodies.new.items slot) ≡ option_map standing_of (body_at bodies.old.items slot) }
 {
     if let Some(body) = &mut bodies[slot] {
         change.change(body);

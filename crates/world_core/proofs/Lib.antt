@@ -26,6 +26,10 @@ pub mod AnchoredLaws
 pub mod GivenLaws
 pub mod GoingLaws
 pub mod TellingLaws
+pub mod KeepLaws
+pub mod ListedJointLaws
+pub mod ChangedJointLaws
+pub mod FoundContactLaws
 pub mod SleeperLaws
 pub mod ClearedLaws
 pub mod MoverTies

@@ -164,7 +164,7 @@ can_leave_at w slot b k at =
 pub can_leave_from : (w : World) (s : Acting Constraint) (h : Handle) (b : Body) → IsWhole w s → body_named w.plain h ≡ Some b → CanLeaveFrom w s h.slot
 can_leave_from w s h b is named = subst (λ (a : Acting Constraint). CanLeaveFrom w a h.slot) (sym is.same) (can_leave_at w h.slot b (kept_of w s is) (named_at w.plain h b named))
 
-below_joints : (joints : List (Option BodyJoint)) (slot : ℕ) (j : BodyJoint) → joint_at joints slot ≡ Some j → slot < length joints
+pub below_joints : (joints : List (Option BodyJoint)) (slot : ℕ) (j : BodyJoint) → joint_at joints slot ≡ Some j → slot < length joints
 below_joints [] slot j e = absurd (none-some j e)
 below_joints (o ∷ joints) zero j e = omega arith
 below_joints (o ∷ joints) (suc slot) j e = let lt = below_joints joints slot j e in omega (arith, lt)

@@ -458,6 +458,31 @@ phase_on timers s w =
     let now : Acting Constraint = split_picked (picked_to_split s.labels timers) s in
     on_then s.labels now.labels (sleep_phase constraint_number timers s).labels (picked_on (picked_to_split s.labels timers) s w (λ name e. picked_is s.labels timers name e)) (all_rested_on (ready false now.labels timers) now)
 
+-- and before one mover is put to sleep with its island
+pub slept_on : (slot : ℕ) (s : Acting Constraint) → IsConsistent constraint_number s → SleepOn s.labels (slept_at constraint_number slot s).labels
+unfolding slept_at put_to_rest
+slept_on slot s w = by_label (label_at s.labels slot) refl
+  where
+    rested_by_on : (now : Acting Constraint) (o : Option Label) → SleepOn now.labels (rested_by constraint_number o now).labels
+    rested_by_on now None = λ t n e. refl
+    rested_by_on now (Some l) = rested_on l.name now.labels
+
+    by_loose : (l : Label) (t : Bool) → is_loose l.state ≡ t → label_at s.labels slot ≡ Some l → SleepOn s.labels (cond t (split_at l.name s) s).labels
+    by_loose l false f e = λ t n h. refl
+    by_loose l true f e =
+        let own : is_island true l.name (Some l) ≡ true = ap (λ (t : Bool). t && is_loose l.state) (is_same l.name l.name refl) ∙ f in
+        split_on l.name s w (ap (is_island true l.name) (w.islands.partition.named slot l e) ∙ own)
+
+    by_asleep : (l : Label) (a : Bool) → label_at s.labels slot ≡ Some l → SleepOn s.labels (cond a s (rested_at constraint_number slot (split_if_loose l s))).labels
+    by_asleep l true e = λ t n h. refl
+    by_asleep l false e =
+        let now : Acting Constraint = split_if_loose l s in
+        on_then s.labels now.labels (rested_at constraint_number slot now).labels (by_loose l (is_loose l.state) refl e) (rested_by_on now (label_at now.labels slot))
+
+    by_label : (o : Option Label) → label_at s.labels slot ≡ o → SleepOn s.labels (slept_by constraint_number slot o s).labels
+    by_label None e = λ t n h. refl
+    by_label (Some l) e = by_asleep l (is_asleep l.state) e
+
 -- those who fell asleep are all that are to be told
 pub asleep_beside : (slot_entries : List SlotEntry) (bodies : List (Option Body)) (old new : Labels) → length bodies ≤ length slot_entries → told old bodies ≡ bodies → AreTold bodies old → SleepOn old new → AreToldBeside (slots_of (newly_asleep slot_entries bodies new)) new bodies
 unfolding newly_asleep

@@ -11,6 +11,8 @@ use Rattle.plain_world.specs.declared.joint.BodyJoint.{BodyJoint}
 use Rattle.plain_world.specs.Joints.{forbidden_pairs}
 use Rattle.sleep_wake.specs.Acting.{Acting}
 use Rattle.world_core.specs.declared.world.WorldCore.TheInside.{Inside}
+use Rattle.packed_sets.specs.Stands.{Standings}
+use Rattle.world_core_base.specs.Stands.{AreJointSets}
 use Rattle.world_rules.specs.Collide.{proxies_of}
 use Rattle.world_rules.specs.Sets.{acting_of}
 use Rattle.world_rules.specs.Sound.{IsSound}
@@ -34,8 +36,9 @@ abbrev pub AreKnown : List Bool → List (Option Body) → List (Option BodyJoin
 AreKnown marks bodies joints contacts = IsKnown (moved_by marks) (forbidden_pairs joints) (proxies_of bodies) contacts
 
 -- what the fields of a `WorldCore` hold: the world is whole, its contacts tell all that isn't marked, and the lists of the bodies that are no movers,
--- where they hold, have all of their contacts
-pub record IsWorldCore (w : World) (acting : Acting Constraint) (marks : List Bool) (anchors : Anchored) : Type 0 where
+-- where they hold, have all of their contacts; and the sets of the joints have each where it stands by its bodies
+pub record IsWorldCore (w : World) (acting : Acting Constraint) (marks : List Bool) (anchors : Anchored) (stands : Standings) : Type 0 where
   pub whole : IsWhole w acting
   pub known : AreKnown marks w.plain.bodies w.plain.joints w.plain.contacts
   pub anchored : AreComplete anchors.holds anchors.lists acting.ties
+  pub standing : AreJointSets w.plain.bodies w.plain.joints stands

@@ -13,21 +13,26 @@ ghost use Rattle.sleep_wake.specs.ChangeLists.{AreChanges, begin_count};
 ghost use Rattle.solver_sets.specs.SinceTold.{newly_awake};
 ghost use Rattle.world_core.specs.Waking.{HasSleepers, OfAll};
 ghost use Rattle.world_core_base.specs.Marked.{AreMarked, AreMarkedIn};
+ghost use Rattle.world_core_base.specs.Stands.{AreJointSets};
 ghost use Rattle.world_rules.specs.Sound.{AreTold};
 
 use crate::preparing::Prepared;
+use crate::telling::tell_movers;
 use body_handles::{Handle, MAX_SLOTS, SlotEntry};
 use contacts::{Constraint, ContactTable};
+use packed_sets::SolverSets;
 use sleep_wake::{Change, Sets};
 use solver_sets::{Anchors, fill_newly_awake};
-use world_core_base::BodyTable;
+use world_core_base::{BodyTable, JointTable};
 
-/// Lets constraints begin and end, one after another, flushes the colours, lists who has woken by that, tells those, and flushes the bodies. All
-/// bodies had been told before. Those who wake are among the slots `asleep`, so that it takes time by these and by what begins and ends. It takes no
-/// memory.
+/// Lets constraints begin and end, one after another, flushes the colours, lists who has woken by that, tells those, whose joints follow, and flushes
+/// the bodies. All bodies had been told before. Those who wake are among the slots `asleep`, so that it takes time by these and by what begins and
+/// ends. It takes no memory.
 fn apply_all_changes(
     sets: &mut Sets<Constraint>,
     bodies: &mut BodyTable,
+    joints: &JointTable,
+    stands: &mut SolverSets,
     woke: &mut Vec<Handle>,
     slot_entries: &[SlotEntry],
     changes: &[Change<Constraint>],
@@ -39,6 +44,7 @@ fn apply_all_changes(
     requires few_bodies { length bodies.old.bodies ≤ MAX_SLOTS }
     requires bodies { AreBodies bodies.old.bodies }
     requires told { AreTold bodies.old.bodies sets.old.acting.labels }
+    requires standing { AreJointSets bodies.old.bodies joints.now.joints stands.old }
     requires sleepers { OfAll (HasSleepers sets.old.acting.labels asleep.now) changes.now }
     requires rising { IsStrictlyIncreasing asleep.now }
     requires woke { length asleep.now ≤ vec_capacity woke.old }
@@ -48,11 +54,12 @@ fn apply_all_changes(
     ensures colours_flushed { sets.new.pending ≡ 0 }
     ensures bodies_flushed { bodies.new.pending ≡ 0 }
     ensures marked { AreMarked bodies.old bodies.new }
+    ensures standing { AreJointSets bodies.new.bodies joints.now.joints stands.new }
 {
     sets.apply_changes(changes);
     sets.flush();
     fill_newly_awake(woke, slot_entries, bodies.bodies(), sets.islands(), asleep);
-    let _ = bodies.tell_some(asleep, sets.islands());
+    let _ = tell_movers(bodies, joints, stands, asleep, sets);
     bodies.flush();
 }
 
@@ -69,6 +76,8 @@ fn renew_anchors(anchors: &mut Anchors, sets: &Sets<Constraint>, changes: &[Chan
 pub(crate) fn carry_out(
     contacts: &mut ContactTable,
     bodies: &mut BodyTable,
+    joints: &JointTable,
+    stands: &mut SolverSets,
     sets: &mut Sets<Constraint>,
     anchors: &mut Anchors,
     woke: &mut Vec<Handle>,
@@ -81,6 +90,7 @@ pub(crate) fn carry_out(
     requires few_bodies { length bodies.old.bodies ≤ MAX_SLOTS }
     requires bodies { AreBodies bodies.old.bodies }
     requires told { AreTold bodies.old.bodies sets.old.acting.labels }
+    requires standing { AreJointSets bodies.old.bodies joints.now.joints stands.old }
     requires sleepers { OfAll (HasSleepers sets.old.acting.labels prepared.now.asleep.items) prepared.now.changes.items }
     requires rising { IsStrictlyIncreasing prepared.now.asleep.items }
     requires woke { length prepared.now.asleep.items ≤ vec_capacity woke.old }
@@ -92,12 +102,15 @@ pub(crate) fn carry_out(
     ensures bodies_flushed { bodies.new.pending ≡ 0 }
     ensures marked { AreMarkedIn bodies.old.bodies (replicate (length bodies.old.marks) false) bodies.new.bodies bodies.new.marks }
     ensures anchored { AreComplete anchors.old.holds anchors.old.lists sets.old.acting.ties → AreComplete anchors.new.holds anchors.new.lists sets.new.acting.ties }
+    ensures standing { AreJointSets bodies.new.bodies joints.now.joints stands.new }
 {
     contacts.carry_out();
     bodies.clear_marks();
     apply_all_changes(
         sets,
         bodies,
+        joints,
+        stands,
         woke,
         slot_entries,
         &prepared.changes,

@@ -22,6 +22,7 @@ mod scratch;
 mod sleep_phase;
 mod sleep_test;
 mod solving;
+mod telling;
 mod wake_and_sleep;
 mod world;
 

@@ -13,29 +13,32 @@ ghost use Rattle.solver_sets.specs.BesideByTies.{ShowMoving};
 ghost use Rattle.solver_sets.specs.SinceTold.{newly_asleep};
 ghost use Rattle.solver_sets.specs.Tied.{AreTied};
 ghost use Rattle.world_core_base.specs.Marked.{AreMarked};
+ghost use Rattle.world_core_base.specs.Stands.{AreJointSets};
 ghost use Rattle.world_rules.specs.Apply.{gained, rested_acting};
 ghost use Rattle.world_rules.specs.Sound.{AreTold};
 
 use crate::scratch::{Scratch, fill_slots};
 use crate::sleep_test::are_kept_up;
+use crate::telling::tell_movers;
 use body_handles::{MAX_SLOTS, SlotEntry};
 use contacts::Constraint;
 use contacts_base::SplitContacts;
 use momenta::{Gain, NOTHING};
-use plain_world::BodyJoint;
+use packed_sets::SolverSets;
 use sleep_wake::Sets;
 use solver_sets::{fill_awake_timers, fill_newly_asleep};
-use world_core_base::BodyTable;
+use world_core_base::{BodyTable, JointTable};
 
 /// Lets so many ticks pass for the timers, puts the islands to rest that are ready, lists who has fallen asleep by that, and tells
-/// those; all bodies had been told before. Answers what the movers' momentum gains, since those that fall asleep lose theirs. Where
-/// few fall asleep, it takes time by the awake movers alone. Takes no memory.
+/// those. Their joints follow. All bodies had been told before. Answers what the movers' momentum gains, since those that fall asleep
+/// lose theirs. Where few fall asleep, it takes time by the awake movers alone. Takes no memory.
 pub(crate) fn rest_ready(
     bodies: &mut BodyTable,
+    joints: &JointTable,
+    stands: &mut SolverSets,
     sets: &mut Sets<Constraint>,
     scratch: &mut Scratch,
     slot_entries: &[SlotEntry],
-    joints: &[Option<BodyJoint>],
     contacts: &SplitContacts,
     ticks: u64,
 ) -> Gain
@@ -44,23 +47,25 @@ pub(crate) fn rest_ready(
     requires within { AreTimersWithin (2 ^ 44) bodies.old.bodies }
     requires tied { AreTied bodies.old.bodies sets.old.acting.labels }
     requires told { AreTold bodies.old.bodies sets.old.acting.labels }
+    requires standing { AreJointSets bodies.old.bodies joints.now.joints stands.old }
     requires consistent { IsConsistent constraint_number sets.old.acting }
     requires colours_flushed { sets.old.pending ≡ 0 }
     requires bodies_flushed { bodies.old.pending ≡ 0 }
-    requires tells { ShowMoving (timed_bodies ticks bodies.old.bodies) joints.now (contacts_in contacts.now) sets.old.acting.labels sets.old.acting.lists }
+    requires tells { ShowMoving (timed_bodies ticks bodies.old.bodies) joints.now.joints (contacts_in contacts.now) sets.old.acting.labels sets.old.acting.lists }
     requires slot_entries { length bodies.old.bodies ≤ length slot_entries.now }
     requires ticks { ticks ≤ 8 }
     requires timers { length bodies.old.bodies ≤ vec_capacity scratch.old.timers }
     requires awake_flags { length bodies.old.bodies ≤ vec_capacity scratch.old.awake_flags }
     requires slept { length bodies.old.bodies ≤ vec_capacity scratch.old.slept }
     requires slots { length slot_entries.now ≤ vec_capacity scratch.old.slots }
-    ensures acting { sets.new.acting ≡ rested_acting (timed_bodies ticks bodies.old.bodies) joints.now (contacts_in contacts.now) sets.old.acting }
+    ensures acting { sets.new.acting ≡ rested_acting (timed_bodies ticks bodies.old.bodies) joints.now.joints (contacts_in contacts.now) sets.old.acting }
     ensures bodies { bodies.new.bodies ≡ told sets.new.acting.labels (timed_bodies ticks bodies.old.bodies) }
     ensures slept { scratch.new.slept.items ≡ newly_asleep slot_entries.now (timed_bodies ticks bodies.old.bodies) sets.new.acting.labels }
     ensures woke { scratch.new.woke ≡ scratch.old.woke }
     ensures gain { as_vector result ≡ gained (timed_bodies ticks bodies.old.bodies) bodies.new.bodies }
     ensures small { IsGain (2 ^ 78) result }
     ensures marked { AreMarked bodies.old bodies.new }
+    ensures standing { AreJointSets bodies.new.bodies joints.now.joints stands.new }
 {
     bodies.time(ticks);
     let quiet = are_kept_up(
@@ -68,7 +73,7 @@ pub(crate) fn rest_ready(
         sets.islands(),
         bodies.bodies(),
         bodies.awake(),
-        joints,
+        joints.joints(),
         contacts,
         sets.colours(),
     );
@@ -80,7 +85,7 @@ pub(crate) fn rest_ready(
         &mut scratch.timers,
         bodies.bodies(),
         bodies.awake(),
-        joints,
+        joints.joints(),
         sets.colours(),
     );
     sets.sleep_phase(&scratch.timers, bodies.awake());
@@ -92,5 +97,5 @@ pub(crate) fn rest_ready(
         bodies.awake(),
     );
     fill_slots(&mut scratch.slots, &scratch.slept);
-    bodies.tell_some(&scratch.slots, sets.islands())
+    tell_movers(bodies, joints, stands, &scratch.slots, sets)
 }

@@ -12,11 +12,13 @@ ghost use Rattle.plain_world.specs.Momentum.{momentum};
 ghost use Rattle.plain_world.specs.Joints.{AreJoints, forbidden_pairs};
 ghost use Rattle.plain_world.specs.InSlots.{HaveSameSlots};
 ghost use Rattle.world_core_base.specs.Gather.{states_of};
+ghost use Rattle.world_core_base.specs.JointEnds.{KeepEnds};
 ghost use Rattle.world_core_base.specs.ContactBodies.{AreContactsOf};
 ghost use Rattle.world_core_base.specs.Marked.{AreMarked};
 ghost use Rattle.world_core_base.specs.Renewal.{renewed_bodies};
 ghost use Rattle.world_core_base.specs.RowColours.{HasItsMovers};
 ghost use Rattle.world_core_base.specs.Solving.{bodies_of, solve_order, solved};
+ghost use Rattle.world_core_base.specs.Stands.{StandAlike};
 ghost use Rattle.world_rules.specs.Gathering.{CanGather};
 
 use crate::impulses::put_impulses;
@@ -85,6 +87,8 @@ pub(crate) fn solve<S: StepSolver>(
     ensures forbidden { forbidden_pairs joints.new.joints ≡ forbidden_pairs joints.old.joints }
     ensures bodies_flushed { bodies.new.pending ≡ 0 }
     ensures numbers { map number_of contacts.new.contacts ≡ map number_of contacts.old.contacts }
+    ensures stands { StandAlike bodies.old.bodies bodies.new.bodies }
+    ensures ends { KeepEnds joints.old.joints joints.new.joints }
 {
     let kept = contacts.split();
     kept.know_ascending();

@@ -13,14 +13,17 @@ ghost use Rattle.sleep_wake.specs.Acting.{IsConsistent, is_mover_awake};
 ghost use Rattle.sleep_wake.specs.Sleeping.{islands_woken, sleeping_names, slept_at};
 ghost use Rattle.world_core.specs.Waking.{HasIsland, HasIslands, IsExtended};
 ghost use Rattle.world_core_base.specs.Marked.{AreMarked};
+ghost use Rattle.world_core_base.specs.Stands.{AreJointSets};
 
+use crate::telling::tell_movers;
 use body_handles::MAX_SLOTS;
 use contacts::Constraint;
 use fixed_geom::Refusal;
 use momenta::Gain;
+use packed_sets::SolverSets;
 use sleep_wake::Sets;
 use std::alloc::Global;
-use world_core_base::BodyTable;
+use world_core_base::{BodyTable, JointTable};
 
 /// The sleeping islands that are to wake: their names, and the movers in them.
 #[derive(Drop)]
@@ -92,12 +95,20 @@ pub(crate) fn plan_waking(
     Ok(Waking { names, movers })
 }
 
-/// Wakes the islands that are to wake, and tells their movers. All bodies had been told before. Where there are none, it takes no time.
-pub(crate) fn wake_planned(sets: &mut Sets<Constraint>, bodies: &mut BodyTable, waking: &Waking)
+/// Wakes the islands that are to wake, and tells their movers, whose joints follow. All bodies had been told before. Where there are
+/// none, it takes no time.
+pub(crate) fn wake_planned(
+    sets: &mut Sets<Constraint>,
+    bodies: &mut BodyTable,
+    joints: &JointTable,
+    stands: &mut SolverSets,
+    waking: &Waking,
+)
     requires movers { HasIslands sets.old.acting.labels waking.now.names.items waking.now.movers.items }
     requires few { length bodies.old.bodies ≤ MAX_SLOTS }
     requires bodies { AreBodies bodies.old.bodies }
     requires told { told sets.old.acting.labels bodies.old.bodies ≡ bodies.old.bodies }
+    requires standing { AreJointSets bodies.old.bodies joints.now.joints stands.old }
     ensures acting { sets.new.acting ≡ islands_woken constraint_number waking.now.names.items sets.old.acting }
     ensures told { bodies.new.bodies ≡ told sets.new.acting.labels bodies.old.bodies }
     ensures count { length bodies.new.bodies ≡ length bodies.old.bodies }
@@ -105,19 +116,24 @@ pub(crate) fn wake_planned(sets: &mut Sets<Constraint>, bodies: &mut BodyTable, 
     ensures room { sets.new.room ≡ sets.old.room }
     ensures slots { sets.new.slots ≡ sets.old.slots }
     ensures marked { AreMarked bodies.old bodies.new }
+    ensures standing { AreJointSets bodies.new.bodies joints.now.joints stands.new }
+    ensures items { length stands.new.stands ≡ length stands.old.stands }
 {
     if waking.names.is_empty() {
         return;
     }
     sets.wake_named(&waking.names);
-    bodies.tell_some(&waking.movers, sets.islands());
+    let _ = tell_movers(bodies, joints, stands, &waking.movers, sets);
 }
 
-/// Puts the mover in a slot to sleep with its island, and tells the movers of the island in which it was, which are listed where it is awake. All bodies had been
-/// told before. Answers what the movers' momentum gains. Where the mover sleeps already, it takes no time.
+/// Puts the mover in a slot to sleep with its island, and tells the movers of the island in which it was, which are listed where it is
+/// awake. Their joints follow. All bodies had been told before. Answers what the movers' momentum gains. Where the mover sleeps already,
+/// it takes no time.
 pub(crate) fn put_to_sleep(
     sets: &mut Sets<Constraint>,
     bodies: &mut BodyTable,
+    joints: &JointTable,
+    stands: &mut SolverSets,
     slot: u32,
     movers: &[u32],
 ) -> Gain
@@ -126,6 +142,7 @@ pub(crate) fn put_to_sleep(
     requires few { length bodies.old.bodies ≤ MAX_SLOTS }
     requires bodies { AreBodies bodies.old.bodies }
     requires told { told sets.old.acting.labels bodies.old.bodies ≡ bodies.old.bodies }
+    requires standing { AreJointSets bodies.old.bodies joints.now.joints stands.old }
     ensures acting { sets.new.acting ≡ slept_at constraint_number slot sets.old.acting }
     ensures told { bodies.new.bodies ≡ told sets.new.acting.labels bodies.old.bodies }
     ensures count { length bodies.new.bodies ≡ length bodies.old.bodies }
@@ -135,10 +152,11 @@ pub(crate) fn put_to_sleep(
     ensures room { sets.new.room ≡ sets.old.room }
     ensures slots { sets.new.slots ≡ sets.old.slots }
     ensures marked { AreMarked bodies.old bodies.new }
+    ensures standing { AreJointSets bodies.new.bodies joints.now.joints stands.new }
 {
     if !sets.is_awake(slot) {
         return Gain { x: 0, y: 0 };
     }
     sets.sleep(slot);
-    bodies.tell_some(movers, sets.islands())
+    tell_movers(bodies, joints, stands, movers, sets)
 }

@@ -6,6 +6,7 @@ mod joints;
 mod loading;
 mod saving;
 mod sleeping;
+mod standing;
 mod steps;
 
 ghost use Rattle.std.specs.Prelude.{◌≡◌, ◌+◌, ◌<◌, ◌≤◌, ◌^◌, [], IfOk, OnErr, length, nat_le, option_map};
@@ -35,6 +36,7 @@ use contacts_base::ContactEntry;
 use event_feed::Events;
 use fixed_geom::{Refusal, Vec2, ZERO_VECTOR, is_within};
 use impulse_ledger::Ledger;
+use packed_sets::SolverSets;
 use plain_world::{Body, BodyView, Plain, body_of, copy_bodies};
 use sleep_wake::Sets;
 use solver_sets::{Anchors, Census, take_census};
@@ -69,6 +71,8 @@ pub struct WorldCore {
     calls: u64,
     ledger: Ledger,
     events: Events,
+    // Each joint where it stands by its bodies, by slot. The table of bodies has those of the bodies.
+    joint_sets: SolverSets,
 }
 
 impl Model for WorldCore {
@@ -80,7 +84,7 @@ impl Model for WorldCore {
 
     ghost view = { λ a. world_of a };
 
-    ghost invariant = { λ a. IsWorldCore (world_of a) a.sets.acting a.bodies.marks a.anchors };
+    ghost invariant = { λ a. IsWorldCore (world_of a) a.sets.acting a.bodies.marks a.anchors a.joint_sets };
 }
 
 impl WorldCore {
@@ -108,6 +112,7 @@ impl WorldCore {
             calls: 0,
             ledger: Ledger::new(alloc),
             events: Events::new(alloc),
+            joint_sets: SolverSets::new(alloc),
         })
     }
 
@@ -118,7 +123,7 @@ impl WorldCore {
     {
         let alloc = self.bodies.allocator();
         let records = copy_records(&self.ledger, &self.events)?;
-        let joints = copy_joint_parts(&self.joint_handles, &self.joints)?;
+        let joints = copy_joint_parts(&self.joint_handles, &self.joints, &self.joint_sets)?;
         let bodies = copy_body_parts(&self.handles, &self.bodies)?;
         let constraints = copy_constraint_parts(&self.contacts, &self.sets, alloc)?;
         Ok(WorldCore {
@@ -136,6 +141,7 @@ impl WorldCore {
             calls: self.calls,
             ledger: records.ledger,
             events: records.events,
+            joint_sets: joints.sets,
         })
     }
 

@@ -179,13 +179,13 @@ item_at-same [] slot o lt = absurd (omega (arith, lt))
 item_at-same (a ∷ xs) zero o lt = refl
 item_at-same (a ∷ xs) (suc slot) o lt = item_at-same xs slot o (omega (arith, lt))
 
-item_at-end : {X : Type 0} (items : List (Option X)) (slot : ℕ) (o : Option X) → slot ≡ length items → item_at (items ++ o ∷ []) slot ≡ o
+pub item_at-end : {X : Type 0} (items : List (Option X)) (slot : ℕ) (o : Option X) → slot ≡ length items → item_at (items ++ o ∷ []) slot ≡ o
 item_at-end [] zero o e = refl
 item_at-end [] (suc slot) o e = absurd (omega (arith, e))
 item_at-end (a ∷ xs) zero o e = absurd (omega (arith, e))
 item_at-end (a ∷ xs) (suc slot) o e = item_at-end xs slot o (omega (arith, e))
 
-item_at-before : {X : Type 0} (items : List (Option X)) (k : ℕ) (o : Option X) → k ≢ length items → item_at (items ++ o ∷ []) k ≡ item_at items k
+pub item_at-before : {X : Type 0} (items : List (Option X)) (k : ℕ) (o : Option X) → k ≢ length items → item_at (items ++ o ∷ []) k ≡ item_at items k
 item_at-before [] zero o ne = absurd (ne refl)
 item_at-before [] (suc k) o ne = refl
 item_at-before (a ∷ xs) zero o ne = refl

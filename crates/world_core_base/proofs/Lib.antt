@@ -11,6 +11,9 @@ pub mod TableLaws
 pub mod TellLaws
 pub mod TellSomeLaws
 pub mod TimeLaws
+pub mod FollowLaws
+pub mod StandLaws
+pub mod JointStandLaws
 pub mod StandingLaws
 mod ColourLists
 mod RowOrderLaws
@@ -26,7 +29,7 @@ pub mod MarkedLaws
 pub mod CoverLaws
 mod JointImpulseLaws
 mod GivenJointLaws
-mod JointEndLaws
-mod OwnJointLaws
+pub mod JointEndLaws
+pub mod OwnJointLaws
 mod JointTableLaws
 pub mod ForbiddingLaws

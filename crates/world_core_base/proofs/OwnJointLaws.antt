@@ -91,7 +91,7 @@ halves_own joints sets body slot e h =
       | inr odd ↦ second_own body (joint_at joints slot) (rw (e.second body slot) at (times_from_in (2 * slot + 1) (list_at sets body) odd))
     ]
 
-below_if : (body : ℕ) (joints : List (Option BodyJoint)) (slot : ℕ) → is_end_in body (joint_at joints slot) ≡ true → slot < length joints
+pub below_if : (body : ℕ) (joints : List (Option BodyJoint)) (slot : ℕ) → is_end_in body (joint_at joints slot) ≡ true → slot < length joints
 below_if body [] slot h = cc
 below_if body (o ∷ joints) zero h = omega arith
 below_if body (o ∷ joints) (suc slot) h = let less : slot < length joints = below_if body joints slot h in omega (arith, less)
@@ -150,6 +150,15 @@ own_slots_are joints sets body slots ids is e rising same =
     same_rising slots (own_from body 0 joints) (rising_from_increasing slots rising) (own_rising body 0 joints)
     (λ k h. in_own body 0 k k joints (omega arith) (halves_own joints sets body k e (subst (λ (l : List ℕ). IsIn k (halves l)) is (in_from_contains (halves ids) k ((same k).0 (contains_from_in slots k h))))))
     (λ k h. in_from_contains slots k ((same k).1 (contains_from_in (halves ids) k (subst (λ (l : List ℕ). IsIn k (halves l)) (sym is) (own_in_halves joints sets body k e (own_there body k joints (own_listed body 0 k joints h)))))))
+
+-- a slot is listed just if its joint has the body as an end
+pub listed_end : (body slot : ℕ) (joints : List (Option BodyJoint)) (slots : List ℕ) → slots ≡ own_slots body joints → Contains slots slot → is_end_in body (joint_at joints slot) ≡ true
+unfolding own_slots
+listed_end body slot joints slots is h = own_there body slot joints (own_listed body 0 slot joints (subst (λ (l : List ℕ). IsIn slot l) is (in_from_contains slots slot h)))
+
+pub end_listed : (body slot : ℕ) (joints : List (Option BodyJoint)) (slots : List ℕ) → slots ≡ own_slots body joints → is_end_in body (joint_at joints slot) ≡ true → Contains slots slot
+unfolding own_slots
+end_listed body slot joints slots is own = contains_from_in slots slot (subst (λ (l : List ℕ). IsIn slot l) (sym is) (in_own body 0 slot slot joints (omega arith) own))
 
 -- ---- joints that lose their impulses, one after the other
 

@@ -8,6 +8,10 @@ use Rattle.world_core_base.specs.declared.joint_ends.Ends.{Ends}
 abbrev pub ends_of : BodyJoint → Ends
 ends_of j = record { a = j.a; b = j.b }
 
+-- joints with the ends that others have
+abbrev pub KeepEnds : List (Option BodyJoint) → List (Option BodyJoint) → Type 0
+KeepEnds old new = (slot : ℕ) → option_map ends_of (joint_at new slot) ≡ option_map ends_of (joint_at old slot)
+
 abbrev pub first_of : Option BodyJoint → Option ℕ
 first_of None = None
 first_of (Some j) = Some j.a

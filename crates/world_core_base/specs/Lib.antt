@@ -6,6 +6,8 @@ pub mod ConstraintRows
 pub mod Moved
 pub mod Listing
 pub mod Merging
+pub mod Stands
+pub mod Following
 pub mod Awake
 pub mod Timing
 pub mod Telling

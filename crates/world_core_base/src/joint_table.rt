@@ -7,16 +7,20 @@ ghost use Rattle.std.specs.Result.{IsOkUnless};
 ghost use Rattle.body_handles.specs.declared.slot_table.TheConstants.{MAX_SLOTS};
 ghost use Rattle.plain_world.specs.Joints.{forbidden_pairs, idle_if, idle_joints, is_end_in, joint_at};
 ghost use Rattle.plain_world.specs.InSlots.{impulse_set, with_impulse};
+ghost use Rattle.packed_sets.specs.Stands.{stand_at};
+ghost use Rattle.world_core_base.specs.Following.{CanFollow};
 ghost use Rattle.world_core_base.specs.JointTables.{own_slots};
 ghost use Rattle.world_core_base.specs.JointEnds.{ends_of, halves};
+ghost use Rattle.world_core_base.specs.Stands.{IsOfNone, joint_stand};
 ghost use Rattle.plain_world.specs.Slots.{with_item};
 
 use crate::forbidden_pairs::either_keeps_apart;
 use crate::joint_ends::{Ends, drop_ends, ends_of, list_slots, note_ends, reserve_ends};
+use crate::stands::follow_joints;
 use contacts::ForbiddenPairs;
 use fixed_geom::Refusal;
-use packed_sets::PackedSets;
-use plain_world::{BodyJoint, clear_slot, put_item};
+use packed_sets::{PackedSets, SolverSets};
+use plain_world::{Body, BodyJoint, clear_slot, put_item};
 use std::alloc::Global;
 use std::marker::Model;
 
@@ -122,6 +126,18 @@ impl JointTable {
     {
         let slots = list_slots(*self.joints.allocator(), self.ends.members(body))?;
         Ok(slots)
+    }
+
+    /// Moves the joints of the bodies in these slots to where they stand now, in the sets of the joints. All others stand where they stood.
+    /// Costs by how many they are. Takes no memory.
+    pub fn follow(&self, sets: &mut SolverSets, bodies: &[Option<Body>], slots: &[u32])
+        requires can { CanFollow (stand_at sets.old.stands) (joint_stand bodies.now self.now.joints) sets.old.names }
+        requires others { (slot : ℕ) → IsOfNone slots.now (joint_at self.now.joints slot) → joint_stand bodies.now self.now.joints slot ≡ stand_at sets.old.stands slot }
+        ensures stands { (slot : ℕ) → stand_at sets.new.stands slot ≡ joint_stand bodies.now self.now.joints slot }
+        ensures names { sets.new.names ≡ sets.old.names }
+        ensures items { length sets.new.stands ≡ length sets.old.stands }
+    {
+        follow_joints(sets, &self.ends, &self.joints, bodies, slots);
     }
 
     /// Makes room for this joint. Refused 1 where memory is wanting.

@@ -3,6 +3,10 @@
 //! The bodies of a world by slot with what a step goes over (`BodyTable`: their states, and the slots of the awake movers and of the bodies that are
 //! carried along), and what a step gathers of joints and contacts (`gather_rows`).
 //!
+//! A [`BodyTable`] also has sets in which each body is where it stands (`stands.rt`). So where a body stands is told at once, and
+//! islands wake and fall asleep as sets. The sets of the joints are kept beside the tables (`joint_sets.rt`), since where a joint stands
+//! is told by its bodies.
+//!
 //! The joints of a world by slot stand in [`JointTable`], with what a world asks of them at hand: beside them the ends of joints by
 //! body, so that what asks for the joints of one body costs by those alone. Whether joints keep two bodies from colliding is told
 //! by the joints of the one that has fewer.
@@ -14,17 +18,21 @@ mod forbidden_pairs;
 mod gather;
 mod joint_ends;
 mod joint_row;
+mod joint_sets;
 mod joint_table;
 mod laws;
 mod merging;
 mod moving;
 mod slot_list;
 mod slots;
+mod stands;
 mod telling;
 mod timing;
 
 pub use body_table::BodyTable;
 pub use gather::gather_rows;
 pub use joint_ends::Ends;
+pub use joint_sets::{drop_joint_stands, list_joint_stands, put_joint_stand};
 pub use joint_table::JointTable;
 pub use laws::{arrays_are_solving, rows_are_colours};
+pub use stands::set_of;

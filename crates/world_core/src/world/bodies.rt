@@ -18,6 +18,7 @@ use fixed_geom::{Refusal, Vec2};
 use impulse_ledger::Cause;
 use plain_world::{BodyChange, BodyDef, Course, body_of, know_filters_fit};
 use shapes::Pose;
+use world_core_base::drop_joint_stands;
 use world_rules::Reply;
 
 impl WorldCore {
@@ -34,6 +35,7 @@ impl WorldCore {
         self.handles.reserve_one()?;
         self.bodies.reserve_one(self.handles.next_slot(), &body)?;
         self.sets.reserve(0, self.bodies.bodies().len() + 1)?;
+        self.joint_sets.reserve(0, self.bodies.bodies().len() + 1)?;
         let handle = self.handles.insert()?;
         come(&mut self.sets, handle.slot, body.is_mover());
         self.sets.widen(handle.slot);
@@ -56,8 +58,15 @@ impl WorldCore {
         let own = self.joints.slots_of(handle.slot)?;
         self.contacts.reserve_drop()?;
         self.ledger.reserve(1)?;
-        wake_planned(&mut self.sets, &mut self.bodies, &waking);
+        wake_planned(
+            &mut self.sets,
+            &mut self.bodies,
+            &self.joints,
+            &mut self.joint_sets,
+            &waking,
+        );
         leave(&mut self.sets, handle.slot, mover, &ties);
+        drop_joint_stands(&mut self.joint_sets, &own);
         drop_joints(&mut self.joint_handles, &mut self.joints, handle.slot, &own);
         self.bodies.clear(handle.slot);
         self.contacts.drop_of_body(handle.slot);
@@ -79,7 +88,13 @@ impl WorldCore {
         let momenta = momenta_after(&self.handles, self.bodies.bodies(), handle, by, offset)?;
         let waking = self.plan_waking(&[handle.slot])?;
         self.ledger.reserve(1)?;
-        wake_planned(&mut self.sets, &mut self.bodies, &waking);
+        wake_planned(
+            &mut self.sets,
+            &mut self.bodies,
+            &self.joints,
+            &mut self.joint_sets,
+            &waking,
+        );
         self.bodies.change(handle.slot, &momenta);
         book(
             &mut self.ledger,
@@ -120,7 +135,13 @@ impl WorldCore {
         ensures { Answers (Ok (with_body_changed self.old.plain handle (C.after change.now))) self.old result self.new }
     {
         let waking = self.plan_stir(handle.slot)?;
-        wake_planned(&mut self.sets, &mut self.bodies, &waking);
+        wake_planned(
+            &mut self.sets,
+            &mut self.bodies,
+            &self.joints,
+            &mut self.joint_sets,
+            &waking,
+        );
         self.bodies.change(handle.slot, change);
         self.anchors.tidy(&self.sets, handle.slot);
         self.calls += 1;

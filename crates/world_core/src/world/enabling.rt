@@ -32,11 +32,19 @@ impl WorldCore {
         let waking = self.plan_stir_by_ties(handle.slot, &ties)?;
         self.contacts.reserve_drop()?;
         self.ledger.reserve(1)?;
-        wake_planned(&mut self.sets, &mut self.bodies, &waking);
+        wake_planned(
+            &mut self.sets,
+            &mut self.bodies,
+            &self.joints,
+            &mut self.joint_sets,
+            &waking,
+        );
         leave(&mut self.sets, handle.slot, mover, &ties);
         self.bodies.disable(handle.slot);
         self.joints.idle(handle.slot);
         self.contacts.drop_of_body(handle.slot);
+        self.joints
+            .follow(&mut self.joint_sets, self.bodies.bodies(), &[handle.slot]);
         book(
             &mut self.ledger,
             self.calls + 1,
@@ -70,7 +78,13 @@ impl WorldCore {
         let waking = self.plan_waking(&joined)?;
         let mut ties = Vec::with_capacity(self.bodies.allocator(), own.len())?;
         self.sets.reserve(own.len(), self.bodies.bodies().len())?;
-        wake_planned(&mut self.sets, &mut self.bodies, &waking);
+        wake_planned(
+            &mut self.sets,
+            &mut self.bodies,
+            &self.joints,
+            &mut self.joint_sets,
+            &waking,
+        );
         self.bodies.enable(handle.slot);
         fill_joint_ties(
             &mut ties,
@@ -82,6 +96,8 @@ impl WorldCore {
         );
         come(&mut self.sets, handle.slot, mover);
         self.sets.begin_each(&ties);
+        self.joints
+            .follow(&mut self.joint_sets, self.bodies.bodies(), &[handle.slot]);
         self.calls += 1;
         Ok(Reply::Done)
     }

@@ -11,6 +11,7 @@ use contacts::Constraint;
 use fixed_geom::Refusal;
 use plain_world::JointDef;
 use solver_sets::{begin_with, end_with, joint_movers};
+use world_core_base::put_joint_stand;
 use world_rules::Reply;
 
 impl WorldCore {
@@ -27,11 +28,24 @@ impl WorldCore {
         self.joint_handles.reserve_one()?;
         self.joints.reserve_for(&joint)?;
         self.sets.reserve(1, 0)?;
-        wake_planned(&mut self.sets, &mut self.bodies, &waking);
+        self.joint_sets.reserve(self.joints.joints().len() + 1, 0)?;
+        wake_planned(
+            &mut self.sets,
+            &mut self.bodies,
+            &self.joints,
+            &mut self.joint_sets,
+            &waking,
+        );
         let handle = self.joint_handles.insert()?;
         let movers = joint_movers(self.bodies.bodies(), &joint);
         begin_with(&mut self.sets, Constraint::Joint(handle), movers);
         self.bodies.mark(joint.a);
+        put_joint_stand(
+            &mut self.joint_sets,
+            self.bodies.bodies(),
+            &joint,
+            handle.slot,
+        );
         self.joints.put(handle.slot, joint);
         self.calls += 1;
         Ok(Reply::Joint(handle))
@@ -45,12 +59,19 @@ impl WorldCore {
             return Err(Refusal::StaleHandle);
         };
         let waking = self.plan_waking(&[joint.a, joint.b])?;
-        wake_planned(&mut self.sets, &mut self.bodies, &waking);
+        wake_planned(
+            &mut self.sets,
+            &mut self.bodies,
+            &self.joints,
+            &mut self.joint_sets,
+            &waking,
+        );
         let movers = joint_movers(self.bodies.bodies(), &joint);
         end_with(&mut self.sets, Constraint::Joint(handle), movers);
         self.bodies.mark(joint.b);
         self.joints.clear(handle.slot);
         self.joint_handles.remove(handle);
+        self.joint_sets.remove(handle.slot);
         self.calls += 1;
         Ok(Reply::Done)
     }

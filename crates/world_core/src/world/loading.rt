@@ -1,13 +1,15 @@
 //! A world that is made of plain lists, and one that is read of a saved world.
 
-ghost use Rattle.std.specs.Prelude.{◌≡◌, ◌≤◌, ◌^◌, IfErr, IfOk, Ok, length};
+ghost use Rattle.std.specs.Prelude.{◌≡◌, ◌≤◌, ◌^◌, ℕ, true, All, IfErr, IfOk, Ok, length, slice_index_or};
 ghost use Rattle.std.specs.Result.{IsOkUnless};
 ghost use Rattle.serde_json.specs.View.{view};
+ghost use Rattle.body_handles.specs.SlotEntries.{IsSlotEntry};
 ghost use Rattle.contacts.specs.Constraints.{constraint_number};
 ghost use Rattle.contacts_base.specs.ContactLists.{AreContacts};
 ghost use Rattle.plain_world.specs.Slots.{AreMatched};
 ghost use Rattle.sleep_wake.specs.Acting.{IsConsistent};
 ghost use Rattle.world_core.specs.SavedAgain.{ComesBack};
+ghost use Rattle.world_core_base.specs.Stands.{AreJointSets, AreNamedAsleep};
 ghost use Rattle.world_file.specs.Answers.{IsRefusedBy};
 ghost use Rattle.world_file.specs.Files.{read_of};
 ghost use Rattle.world_rules.specs.Sets.{acting_of};
@@ -15,6 +17,7 @@ ghost use Rattle.world_rules.specs.Sound.{IsSound};
 ghost use Rattle.world_rules.specs.Settled.{settled_world};
 
 use super::WorldCore;
+use crate::copied_parts::{BodyParts, ConstraintParts, JointParts};
 use crate::scratch::Scratch;
 use body_handles::Handles;
 use colour_solver::Rows;
@@ -28,7 +31,7 @@ use serde_json::Value;
 use sleep_wake::Sets;
 use solver_sets::{Anchors, count_members, list_all_ties, list_members};
 use std::alloc::Global;
-use world_core_base::{BodyTable, JointTable};
+use world_core_base::{BodyTable, JointTable, list_joint_stands};
 use world_file::{Broken, read};
 
 /// The contacts of a plain world. Refused 1 where memory is wanting.
@@ -60,6 +63,55 @@ fn sets_of(alloc: Global, plain: &Plain) -> Result<Sets<Constraint>, Refusal>
     Sets::from_parts(alloc, &ties, plain.islands(), &lists, count)
 }
 
+/// The bodies of a plain world and their handles. Refused 1 where memory is wanting.
+fn load_bodies(alloc: Global, plain: &Plain) -> Result<BodyParts, Refusal>
+    requires each { All IsSlotEntry plain.now.slot_entries }
+    requires matched { AreMatched plain.now.slot_entries plain.now.bodies }
+    requires named { AreNamedAsleep plain.now.bodies }
+    ensures slot_entries { IfOk result (λ made. made.handles.slot_entries ≡ plain.now.slot_entries) }
+    ensures bodies { IfOk result (λ made. made.table.bodies ≡ plain.now.bodies) }
+    ensures all { IfOk result (λ made. (slot : ℕ) → slice_index_or made.table.marks slot true ≡ true) }
+    ensures memory_only { IsOkUnless result Refusal.NoMemory }
+{
+    Ok(BodyParts {
+        handles: Handles::from_slot_entries(alloc, plain.slot_entries())?,
+        table: BodyTable::from_bodies(alloc, plain.bodies())?,
+    })
+}
+
+/// The joints of a plain world, their handles, and the sets in which they stand. Refused 1 where memory is wanting.
+fn load_joints(alloc: Global, plain: &Plain) -> Result<JointParts, Refusal>
+    requires each { All IsSlotEntry plain.now.joint_entries }
+    requires matched { AreMatched plain.now.joint_entries plain.now.joints }
+    requires named { AreNamedAsleep plain.now.bodies }
+    ensures slot_entries { IfOk result (λ made. made.handles.slot_entries ≡ plain.now.joint_entries) }
+    ensures joints { IfOk result (λ made. made.table.joints ≡ plain.now.joints) }
+    ensures sets { IfOk result (λ made. AreJointSets plain.now.bodies plain.now.joints made.sets) }
+    ensures memory_only { IsOkUnless result Refusal.NoMemory }
+{
+    Ok(JointParts {
+        handles: Handles::from_slot_entries(alloc, plain.joint_entries())?,
+        table: JointTable::from_joints(alloc, plain.joints())?,
+        sets: list_joint_stands(alloc, plain.bodies(), plain.joints())?,
+    })
+}
+
+/// The contacts of a plain world, its islands, and the colours of its constraints. Refused 1 where memory is wanting.
+fn load_constraints(alloc: Global, plain: &Plain) -> Result<ConstraintParts, Refusal>
+    requires contacts { AreContacts plain.now.contacts }
+    requires consistent { IsConsistent constraint_number (acting_of plain.now) }
+    requires joints { AreMatched plain.now.joint_entries plain.now.joints }
+    requires few { length plain.now.islands ≤ 2 ^ 32 }
+    ensures contacts { IfOk result (λ made. made.contacts.contacts ≡ plain.now.contacts) }
+    ensures acting { IfOk result (λ made. made.sets.acting ≡ acting_of plain.now) }
+    ensures memory_only { IsOkUnless result Refusal.NoMemory }
+{
+    Ok(ConstraintParts {
+        contacts: ContactTable::from_contacts(alloc, contacts_of(alloc, plain)?)?,
+        sets: sets_of(alloc, plain)?,
+    })
+}
+
 impl WorldCore {
     /// The world of these plain lists, with these totals in its ledger, all settled; it has no events. Costs by their size. Refused 1 where
     /// memory is wanting.
@@ -68,13 +120,16 @@ impl WorldCore {
         ensures made { IfOk result (λ made. made ≡ settled_world plain.now totals) }
         ensures memory_only { IsOkUnless result Refusal.NoMemory }
     {
+        let bodies = load_bodies(alloc, plain)?;
+        let joints = load_joints(alloc, plain)?;
+        let constraints = load_constraints(alloc, plain)?;
         Ok(WorldCore {
-            handles: Handles::from_slot_entries(alloc, plain.slot_entries())?,
-            bodies: BodyTable::from_bodies(alloc, plain.bodies())?,
-            joint_handles: Handles::from_slot_entries(alloc, plain.joint_entries())?,
-            joints: JointTable::from_joints(alloc, plain.joints())?,
-            contacts: ContactTable::from_contacts(alloc, contacts_of(alloc, plain)?)?,
-            sets: sets_of(alloc, plain)?,
+            handles: bodies.handles,
+            bodies: bodies.table,
+            joint_handles: joints.handles,
+            joints: joints.table,
+            contacts: constraints.contacts,
+            sets: constraints.sets,
             anchors: Anchors::new(alloc),
             rows: Rows::new(alloc),
             scratch: Scratch::new(alloc),
@@ -83,6 +138,7 @@ impl WorldCore {
             calls: plain.calls(),
             ledger: Ledger::from_totals(alloc, totals),
             events: Events::new(alloc),
+            joint_sets: joints.sets,
         })
     }
 

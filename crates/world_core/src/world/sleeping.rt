@@ -103,7 +103,13 @@ impl WorldCore {
     {
         check_mover(&self.handles, self.bodies.bodies(), handle)?;
         let waking = self.plan_waking(&[handle.slot])?;
-        wake_planned(&mut self.sets, &mut self.bodies, &waking);
+        wake_planned(
+            &mut self.sets,
+            &mut self.bodies,
+            &self.joints,
+            &mut self.joint_sets,
+            &waking,
+        );
         self.calls += 1;
         Ok(Reply::Done)
     }
@@ -115,7 +121,14 @@ impl WorldCore {
         check_mover(&self.handles, self.bodies.bodies(), handle)?;
         self.ledger.reserve(1)?;
         let movers = plan_rest(self.bodies.allocator(), &self.sets, handle.slot)?;
-        let rest = put_to_sleep(&mut self.sets, &mut self.bodies, handle.slot, &movers);
+        let rest = put_to_sleep(
+            &mut self.sets,
+            &mut self.bodies,
+            &self.joints,
+            &mut self.joint_sets,
+            handle.slot,
+            &movers,
+        );
         book(&mut self.ledger, self.calls + 1, Cause::Rest, rest);
         self.calls += 1;
         Ok(Reply::Done)

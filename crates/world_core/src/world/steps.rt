@@ -66,6 +66,8 @@ impl WorldCore {
         carry_out(
             &mut self.contacts,
             &mut self.bodies,
+            &self.joints,
+            &mut self.joint_sets,
             &mut self.sets,
             &mut self.anchors,
             &mut self.scratch.woke,
@@ -85,10 +87,11 @@ impl WorldCore {
         );
         let rest = rest_ready(
             &mut self.bodies,
+            &self.joints,
+            &mut self.joint_sets,
             &mut self.sets,
             &mut self.scratch,
             self.handles.slot_entries(),
-            self.joints.joints(),
             self.contacts.split(),
             ticks,
         );

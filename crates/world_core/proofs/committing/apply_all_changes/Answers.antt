@@ -1,6 +1,7 @@
 use Rattle.contacts.specs.Constraints.{constraint_number}
 use Rattle.sleep_wake.specs.Changes.{after_changes}
 use Rattle.world_rules.proofs.ToldLaws.{told_stays}
+use Rattle.world_core.proofs.KeepLaws.{keep_woken, turned_alike}
 use Rattle.world_core.proofs.SleeperLaws.{woken_listed}
 use Rattle.world_core.proofs.TellingLaws.{awake_beside, after_changes_slept}
 use Rattle.world_core.proofs.committing.apply_all_changes.Goals as goal
@@ -9,12 +10,22 @@ pub fill_newly_awake-requires-clause-all : goal.fill_newly_awake-requires-clause
 fill_newly_awake-requires-clause-all c =
     rw (c.bodies.ensures, c.islands.ensures, c.flush.ensures.acting, c.apply_changes.ensures.acting) (woken_listed c.args.asleep.now c.args.bodies.now.bodies c.args.changes.now c.args.sets.now.acting c.requires.consistent c.requires.told c.requires.can c.requires.sleepers)
 
-pub tell_some-requires-clause-others : goal.tell_some-requires-clause-others
-tell_some-requires-clause-others c =
+pub tell_movers-requires-clause-others : goal.tell_movers-requires-clause-others
+tell_movers-requires-clause-others c =
     let old = c.args.sets.now.acting in
     let bodies = c.args.bodies.now.bodies in
     let all = woken_listed c.args.asleep.now bodies c.args.changes.now old c.requires.consistent c.requires.told c.requires.can c.requires.sleepers in
-    rw (c.islands-2.ensures, c.flush.ensures.acting, c.apply_changes.ensures.acting) (awake_beside c.args.asleep.now bodies old.labels (after_changes constraint_number c.args.changes.now old).labels (told_stays old.labels bodies c.requires.bodies c.requires.told) (after_changes_slept c.args.changes.now old) all)
+    rw (c.flush.ensures.acting, c.apply_changes.ensures.acting) (awake_beside c.args.asleep.now bodies old.labels (after_changes constraint_number c.args.changes.now old).labels (told_stays old.labels bodies c.requires.bodies c.requires.told) (after_changes_slept c.args.changes.now old) all)
+
+pub tell_movers-requires-clause-together : goal.tell_movers-requires-clause-together
+tell_movers-requires-clause-together c =
+    let old = c.args.sets.now.acting in
+    let bodies = c.args.bodies.now.bodies in
+    rw (c.flush.ensures.acting, c.apply_changes.ensures.acting)
+    (keep_woken old.labels (after_changes constraint_number c.args.changes.now old).labels bodies c.requires.bodies (told_stays old.labels bodies c.requires.bodies c.requires.told) (after_changes_slept c.args.changes.now old) (turned_alike c.args.changes.now old))
+
+pub returns-clause-standing : goal.returns-clause-standing
+returns-clause-standing c = rw c.flush-2.ensures.bodies c.tell_movers.ensures.standing
 
 pub returns-clause-marked : goal.returns-clause-marked
-returns-clause-marked c = rw (c.flush-2.ensures.bodies, c.flush-2.ensures.marks) c.tell_some.ensures.marked
+returns-clause-marked c = rw (c.flush-2.ensures.bodies, c.flush-2.ensures.marks) c.tell_movers.ensures.marked

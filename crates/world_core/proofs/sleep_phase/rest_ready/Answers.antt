@@ -1,4 +1,4 @@
-use Rattle.std.proofs.Common.{◌≡◌, ◌≤◌, ◌∙◌, List, Option, length, ap, arith, sym}
+use Rattle.std.proofs.Common.{◌≡◌, ◌≤◌, ◌∙◌, ℕ, List, Option, length, ap, arith, subst, sym}
 use Rattle.body_handles.specs.declared.handle.Handle.{Handle}
 use Rattle.colour_solver.specs.States.{as_vector}
 use Rattle.colour_solver.proofs.VectorLaws.{minus_same}
@@ -15,8 +15,20 @@ use Rattle.world_core.proofs.Whole.{gained_is}
 use Rattle.world_core.proofs.KnownLaws.{marked_after}
 use Rattle.world_core.proofs.QuietSteps.{RestsQuietly, rests_quietly, tied_timed}
 use Rattle.world_core.proofs.RestLaws.{awake_few, awake_rises, awake_slots, newly_asleep_awake, phase_by_awake, tied_rested}
-use Rattle.world_core.proofs.TellingLaws.{fewer_asleep, rested_beside}
+use Rattle.world_core.proofs.TellingLaws.{fewer_asleep, phase_on, rested_beside}
+use Rattle.world_core_base.proofs.JointStandLaws.{joints_alike}
+use Rattle.world_core_base.proofs.StandLaws.{alike_timed}
+use Rattle.sleep_wake.specs.SleepPhase.{sleep_phase}
+use Rattle.contacts.specs.Constraints.{constraint_number}
+use Rattle.plain_world.specs.declared.joint.BodyJoint.{BodyJoint}
+use Rattle.packed_sets.specs.Stands.{Standings}
+use Rattle.plain_world.specs.Bodies.{AreBodies}
+use Rattle.world_core_base.specs.Stands.{AreJointSets, StandAlike}
+use Rattle.world_core_base.proofs.TimeLaws.{length-timed}
+use Rattle.world_rules.proofs.ToldLaws.{told_stays}
+use Rattle.world_core.proofs.KeepLaws.{keep_rested}
 use Rattle.world_core.proofs.sleep_phase.rest_ready.Goals as goal
+use Rattle.world_core.proofs.sleep_phase.rest_ready.Goals.{After-sleep_phase}
 
 pub are_kept_up-quiet-requires-clause-tied : goal.are_kept_up-quiet-requires-clause-tied
 are_kept_up-quiet-requires-clause-tied c = rw (c.bodies.ensures, c.islands.ensures, c.time.ensures.bodies) (tied_timed c.args.ticks c.args.bodies.now.bodies c.args.sets.now.acting.labels c.requires.tied)
@@ -24,10 +36,10 @@ are_kept_up-quiet-requires-clause-tied c = rw (c.bodies.ensures, c.islands.ensur
 pub are_kept_up-quiet-requires-clause-told : goal.are_kept_up-quiet-requires-clause-told
 are_kept_up-quiet-requires-clause-told c = rw (c.bodies.ensures, c.islands.ensures, c.time.ensures.bodies) (timed_told c.args.ticks c.args.bodies.now.bodies c.args.sets.now.acting.labels c.requires.told)
 
-is_quiet : (c : goal.After-clear) → RestsQuietly c.args.ticks c.args.bodies.now.bodies c.args.slot_entries.now c.args.joints.now (contacts_in c.args.contacts.now) c.args.sets.now.acting
+is_quiet : (c : goal.After-clear) → RestsQuietly c.args.ticks c.args.bodies.now.bodies c.args.slot_entries.now c.args.joints.now.joints (contacts_in c.args.contacts.now) c.args.sets.now.acting
 is_quiet c =
-    rests_quietly c.args.ticks c.args.bodies.now.bodies c.args.slot_entries.now c.args.joints.now (contacts_in c.args.contacts.now) c.args.sets.now.acting c.requires.bodies c.requires.tied c.requires.told
-    (rw (c.bodies.ensures, c.islands.ensures, c.time.ensures.bodies) at (c.are_kept_up-quiet.ensures c.if-quiet.true))
+    rests_quietly c.args.ticks c.args.bodies.now.bodies c.args.slot_entries.now c.args.joints.now.joints (contacts_in c.args.contacts.now) c.args.sets.now.acting c.requires.bodies c.requires.tied c.requires.told
+    (rw (c.bodies.ensures, c.joints.ensures, c.islands.ensures, c.time.ensures.bodies) at (c.are_kept_up-quiet.ensures c.if-quiet.true))
 
 pub returns-then-quiet-clause-acting : goal.returns-then-quiet-clause-acting
 returns-then-quiet-clause-acting c = (is_quiet c).acting
@@ -47,6 +59,13 @@ sleep_phase-requires c = record {
       (timed_told c.args.ticks c.args.bodies.now.bodies c.args.sets.now.acting.labels c.requires.told);
 }
 
+-- what the phase makes of the islands
+phased : (c : After-sleep_phase) → c.sleep_phase.new.self.acting ≡ rested_acting (timed_bodies c.args.ticks c.args.bodies.now.bodies) c.args.joints.now.joints (contacts_in c.args.contacts.now) c.args.sets.now.acting
+phased c =
+    phase_by_awake (timed_bodies c.args.ticks c.args.bodies.now.bodies) c.args.joints.now.joints (contacts_in c.args.contacts.now) c.args.sets.now.acting c.sleep_phase.new.self.acting c.awake-2.result.now c.fill_awake_timers.new.timers.items (rw c.time.ensures.bodies at c.awake-2.ensures)
+    (tied_timed c.args.ticks c.args.bodies.now.bodies c.args.sets.now.acting.labels c.requires.tied) (timed_told c.args.ticks c.args.bodies.now.bodies c.args.sets.now.acting.labels c.requires.told)
+    (rw (c.bodies-2.ensures, c.time.ensures.bodies) at c.fill_awake_timers.ensures.size) c.requires.tells (rw (c.bodies-2.ensures, c.joints-2.ensures, c.colours-2.ensures.lists, c.time.ensures.bodies) at c.fill_awake_timers.ensures.same) (rw c.deref.ensures.value at c.sleep_phase.ensures.acting)
+
 pub fill_newly_asleep-requires-clause-rising : goal.fill_newly_asleep-requires-clause-rising
 fill_newly_asleep-requires-clause-rising c = awake_rises c.time.new.self.bodies c.awake-4.result.now c.awake-4.ensures
 
@@ -59,20 +78,14 @@ fill_newly_asleep-requires-clause-all c =
     let timed = timed_bodies c.args.ticks c.args.bodies.now.bodies in
     let tied : AreTied timed c.args.sets.now.acting.labels = tied_timed c.args.ticks c.args.bodies.now.bodies c.args.sets.now.acting.labels c.requires.tied in
     let told : AreTold timed c.args.sets.now.acting.labels = timed_told c.args.ticks c.args.bodies.now.bodies c.args.sets.now.acting.labels c.requires.told in
-    let phase : c.sleep_phase.new.self.acting ≡ rested_acting timed c.args.joints.now (contacts_in c.args.contacts.now) c.args.sets.now.acting =
-    phase_by_awake timed c.args.joints.now (contacts_in c.args.contacts.now) c.args.sets.now.acting c.sleep_phase.new.self.acting c.awake-2.result.now c.fill_awake_timers.new.timers.items (rw c.time.ensures.bodies at c.awake-2.ensures) tied told
-    (rw (c.bodies-2.ensures, c.time.ensures.bodies) at c.fill_awake_timers.ensures.size) c.requires.tells (rw (c.bodies-2.ensures, c.colours-2.ensures.lists, c.time.ensures.bodies) at c.fill_awake_timers.ensures.same) (rw c.deref.ensures.value at c.sleep_phase.ensures.acting) in
     rw (c.bodies-3.ensures, c.islands-2.ensures, c.time.ensures.bodies)
-    (newly_asleep_awake timed c.sleep_phase.new.self.acting.labels c.awake-4.result.now (rw c.time.ensures.bodies at c.awake-4.ensures) (tied_rested (timers_of timed c.args.joints.now (contacts_in c.args.contacts.now)) timed c.args.sets.now.acting c.sleep_phase.new.self.acting c.requires.consistent tied phase))
+    (newly_asleep_awake timed c.sleep_phase.new.self.acting.labels c.awake-4.result.now (rw c.time.ensures.bodies at c.awake-4.ensures) (tied_rested (timers_of timed c.args.joints.now.joints (contacts_in c.args.contacts.now)) timed c.args.sets.now.acting c.sleep_phase.new.self.acting c.requires.consistent tied (phased (goal.at.fill_newly_asleep-requires-clause-all c).After-sleep_phase)))
 
 pub returns-clause-acting : goal.returns-clause-acting
-returns-clause-acting c =
-    phase_by_awake (timed_bodies c.args.ticks c.args.bodies.now.bodies) c.args.joints.now (contacts_in c.args.contacts.now) c.args.sets.now.acting c.sleep_phase.new.self.acting c.awake-2.result.now c.fill_awake_timers.new.timers.items (rw c.time.ensures.bodies at c.awake-2.ensures)
-    (tied_timed c.args.ticks c.args.bodies.now.bodies c.args.sets.now.acting.labels c.requires.tied) (timed_told c.args.ticks c.args.bodies.now.bodies c.args.sets.now.acting.labels c.requires.told)
-    (rw (c.bodies-2.ensures, c.time.ensures.bodies) at c.fill_awake_timers.ensures.size) c.requires.tells (rw (c.bodies-2.ensures, c.colours-2.ensures.lists, c.time.ensures.bodies) at c.fill_awake_timers.ensures.same) (rw c.deref.ensures.value at c.sleep_phase.ensures.acting)
+returns-clause-acting c = phased (goal.at.returns-clause-acting c).After-sleep_phase
 
 pub returns-clause-marked : goal.returns-clause-marked
-returns-clause-marked c = marked_after c.args.bodies.now c.time.new.self c.tell_some.new.self c.time.ensures.marked c.tell_some.ensures.marked
+returns-clause-marked c = marked_after c.args.bodies.now c.time.new.self c.tell_movers.new.bodies c.time.ensures.marked c.tell_movers.ensures.marked
 
 -- ---- those who fall asleep are told
 
@@ -83,23 +96,37 @@ fill_slots-requires c =
     let room = c.requires.slots in
     omega (arith, few, long, room)
 
-pub tell_some-requires-clause-others : goal.tell_some-requires-clause-others
-tell_some-requires-clause-others c =
+pub tell_movers-requires-clause-others : goal.tell_movers-requires-clause-others
+tell_movers-requires-clause-others c =
     let timed = timed_bodies c.args.ticks c.args.bodies.now.bodies in
     let told : AreTold timed c.args.sets.now.acting.labels = timed_told c.args.ticks c.args.bodies.now.bodies c.args.sets.now.acting.labels c.requires.told in
-    let phase : c.sleep_phase.new.self.acting ≡ rested_acting timed c.args.joints.now (contacts_in c.args.contacts.now) c.args.sets.now.acting =
-    phase_by_awake timed c.args.joints.now (contacts_in c.args.contacts.now) c.args.sets.now.acting c.sleep_phase.new.self.acting c.awake-2.result.now c.fill_awake_timers.new.timers.items (rw c.time.ensures.bodies at c.awake-2.ensures)
-    (tied_timed c.args.ticks c.args.bodies.now.bodies c.args.sets.now.acting.labels c.requires.tied) told
-    (rw (c.bodies-2.ensures, c.time.ensures.bodies) at c.fill_awake_timers.ensures.size) c.requires.tells (rw (c.bodies-2.ensures, c.colours-2.ensures.lists, c.time.ensures.bodies) at c.fill_awake_timers.ensures.same) (rw c.deref.ensures.value at c.sleep_phase.ensures.acting) in
     let same : length c.time.new.self.bodies ≡ length timed = ap (λ (bs : List (Option Body)). length bs) c.time.ensures.bodies in
     let kept : length c.time.new.self.bodies ≡ length c.args.bodies.now.bodies = c.time.ensures.slots.slots in
     let room = c.requires.slot_entries in
     let long : length timed ≤ length c.args.slot_entries.now = omega (arith, same, kept, room) in
-    rw (c.deref-3.ensures.value, c.fill_slots.ensures.slots, c.deref-2.ensures.value, c.fill_newly_asleep.ensures.handles, c.bodies-3.ensures, c.islands-2.ensures, c.islands-3.ensures, c.time.ensures.bodies)
-    (rested_beside c.args.slot_entries.now timed c.args.sets.now.acting c.sleep_phase.new.self.acting (timers_of timed c.args.joints.now (contacts_in c.args.contacts.now)) long (timed_are_bodies c.args.ticks c.args.bodies.now.bodies c.requires.bodies) told c.requires.consistent phase)
+    rw (c.deref-3.ensures.value, c.fill_slots.ensures.slots, c.deref-2.ensures.value, c.fill_newly_asleep.ensures.handles, c.bodies-3.ensures, c.islands-2.ensures, c.time.ensures.bodies)
+    (rested_beside c.args.slot_entries.now timed c.args.sets.now.acting c.sleep_phase.new.self.acting (timers_of timed c.args.joints.now.joints (contacts_in c.args.contacts.now)) long (timed_are_bodies c.args.ticks c.args.bodies.now.bodies c.requires.bodies) told c.requires.consistent (phased (goal.at.tell_movers-requires-clause-others c).After-sleep_phase))
+
+pub tell_movers-requires-clause-together : goal.tell_movers-requires-clause-together
+tell_movers-requires-clause-together c =
+    let timed = timed_bodies c.args.ticks c.args.bodies.now.bodies in
+    let timers = timers_of timed c.args.joints.now.joints (contacts_in c.args.contacts.now) in
+    let s = c.args.sets.now.acting in
+    let told : AreTold timed s.labels = timed_told c.args.ticks c.args.bodies.now.bodies s.labels c.requires.told in
+    let are : AreBodies timed = timed_are_bodies c.args.ticks c.args.bodies.now.bodies c.requires.bodies in
+    rw (c.time.ensures.bodies, phased (goal.at.tell_movers-requires-clause-together c).After-sleep_phase) (keep_rested s.labels (sleep_phase constraint_number timers s).labels timed are (told_stays s.labels timed are told) (phase_on timers s c.requires.consistent))
+
+standing_timed : (ticks : ℕ) (bodies now : List (Option Body)) (joints : List (Option BodyJoint)) (sets : Standings) → now ≡ timed_bodies ticks bodies → AreJointSets bodies joints sets → AreJointSets now joints sets
+standing_timed ticks bodies now joints sets e are = joints_alike bodies now joints sets (let long = ap (λ (os : List (Option Body)). length os) e ∙ length-timed ticks bodies in omega (arith, long)) (subst (StandAlike bodies) (sym e) (alike_timed ticks bodies)) are
+
+pub tell_movers-requires-clause-standing : goal.tell_movers-requires-clause-standing
+tell_movers-requires-clause-standing c = standing_timed c.args.ticks c.args.bodies.now.bodies c.time.new.self.bodies c.args.joints.now.joints c.args.stands.now c.time.ensures.bodies c.requires.standing
+
+pub returns-then-quiet-clause-standing : goal.returns-then-quiet-clause-standing
+returns-then-quiet-clause-standing c = standing_timed c.args.ticks c.args.bodies.now.bodies c.time.new.self.bodies c.args.joints.now.joints c.args.stands.now c.time.ensures.bodies c.requires.standing
 
 pub returns-then-quiet-clause-gain : goal.returns-then-quiet-clause-gain
 returns-then-quiet-clause-gain c = rw c.time.ensures.bodies (sym (minus_same (momentum (timed_bodies c.args.ticks c.args.bodies.now.bodies))))
 
 pub returns-clause-gain : goal.returns-clause-gain
-returns-clause-gain c = gained_is (momentum c.tell_some.new.self.bodies) (momentum (timed_bodies c.args.ticks c.args.bodies.now.bodies)) (as_vector c.tell_some.result) (rw c.time.ensures.bodies at c.tell_some.ensures.momentum)
+returns-clause-gain c = gained_is (momentum c.tell_movers.new.bodies.bodies) (momentum (timed_bodies c.args.ticks c.args.bodies.now.bodies)) (as_vector c.tell_movers.result) (rw c.time.ensures.bodies at c.tell_movers.ensures.momentum)

@@ -18,6 +18,7 @@ use Rattle.world_core_base.proofs.JointLaws.{bare_rows}
 use Rattle.world_core_base.proofs.RowColourLaws.{gathered_apart}
 use Rattle.world_core_base.proofs.SolvingJoints.{bare_joints}
 use Rattle.world_core.proofs.ForbiddenLaws.{barely_pairs}
+use Rattle.world_core.proofs.ChangedJointLaws.{barely_ends}
 use Rattle.world_core.proofs.solving.solve.Given
 use Rattle.world_core.proofs.solving.solve.Goals as goal
 
@@ -59,6 +60,9 @@ returns-clause-pairs g c = c.put_impulses.ensures.contacts c.args.bodies.now.bod
 
 pub returns-clause-forbidden : goal.returns-clause-forbidden
 returns-clause-forbidden g c = barely_pairs c.args.joints.now.joints c.put_impulses.new.joints.joints (ap bare_joints c.put_impulses.ensures.joints ∙ bare_rows c.args.joints.now.joints (joints_among (all_rows c.run-sums.new.rows)))
+
+pub returns-clause-ends : goal.returns-clause-ends
+returns-clause-ends g c = barely_ends c.args.joints.now.joints c.put_impulses.new.joints.joints (ap bare_joints c.put_impulses.ensures.joints ∙ bare_rows c.args.joints.now.joints (joints_among (all_rows c.run-sums.new.rows)))
 
 pub returns-clause-numbers : goal.returns-clause-numbers
 returns-clause-numbers g c = ap (λ (es : List ContactEntry). map number_of es) c.put_impulses.ensures.value ∙ keys_stay c.args.contacts.now.contacts (contacts_among (all_rows c.run-sums.new.rows))

@@ -1,9 +1,19 @@
 use Rattle.world_core_base.proofs.MarkedLaws.{marked_same}
+use Rattle.contacts.specs.Constraints.{constraint_number}
+use Rattle.sleep_wake.specs.Sleeping.{islands_woken}
+use Rattle.world_core.proofs.KeepLaws.{islands_alike, islands_slept, keep_woken}
 use Rattle.world_core.proofs.TellingLaws.{woken_beside}
 use Rattle.world_core.proofs.wake_and_sleep.wake_planned.Goals as goal
 
-pub tell_some-requires-clause-others : goal.tell_some-requires-clause-others
-tell_some-requires-clause-others c = rw (c.islands.ensures, c.wake_named.ensures.acting, c.deref.ensures.value, c.deref-2.ensures.value) (woken_beside c.args.waking.now.names.items c.args.waking.now.movers.items c.args.sets.now.acting c.args.bodies.now.bodies c.requires.movers c.requires.told)
+pub tell_movers-requires-clause-others : goal.tell_movers-requires-clause-others
+tell_movers-requires-clause-others c = rw (c.wake_named.ensures.acting, c.deref.ensures.value, c.deref-2.ensures.value) (woken_beside c.args.waking.now.names.items c.args.waking.now.movers.items c.args.sets.now.acting c.args.bodies.now.bodies c.requires.movers c.requires.told)
+
+pub tell_movers-requires-clause-together : goal.tell_movers-requires-clause-together
+tell_movers-requires-clause-together c =
+    let s = c.args.sets.now.acting in
+    let names = c.args.waking.now.names.items in
+    rw (c.wake_named.ensures.acting, c.deref.ensures.value)
+    (keep_woken s.labels (islands_woken constraint_number names s).labels c.args.bodies.now.bodies c.requires.bodies c.requires.told (islands_slept names s) (islands_alike names s))
 
 pub returns-then-is_empty-clause-marked : goal.returns-then-is_empty-clause-marked
 returns-then-is_empty-clause-marked c = marked_same c.args.bodies.now.bodies c.args.bodies.now.marks

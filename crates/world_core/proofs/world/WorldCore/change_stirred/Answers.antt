@@ -5,6 +5,7 @@ use Rattle.solver_sets.specs.Beside.{stirred_by}
 use Rattle.world_rules.specs.World.{World}
 use Rattle.world_core.specs.contracts.world.WorldCore.{the_view}
 use Rattle.world_core.proofs.Whole.{HasWoken, changed_whole, has_woken, told_whole}
+use Rattle.world_core_base.proofs.JointStandLaws.{joints_alike, same_long}
 use Rattle.world_core.proofs.CoreLaws.{core_bodies}
 use Rattle.world_core.proofs.KnownLaws.{marked_after}
 use Rattle.world_core.proofs.FewerTies.{fewer_woken}
@@ -37,3 +38,4 @@ invariant_of-self g c =
     refl refl refl refl
     (marked_after c.self.inside.bodies c.wake_planned.new.bodies c.change.new.self c.wake_planned.ensures.marked c.change.ensures.marked)
     c.tidy.new.self (c.tidy.ensures.complete (complete_with_fewer c.self.inside.anchors.holds c.self.inside.anchors.lists c.self.inside.sets.acting.ties c.wake_planned.new.sets.acting.ties (fewer_woken c.in_ok-waking.waking.names.items c.self.inside.sets.acting c.wake_planned.new.sets.acting c.wake_planned.ensures.acting) c.self.invariant.anchored))
+    c.wake_planned.new.stands (joints_alike c.wake_planned.new.bodies.bodies c.change.new.self.bodies c.self.inside.joints.joints c.wake_planned.new.stands (same_long c.wake_planned.new.bodies.bodies c.change.new.self.bodies c.args.handle.slot _ c.change.ensures.bodies) c.change.ensures.stands c.wake_planned.ensures.standing)

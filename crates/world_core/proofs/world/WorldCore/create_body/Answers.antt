@@ -10,6 +10,9 @@ use Rattle.world_rules.proofs.KeptMade.{free_slot}
 use Rattle.world_rules.proofs.PartsLeft.{create_left}
 use Rattle.world_core.specs.contracts.world.WorldCore.{the_view}
 use Rattle.world_core.proofs.PartLaws.{create_answers, free_label, kept_of, same_handle, whole}
+use Rattle.world_core_base.proofs.JointStandLaws.{joints_made}
+use Rattle.world_core_base.proofs.StandLaws.{same_more}
+use Rattle.world_core_base.proofs.TableLaws.{length-with_body}
 use Rattle.world_core.proofs.CoreLaws.{core_bodies}
 use Rattle.world_core.proofs.KnownLaws.{marked_after}
 use Rattle.world_core.proofs.FewerTies.{fewer_made, fewer_reserved}
@@ -37,6 +40,9 @@ reserve_one-requires-2-clause-next c =
 
 pub reserve_one-requires-2-clause-free : goal.reserve_one-requires-2-clause-free
 reserve_one-requires-2-clause-free c = rw (c.next_slot.ensures, c.in_ok-reserve_one.ensures.kept) (free_slot (the_view c.self.inside) (kept_of _ _ c.self.invariant.whole))
+
+pub put-requires-clause-up : goal.put-requires-clause-up
+put-requires-clause-up c = rw c.in_ok-body.ensures.made refl
 
 pub put-requires-clause-covered : goal.put-requires-clause-covered
 put-requires-clause-covered c =
@@ -68,6 +74,14 @@ invariant_of-self-2 c =
     (marked_after c.self.inside.bodies c.reserve_one-2.new.self c.put.new.self c.in_ok-reserve_one-2.ensures.marked c.put.ensures.marked)
     c.self.inside.anchors (complete_with_fewer c.self.inside.anchors.holds c.self.inside.anchors.lists c.self.inside.sets.acting.ties _ (fewer_reserved c.self.inside.sets.acting c.reserve.new.self.acting c.widen.new.self.acting c.in_ok-reserve.ensures.acting
     (fewer_made c.is_mover.result c.in_ok-handle.handle.slot _ c.reserve.new.self.acting c.come.new.sets.acting c.widen.new.self.acting c.come.ensures.acting c.widen.ensures.acting)) c.self.invariant.anchored)
+    c.reserve-2.new.self
+    (rw (c.put.ensures.bodies, c.in_ok-handle.ensures.slot, c.in_ok-reserve_one.ensures.kept, c.in_ok-body.ensures.made, c.in_ok-reserve_one-2.ensures.bodies)
+    (joints_made w.plain.bodies w.plain.joints (lowest w.plain.slot_entries) (made c.args.def.now) c.self.inside.joint_sets c.reserve-2.new.self (kept_of _ _ c.self.invariant.whole).joints (free_slot w (kept_of _ _ c.self.invariant.whole))
+    (let least : lowest w.plain.slot_entries ≤ length w.plain.slot_entries = lowest-le-length w.plain.slot_entries in let slots : length w.plain.slot_entries ≡ length w.plain.bodies = (kept_of _ _ c.self.invariant.whole).matched.slots in omega (arith, least, slots))
+    (rw c.in_ok-reserve-2.ensures.stands (same_more 0 c.self.inside.joint_sets.stands))
+    (let least : lowest w.plain.slot_entries ≤ length w.plain.slot_entries = lowest-le-length w.plain.slot_entries in let slots : length w.plain.slot_entries ≡ length w.plain.bodies = (kept_of _ _ c.self.invariant.whole).matched.slots in
+    let more = length-with_body w.plain.bodies (lowest w.plain.slot_entries) (made c.args.def.now) (omega (arith, least, slots)) in let room = rw (c.bodies-2.ensures, c.in_ok-reserve_one-2.ensures.bodies) at c.in_ok-reserve-2.ensures.named in omega (arith, more, room))
+    c.self.invariant.standing))
 
 pub returns : goal.returns
 returns c =

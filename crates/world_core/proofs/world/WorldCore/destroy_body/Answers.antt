@@ -1,11 +1,18 @@
-use Rattle.std.proofs.Common.{◌≡◌, ◌∙◌, ◌<◌, ◌^◌, Some, sym, ap, arith, refl, List, Option, None}
+use Rattle.std.proofs.Common.{◌≡◌, ◌∙◌, ◌<◌, ◌^◌, true, Some, sym, ap, arith, refl, List, Option, None}
 use Rattle.contacts_base.specs.Contacts.{contacts_without}
 use Rattle.solver_sets.specs.Ties.{JointSlots}
-use Rattle.world_rules.specs.World.{World, body_named}
+use Rattle.world_rules.specs.World.{World, body_named, joints_in_slots}
 use Rattle.world_rules.proofs.KeptChanges.{named_at}
 use Rattle.world_core.specs.contracts.world.WorldCore.{the_view}
 use Rattle.world_core.proofs.Whole.{told_whole}
 use Rattle.world_core.proofs.GoingLaws.{IsGoing, is_going, there_still}
+use Rattle.world_core.proofs.KeepLaws.{stirred_listed}
+use Rattle.world_core.proofs.ListedJointLaws.{own_stirred_listed}
+use Rattle.world_core.proofs.ChangedJointLaws.{body_leaves, joints_leave}
+use Rattle.world_core_base.proofs.OwnJointLaws.{listed_end}
+use Rattle.world_core_base.specs.Stands.{joint_stand}
+use Rattle.packed_sets.specs.Stands.{is_listed}
+use Rattle.plain_world.specs.Joints.{is_end_in, joint_at}
 use Rattle.world_core.proofs.LeavingLaws.{destroyed_quietly}
 use Rattle.world_core.proofs.PartLaws.{destroy_answers, entry_fits, kept_of, whole}
 use Rattle.plain_world.specs.declared.body.Body.{Body}
@@ -41,8 +48,23 @@ leave-requires-clause-awake c = (going c).awake
 pub leave-requires-clause-alone : goal.leave-requires-clause-alone
 leave-requires-clause-alone c = (going c).alone
 
-pub clear-requires : goal.clear-requires
-clear-requires c = there_still (the_view c.self.inside) c.args.handle c.in-Some.body.now _ _ (rw (← c.bodies.ensures) (sym c.in-Some.ensures)) c.wake_planned.ensures.told
+pub clear-requires-clause-slot : goal.clear-requires-clause-slot
+clear-requires-clause-slot c = there_still (the_view c.self.inside) c.args.handle c.in-Some.body.now _ _ (rw (← c.bodies.ensures) (sym c.in-Some.ensures)) c.wake_planned.ensures.told
+
+pub clear-requires-clause-listed : goal.clear-requires-clause-listed
+clear-requires-clause-listed c =
+    let w : World = the_view c.self.inside in
+    let left = (goal.at.clear-requires-clause-listed c).After-deref-2 in
+    rw (c.wake_planned.ensures.told, (going left).bodies) (stirred_listed w c.self.inside.sets.acting c.args.handle.slot c.in-Some.body.now c.self.invariant.whole (named_at w.plain c.args.handle c.in-Some.body.now (named left)))
+
+pub drop_joint_stands-requires : goal.drop_joint_stands-requires
+drop_joint_stands-requires c k h =
+    let w : World = the_view c.self.inside in
+    let left = (goal.at.drop_joint_stands-requires c).After-deref-2 in
+    let slot = c.args.handle.slot in
+    let own : is_end_in slot (joint_at w.plain.joints k) ≡ true = listed_end slot k w.plain.joints c.deref-3.result.now (c.deref-3.ensures.value ∙ c.in_ok-own.ensures.slots) h in
+    let listed : is_listed (joint_stand c.wake_planned.new.bodies.bodies w.plain.joints k) ≡ true = rw (c.wake_planned.ensures.told, (going left).bodies) (own_stirred_listed w c.self.inside.sets.acting slot k c.self.invariant.whole own) in
+    ap is_listed (c.wake_planned.ensures.standing.stands k) ∙ listed
 
 pub book-requires-clause-fits : goal.book-requires-clause-fits
 book-requires-clause-fits c =
@@ -64,6 +86,11 @@ invariant_of-self-2 c =
     refl refl (named_at w.plain c.args.handle c.in-Some.body.now is_named) none
     (marked_after c.self.inside.bodies c.wake_planned.new.bodies c.clear.new.self c.wake_planned.ensures.marked c.clear.ensures.marked) joints (c.drop_of_body.ensures ∙ ap (contacts_without c.args.handle.slot) c.in_ok-reserve_drop.ensures.contacts)
     c.self.inside.anchors (complete_with_fewer c.self.inside.anchors.holds c.self.inside.anchors.lists c.self.inside.sets.acting.ties _ (fewer_left c.is_mover-mover.result c.args.handle.slot c.in_ok-waking.waking.names.items c.deref-2.result.now c.self.inside.sets.acting c.wake_planned.new.sets.acting c.leave.new.sets.acting c.wake_planned.ensures.acting c.leave.ensures.acting) c.self.invariant.anchored)
+    c.drop_joint_stands.new.sets
+    (rw (c.clear.ensures.bodies, joints)
+    (body_leaves c.wake_planned.new.bodies.bodies c.args.handle.slot (joints_in_slots w.plain) c.drop_joint_stands.new.sets
+    (joints_leave c.wake_planned.new.bodies.bodies c.args.handle.slot (joints_in_slots w.plain) c.deref-3.result.now c.wake_planned.new.stands c.drop_joint_stands.new.sets (c.deref-3.ensures.value ∙ c.in_ok-own.ensures.slots) c.drop_joint_stands.ensures.gone c.drop_joint_stands.ensures.others c.drop_joint_stands.ensures.names
+    c.wake_planned.ensures.standing)))
 
 pub returns : goal.returns
 returns c =

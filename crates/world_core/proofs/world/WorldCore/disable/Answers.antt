@@ -1,10 +1,23 @@
-use Rattle.std.proofs.Common.{◌≡◌, ◌∙◌, ◌<◌, ◌^◌, Some, sym, ap, arith, refl}
+use Rattle.std.proofs.Common.{◌≡◌, ◌∙◌, ℕ, ◌<◌, ◌^◌, true, length, List, Option, Some, sym, ap, arith, refl}
+use Rattle.std.specs.Prelude.{option_map}
+use Rattle.std.proofs.lemmas.List.{length-set}
+use Rattle.packed_sets.specs.Stands.{is_listed, stand_at}
+use Rattle.plain_world.specs.declared.body.Body.{Body}
+use Rattle.plain_world.specs.Changes.{changed_at, disabled_body}
+use Rattle.plain_world.specs.Joints.{idle_joints, is_end_in, joint_at}
+use Rattle.plain_world.specs.Slots.{body_at}
+use Rattle.world_core_base.proofs.JointStandLaws.{changed_beside, changed_can_follow, joints_by_ends}
+use Rattle.world_core_base.specs.Stands.{AreNamedAsleep, joint_stand}
+use Rattle.world_rules.proofs.PartsLeft.{stirred_slots}
+use Rattle.world_core.proofs.ChangedJointLaws.{disabled_named, idle_ends, idle_own, others_stand}
+use Rattle.world_core.proofs.ListedJointLaws.{own_stirred_listed, woken_named}
 use Rattle.contacts_base.specs.Contacts.{contacts_without}
 use Rattle.world_rules.specs.World.{World, body_named}
 use Rattle.world_rules.proofs.KeptChanges.{named_at}
 use Rattle.world_core.specs.contracts.world.WorldCore.{the_view}
 use Rattle.world_core.proofs.Whole.{told_whole}
 use Rattle.world_core.proofs.GoingLaws.{IsGoing, is_going, there_still}
+use Rattle.world_core.proofs.KeepLaws.{stirred_listed}
 use Rattle.world_core.proofs.LeavingLaws.{disabled_quietly}
 use Rattle.world_core.proofs.PartLaws.{disable_answers, entry_fits, kept_of, whole}
 use Rattle.world_core.proofs.CoreLaws.{core_disabled}
@@ -37,8 +50,48 @@ leave-requires-clause-awake c = (going c).awake
 pub leave-requires-clause-alone : goal.leave-requires-clause-alone
 leave-requires-clause-alone c = (going c).alone
 
-pub disable-requires : goal.disable-requires
-disable-requires c = there_still (the_view c.self.inside) c.args.handle c.in-Some.body.now _ _ (rw (← c.bodies.ensures) (sym c.in-Some.ensures)) c.wake_planned.ensures.told
+pub disable-requires-clause-slot : goal.disable-requires-clause-slot
+disable-requires-clause-slot c = there_still (the_view c.self.inside) c.args.handle c.in-Some.body.now _ _ (rw (← c.bodies.ensures) (sym c.in-Some.ensures)) c.wake_planned.ensures.told
+
+pub disable-requires-clause-listed : goal.disable-requires-clause-listed
+disable-requires-clause-listed c =
+    let w : World = the_view c.self.inside in
+    let left = (goal.at.disable-requires-clause-listed c).After-deref-2 in
+    rw (c.wake_planned.ensures.told, (going left).bodies) (stirred_listed w c.self.inside.sets.acting c.args.handle.slot c.in-Some.body.now c.self.invariant.whole (named_at w.plain c.args.handle c.in-Some.body.now (named left)))
+
+-- joints stand where they stood with their impulses
+idle_standing : (c : After-deref-2) (k : ℕ) → stand_at c.wake_planned.new.stands.stands k ≡ joint_stand c.wake_planned.new.bodies.bodies (idle_joints c.args.handle.slot c.self.inside.joints.joints) k
+idle_standing c k =
+    (joints_by_ends c.wake_planned.new.bodies.bodies c.self.inside.joints.joints (idle_joints c.args.handle.slot c.self.inside.joints.joints) c.wake_planned.new.stands (idle_ends c.args.handle.slot c.self.inside.joints.joints) c.wake_planned.ensures.standing).stands k
+
+-- those of the body stand in lists
+idle_listed : (c : After-deref-2) (k : ℕ) → is_end_in c.args.handle.slot (joint_at (idle_joints c.args.handle.slot c.self.inside.joints.joints) k) ≡ true → is_listed (stand_at c.wake_planned.new.stands.stands k) ≡ true
+idle_listed c k end =
+    let w : World = the_view c.self.inside in
+    let slot = c.args.handle.slot in
+    let own : is_end_in slot (joint_at w.plain.joints k) ≡ true = sym (idle_own slot w.plain.joints k) ∙ end in
+    let listed : is_listed (joint_stand c.wake_planned.new.bodies.bodies w.plain.joints k) ≡ true = rw (c.wake_planned.ensures.told, (going c).bodies) (own_stirred_listed w c.self.inside.sets.acting slot k c.self.invariant.whole own) in
+    ap is_listed (c.wake_planned.ensures.standing.stands k) ∙ listed
+
+pub follow-requires-clause-can : goal.follow-requires-clause-can
+follow-requires-clause-can c =
+    let w : World = the_view c.self.inside in
+    let slot = c.args.handle.slot in
+    let woke = c.wake_planned.new.bodies.bodies in
+    let there : slot < length woke = there_still w c.args.handle c.in-Some.body.now _ _ (rw (← c.bodies.ensures) (sym c.in-Some.ensures)) c.wake_planned.ensures.told in
+    let left = (goal.at.follow-requires-clause-can c).After-deref-2 in
+    let named : AreNamedAsleep woke = rw (c.wake_planned.ensures.told, (going left).bodies) (woken_named w c.self.inside.sets.acting (stirred_slots w.plain slot) c.self.invariant.whole) in
+    rw (c.bodies-2.ensures, c.disable.ensures.bodies, c.idle.ensures)
+    (changed_can_follow woke (changed_at disabled_body woke slot) (idle_joints slot w.plain.joints) slot (stand_at c.wake_planned.new.stands.stands) c.wake_planned.new.stands.names (idle_standing left) (others_stand disabled_body woke slot) (idle_listed left)
+    (disabled_named woke slot c.wake_planned.new.stands.names named c.wake_planned.ensures.standing.names there))
+
+pub follow-requires-clause-others : goal.follow-requires-clause-others
+follow-requires-clause-others c k =
+    let slot = c.args.handle.slot in
+    let woke = c.wake_planned.new.bodies.bodies in
+    let left = (goal.at.follow-requires-clause-others c).After-deref-2 in
+    rw (c.bodies-2.ensures, c.disable.ensures.bodies, c.idle.ensures)
+    (changed_beside woke (changed_at disabled_body woke slot) (idle_joints slot c.self.inside.joints.joints) slot (stand_at c.wake_planned.new.stands.stands) (idle_standing left) (others_stand disabled_body woke slot) k)
 
 pub book-requires-clause-fits : goal.book-requires-clause-fits
 book-requires-clause-fits c =
@@ -57,6 +110,15 @@ invariant_of-self-2 c =
     refl refl (named_at w.plain c.args.handle c.in-Some.body.now is_named) c.if-not-body.false c.disable.ensures.bodies
     (marked_after c.self.inside.bodies c.wake_planned.new.bodies c.disable.new.self c.wake_planned.ensures.marked c.disable.ensures.marked) c.idle.ensures (c.drop_of_body.ensures ∙ ap (contacts_without c.args.handle.slot) c.in_ok-reserve_drop.ensures.contacts)
     c.self.inside.anchors (complete_with_fewer c.self.inside.anchors.holds c.self.inside.anchors.lists c.self.inside.sets.acting.ties _ (fewer_left c.is_mover-mover.result c.args.handle.slot c.in_ok-waking.waking.names.items c.deref-2.result.now c.self.inside.sets.acting c.wake_planned.new.sets.acting c.leave.new.sets.acting c.wake_planned.ensures.acting c.leave.ensures.acting) c.self.invariant.anchored)
+    c.follow.new.sets (record {
+      stands = rw c.bodies-2.ensures at c.follow.ensures.stands;
+      names =
+          let woke = c.wake_planned.new.bodies.bodies in
+          let long : length c.disable.new.self.bodies ≡ length woke = ap (λ (os : List (Option Body)). length os) c.disable.ensures.bodies ∙ length-set woke c.args.handle.slot (option_map disabled_body (body_at woke c.args.handle.slot)) in
+          let room = c.wake_planned.ensures.standing.names in
+          let names = c.follow.ensures.names in
+          omega (arith, long, room, names);
+    })
 
 pub returns : goal.returns
 returns c =

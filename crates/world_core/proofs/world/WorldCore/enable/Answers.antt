@@ -1,4 +1,18 @@
-use Rattle.std.proofs.Common.{◌≡◌, ◌∙◌, ◌<◌, ◌^◌, Some, sym, arith, refl}
+use Rattle.std.proofs.Common.{◌≡◌, ◌∙◌, ℕ, ◌<◌, ◌^◌, length, List, Option, Some, ap, sym, arith, refl}
+use Rattle.std.specs.Prelude.{option_map}
+use Rattle.std.proofs.lemmas.List.{length-set}
+use Rattle.body_handles.specs.declared.handle.Handle.{Handle}
+use Rattle.packed_sets.specs.Stands.{is_listed, stand_at}
+use Rattle.plain_world.specs.declared.body.Body.{Body}
+use Rattle.plain_world.specs.Changes.{changed_at, enabled_body}
+use Rattle.plain_world.specs.Joints.{joint_at}
+use Rattle.plain_world.specs.Slots.{body_at}
+use Rattle.solver_sets.specs.Beside.{joined_to}
+use Rattle.world_core_base.proofs.JointStandLaws.{changed_beside, changed_can_follow}
+use Rattle.world_core_base.specs.Stands.{AreNamedAsleep}
+use Rattle.world_rules.proofs.KeptChanges.{named_at}
+use Rattle.world_core.proofs.ChangedJointLaws.{enabled_named, others_stand}
+use Rattle.world_core.proofs.ListedJointLaws.{off_listed, woken_disabled, woken_named}
 use Rattle.world_rules.specs.World.{World, body_named}
 use Rattle.world_rules.proofs.KeptMade.{come_ties}
 use Rattle.world_rules.proofs.PartsLeft.{enable_left, enabled_left}
@@ -23,7 +37,7 @@ pub invariant_of-self : goal.invariant_of-self
 invariant_of-self c =
     let w : World = the_view c.self.inside in
     let calls : c.self.inside.calls < 2 ^ 40 = rw (← c.self.view_is) at c.requires in
-    record { whole = whole w _ _ _ (enabled_left w c.self.inside.sets.acting c.args.handle c.in-Some.body.now (kept_of _ _ c.self.invariant.whole) c.self.invariant.whole.same calls c.if-body.true); known = c.self.invariant.known; anchored = c.self.invariant.anchored }
+    record { whole = whole w _ _ _ (enabled_left w c.self.inside.sets.acting c.args.handle c.in-Some.body.now (kept_of _ _ c.self.invariant.whole) c.self.invariant.whole.same calls c.if-body.true); known = c.self.invariant.known; anchored = c.self.invariant.anchored; standing = c.self.invariant.standing }
 
 pub enable-requires-clause-slot : goal.enable-requires-clause-slot
 enable-requires-clause-slot c =
@@ -37,6 +51,35 @@ enable-requires-clause-disabled c =
     let named : body_named w.plain c.args.handle ≡ Some c.in-Some.body.now = rw (← c.bodies.ensures) (sym c.in-Some.ensures) in
     rw (c.wake_planned.ensures.told, c.wake_planned.ensures.acting, c.in_ok-reserve.ensures.acting, (rw (← c.self.view_is) at c.in_ok-waking.ensures.names), c.deref-2.ensures.value, c.in_ok-joined.ensures.slots, c.bodies-2.ensures, c.joints.ensures)
     (can_enable_from w c.self.inside.sets.acting c.args.handle c.in-Some.body.now c.self.invariant.whole named c.if-body.false).off
+
+-- the slots of the movers at the other ends of its joints, whose islands were woken
+abbrev joined_at : World → Handle → List ℕ
+joined_at w h = joined_to w.plain.bodies w.plain.joints h.slot
+
+pub follow-requires-clause-can : goal.follow-requires-clause-can
+follow-requires-clause-can c =
+    let w : World = the_view c.self.inside in
+    let slot = c.args.handle.slot in
+    let woke = c.wake_planned.new.bodies.bodies in
+    let named : body_named w.plain c.args.handle ≡ Some c.in-Some.body.now = rw (← c.bodies.ensures) (sym c.in-Some.ensures) in
+    let there : slot < length woke = rw (c.wake_planned.ensures.told, length_told c.wake_planned.new.sets.acting.labels c.self.inside.bodies.bodies) (body_below w c.args.handle c.in-Some.body.now named) in
+    let at : body_at woke slot ≡ Some c.in-Some.body.now =
+    rw (c.wake_planned.ensures.told, c.wake_planned.ensures.acting, c.in_ok-reserve.ensures.acting, (rw (← c.self.view_is) at c.in_ok-waking.ensures.names), c.deref-2.ensures.value, c.in_ok-joined.ensures.slots, c.bodies-2.ensures, c.joints.ensures)
+    (woken_disabled w c.self.inside.sets.acting (joined_at w c.args.handle) slot c.in-Some.body.now c.self.invariant.whole (named_at w.plain c.args.handle c.in-Some.body.now named) c.if-body.false) in
+    let asleep : AreNamedAsleep woke =
+    rw (c.wake_planned.ensures.told, c.wake_planned.ensures.acting, c.in_ok-reserve.ensures.acting, (rw (← c.self.view_is) at c.in_ok-waking.ensures.names), c.deref-2.ensures.value, c.in_ok-joined.ensures.slots, c.bodies-2.ensures, c.joints.ensures)
+    (woken_named w c.self.inside.sets.acting (joined_at w c.args.handle) c.self.invariant.whole) in
+    rw (c.bodies-5.ensures, c.enable.ensures.bodies)
+    (changed_can_follow woke (changed_at enabled_body woke slot) w.plain.joints slot (stand_at c.wake_planned.new.stands.stands) c.wake_planned.new.stands.names c.wake_planned.ensures.standing.stands (others_stand enabled_body woke slot)
+    (λ k end. ap is_listed (c.wake_planned.ensures.standing.stands k) ∙ off_listed woke slot c.in-Some.body.now (joint_at w.plain.joints k) at c.if-body.false end)
+    (enabled_named woke slot c.wake_planned.new.stands.names asleep c.wake_planned.ensures.standing.names there))
+
+pub follow-requires-clause-others : goal.follow-requires-clause-others
+follow-requires-clause-others c k =
+    let slot = c.args.handle.slot in
+    let woke = c.wake_planned.new.bodies.bodies in
+    rw (c.bodies-5.ensures, c.enable.ensures.bodies)
+    (changed_beside woke (changed_at enabled_body woke slot) c.self.inside.joints.joints slot (stand_at c.wake_planned.new.stands.stands) c.wake_planned.ensures.standing.stands (others_stand enabled_body woke slot) k)
 
 pub come-requires-clause-fresh : goal.come-requires-clause-fresh
 come-requires-clause-fresh c =
@@ -80,6 +123,15 @@ invariant_of-self-2 c =
     c.self.inside.anchors (complete_with_fewer c.self.inside.anchors.holds c.self.inside.anchors.lists c.self.inside.sets.acting.ties _ (fewer_reserved c.self.inside.sets.acting c.reserve.new.self.acting c.begin_each.new.self.acting c.in_ok-reserve.ensures.acting
     (fewer_enabled c.is_dynamic-mover.result c.args.handle.slot c.in_ok-waking.waking.names.items c.deref-4.result.now c.reserve.new.self.acting c.wake_planned.new.sets.acting c.come.new.sets.acting c.begin_each.new.self.acting
     (joints_have_none c.deref-4.result.now c.args.handle.slot _ _ (c.deref-4.ensures.value ∙ c.fill_joint_ties.ensures.ties)) c.wake_planned.ensures.acting c.come.ensures.acting c.begin_each.ensures.acting)) c.self.invariant.anchored)
+    c.follow.new.sets (record {
+      stands = rw c.bodies-5.ensures at c.follow.ensures.stands;
+      names =
+          let woke = c.wake_planned.new.bodies.bodies in
+          let long : length c.enable.new.self.bodies ≡ length woke = ap (λ (os : List (Option Body)). length os) c.enable.ensures.bodies ∙ length-set woke c.args.handle.slot (option_map enabled_body (body_at woke c.args.handle.slot)) in
+          let room = c.wake_planned.ensures.standing.names in
+          let names = c.follow.ensures.names in
+          omega (arith, long, room, names);
+    })
 
 pub returns : goal.returns
 returns c =

@@ -1,11 +1,17 @@
-use Rattle.std.proofs.Common.{◌∙◌}
-use Rattle.world_core.proofs.Refusals.{handed_on}
 use Rattle.world_core.proofs.LoadingLaws.{Parts, contacts_are, made_core, made_same, totals_within}
+use Rattle.world_core.proofs.KeepLaws.{named_asleep, told_acting}
+use Rattle.world_rules.specs.Sets.{acting_of}
 use Rattle.world_core.proofs.FewerTies.{tell_lapsed}
 use Rattle.world_core.proofs.world.WorldCore.from_plain.Goals as goal
 
-pub contacts_of-requires : goal.contacts_of-requires
-contacts_of-requires c = contacts_are c.args.plain.now c.args.totals c.requires.sound
+pub load_bodies-requires-clause-named : goal.load_bodies-requires-clause-named
+load_bodies-requires-clause-named c = named_asleep c.args.plain.now.bodies (acting_of c.args.plain.now) c.requires.sound.promises.consistent (told_acting c.args.plain.now c.requires.sound.promises.told)
+
+pub load_joints-requires-clause-named : goal.load_joints-requires-clause-named
+load_joints-requires-clause-named c = named_asleep c.args.plain.now.bodies (acting_of c.args.plain.now) c.requires.sound.promises.consistent (told_acting c.args.plain.now c.requires.sound.promises.told)
+
+pub load_constraints-requires-clause-contacts : goal.load_constraints-requires-clause-contacts
+load_constraints-requires-clause-contacts c = contacts_are c.args.plain.now c.args.totals c.requires.sound
 
 pub from_totals-requires : goal.from_totals-requires
 from_totals-requires c = totals_within c.args.plain.now c.args.totals c.requires.sound
@@ -14,12 +20,12 @@ pub invariant_of-result : goal.invariant_of-result
 invariant_of-result c =
     let p = c.args.plain.now in
     let x : Parts = record {
-      slot_entries = c.in_ok-from_slot_entries.field-0.slot_entries;
-      bodies = c.in_ok-from_bodies.field-0.bodies;
-      joint_entries = c.in_ok-from_slot_entries-2.field-0.slot_entries;
-      joints = c.in_ok-from_joints.field-0.joints;
-      contacts = c.in_ok-from_contacts.field-0.contacts;
-      acts = c.in_ok-sets_of.field-0.acting;
+      slot_entries = c.in_ok-bodies.bodies.handles.slot_entries;
+      bodies = c.in_ok-bodies.bodies.table.bodies;
+      joint_entries = c.in_ok-joints.joints.handles.slot_entries;
+      joints = c.in_ok-joints.joints.table.joints;
+      contacts = c.in_ok-constraints.constraints.contacts.contacts;
+      acts = c.in_ok-constraints.constraints.sets.acting;
       gravity = c.gravity.result;
       steps = c.steps.result;
       calls = c.calls.result;
@@ -27,13 +33,13 @@ invariant_of-result c =
       settled = c.from_totals.result.settled;
       events = c.new-4.result;
     } in
-    made_core p c.args.totals x c.in_ok-from_bodies.field-0.marks c.requires.sound (record {
-      places_are = c.in_ok-from_slot_entries.ensures.slot_entries ∙ c.slot_entries.ensures;
-      bodies_are = c.in_ok-from_bodies.ensures.bodies ∙ c.bodies.ensures;
-      joint_places_are = c.in_ok-from_slot_entries-2.ensures.slot_entries ∙ c.joint_entries.ensures;
-      joints_are = c.in_ok-from_joints.ensures.joints ∙ c.joints.ensures;
-      contacts_are = c.in_ok-from_contacts.ensures.contacts ∙ c.in_ok-contacts_of.ensures.contacts;
-      acts_are = c.in_ok-sets_of.ensures.acting;
+    made_core p c.args.totals x c.in_ok-bodies.bodies.table.marks c.requires.sound (record {
+      places_are = c.in_ok-bodies.ensures.slot_entries;
+      bodies_are = c.in_ok-bodies.ensures.bodies;
+      joint_places_are = c.in_ok-joints.ensures.slot_entries;
+      joints_are = c.in_ok-joints.ensures.joints;
+      contacts_are = c.in_ok-constraints.ensures.contacts;
+      acts_are = c.in_ok-constraints.ensures.acting;
       gravity_is = c.gravity.ensures;
       steps_are = c.steps.ensures;
       calls_are = c.calls.ensures;
@@ -41,18 +47,19 @@ invariant_of-result c =
       settled_are = c.from_totals.ensures.settled;
       events_are = c.new-4.ensures;
     })
-    c.in_ok-from_bodies.ensures.all c.new.result (tell_lapsed _ _ _ c.new.ensures.lapsed)
+    c.in_ok-bodies.ensures.all c.new.result (tell_lapsed _ _ _ c.new.ensures.lapsed)
+    c.in_ok-joints.joints.sets (rw (c.in_ok-bodies.ensures.bodies, c.in_ok-joints.ensures.joints) c.in_ok-joints.ensures.sets)
 
 pub returns-clause-made : goal.returns-clause-made
 returns-clause-made c =
     let p = c.args.plain.now in
     let x : Parts = record {
-      slot_entries = c.in_ok-from_slot_entries.field-0.slot_entries;
-      bodies = c.in_ok-from_bodies.field-0.bodies;
-      joint_entries = c.in_ok-from_slot_entries-2.field-0.slot_entries;
-      joints = c.in_ok-from_joints.field-0.joints;
-      contacts = c.in_ok-from_contacts.field-0.contacts;
-      acts = c.in_ok-sets_of.field-0.acting;
+      slot_entries = c.in_ok-bodies.bodies.handles.slot_entries;
+      bodies = c.in_ok-bodies.bodies.table.bodies;
+      joint_entries = c.in_ok-joints.joints.handles.slot_entries;
+      joints = c.in_ok-joints.joints.table.joints;
+      contacts = c.in_ok-constraints.constraints.contacts.contacts;
+      acts = c.in_ok-constraints.constraints.sets.acting;
       gravity = c.gravity.result;
       steps = c.steps.result;
       calls = c.calls.result;
@@ -61,12 +68,12 @@ returns-clause-made c =
       events = c.new-4.result;
     } in
     made_same p c.args.totals x c.requires.sound (record {
-      places_are = c.in_ok-from_slot_entries.ensures.slot_entries ∙ c.slot_entries.ensures;
-      bodies_are = c.in_ok-from_bodies.ensures.bodies ∙ c.bodies.ensures;
-      joint_places_are = c.in_ok-from_slot_entries-2.ensures.slot_entries ∙ c.joint_entries.ensures;
-      joints_are = c.in_ok-from_joints.ensures.joints ∙ c.joints.ensures;
-      contacts_are = c.in_ok-from_contacts.ensures.contacts ∙ c.in_ok-contacts_of.ensures.contacts;
-      acts_are = c.in_ok-sets_of.ensures.acting;
+      places_are = c.in_ok-bodies.ensures.slot_entries;
+      bodies_are = c.in_ok-bodies.ensures.bodies;
+      joint_places_are = c.in_ok-joints.ensures.slot_entries;
+      joints_are = c.in_ok-joints.ensures.joints;
+      contacts_are = c.in_ok-constraints.ensures.contacts;
+      acts_are = c.in_ok-constraints.ensures.acting;
       gravity_is = c.gravity.ensures;
       steps_are = c.steps.ensures;
       calls_are = c.calls.ensures;
@@ -74,6 +81,3 @@ returns-clause-made c =
       settled_are = c.from_totals.ensures.settled;
       events_are = c.new-4.ensures;
     })
-
-pub returns-in_err-sets_of-clause-memory_only : goal.returns-in_err-sets_of-clause-memory_only
-returns-in_err-sets_of-clause-memory_only c = handed_on _ _ c.from_residual-in_err-sets_of.ensures.0 c.from_residual-in_err-sets_of.ensures.1 c.in_err-sets_of.ensures.memory_only

@@ -2,6 +2,7 @@ use Rattle.std.proofs.Common.{◌^◌, rules, tests, ◌≡◌, ℕ, Bool, true,
 use Rattle.fixed_geom.specs.Vectors.{IsWithin}
 use Rattle.world_core.proofs.Whole.{empty_whole}
 use Rattle.std.specs.Prelude.{slice_index_or}
+use Rattle.world_core_base.proofs.JointStandLaws.{joints_none}
 use Rattle.world_core.proofs.CoreLaws.{core_all}
 use Rattle.world_core.proofs.FewerTies.{tell_lapsed}
 use Rattle.world_core.proofs.Refusals.{not_made}
@@ -16,6 +17,7 @@ invariant_of-result c =
     (rw (c.new.ensures, c.new-2.ensures.bodies, c.new-3.ensures, c.new-4.ensures, c.new-5.ensures, c.in_ok-new.ensures.acting, c.new-10.ensures.entries, c.new-10.ensures.settled, c.new-11.ensures)
     (empty_whole c.args.gravity within))
     marked c.new-7.result (tell_lapsed _ _ _ c.new-7.ensures.lapsed)
+    c.new-12.result (joints_none _ _ c.new-12.result c.new-2.ensures.bodies c.new-4.ensures c.new-12.ensures.stands)
 
 pub returns-in_err-new-clause-made : goal.returns-in_err-new-clause-made
 returns-in_err-new-clause-made c =

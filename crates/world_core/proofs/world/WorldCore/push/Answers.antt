@@ -5,6 +5,7 @@ use Rattle.world_rules.specs.Apply.{pushed}
 use Rattle.world_rules.proofs.SoundLaws.{kept_sound}
 use Rattle.world_core.specs.contracts.world.WorldCore.{the_view}
 use Rattle.world_core.proofs.Whole.{HasWoken, has_woken, push_whole, told_whole}
+use Rattle.world_core_base.proofs.JointStandLaws.{joints_alike, same_long}
 use Rattle.world_core.proofs.CoreLaws.{core_bodies}
 use Rattle.world_core.proofs.PartLaws.{entry_fits}
 use Rattle.world_core.proofs.KnownLaws.{marked_after}
@@ -41,3 +42,4 @@ invariant_of-self-2 c =
     refl refl refl refl
     (marked_after c.self.inside.bodies c.wake_planned.new.bodies c.change.new.self c.wake_planned.ensures.marked c.change.ensures.marked)
     c.self.inside.anchors (complete_with_fewer c.self.inside.anchors.holds c.self.inside.anchors.lists c.self.inside.sets.acting.ties _ (fewer_woken c.in_ok-waking.waking.names.items c.self.inside.sets.acting c.wake_planned.new.sets.acting c.wake_planned.ensures.acting) c.self.invariant.anchored)
+    c.wake_planned.new.stands (joints_alike c.wake_planned.new.bodies.bodies c.change.new.self.bodies c.self.inside.joints.joints c.wake_planned.new.stands (same_long c.wake_planned.new.bodies.bodies c.change.new.self.bodies c.args.handle.slot _ c.change.ensures.bodies) c.change.ensures.stands c.wake_planned.ensures.standing)

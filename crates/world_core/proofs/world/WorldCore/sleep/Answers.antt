@@ -35,6 +35,7 @@ invariant_of-self-2 c =
     refl refl refl refl
     c.put_to_sleep-rest.ensures.marked
     c.self.inside.anchors (complete_with_fewer c.self.inside.anchors.holds c.self.inside.anchors.lists c.self.inside.sets.acting.ties _ (fewer_slept c.args.handle.slot c.self.inside.sets.acting c.put_to_sleep-rest.new.sets.acting c.put_to_sleep-rest.ensures.acting) c.self.invariant.anchored)
+    c.put_to_sleep-rest.new.stands c.put_to_sleep-rest.ensures.standing
 
 pub returns : goal.returns
 returns c =

@@ -2,7 +2,6 @@ use Rattle.std.proofs.Common.{◌≡◌, ◌<◌, ◌≤◌, ◌^◌, ◌∙◌,
 use mir.Syntax.{w64}
 use mir.Val.{of_z, to_z}
 use Rattle.std.proofs.lemmas.Int.{to_z-of_z}
-use Rattle.std.specs.Vec.{vec_capacity}
 use Rattle.fixed_geom.specs.declared.refusal.Refusal.TheVariants.{NoMemory}
 use Rattle.std.specs.List.Sorted.{IsStrictlyIncreasing}
 use Rattle.solver_sets.specs.Anchors.{AreComplete}
@@ -18,6 +17,7 @@ use Rattle.plain_world.specs.Sleep.{timed_bodies}
 use Rattle.sleep_wake.specs.Acting.{Acting}
 use Rattle.solver_sets.specs.SinceTold.{newly_asleep, newly_awake}
 use Rattle.world_core_base.specs.Awake.{Bodies}
+use Rattle.world_core_base.proofs.JointStandLaws.{joints_alike, joints_by_ends}
 use Rattle.world_rules.specs.World.{World}
 use Rattle.world_rules.proofs.AcceptedAll.{few_ticks}
 use Rattle.world_rules.proofs.KeptChanges.{IsRoomy-kept, IsRoomy-same}
@@ -186,7 +186,7 @@ pub rest_ready-rest-requires-clause-consistent : goal.rest_ready-rest-requires-c
 rest_ready-rest-requires-clause-consistent g c = consistent_changed (the_view c.self.inside) c.self.inside.sets.acting c.carry_out.new.sets.acting c.carry_out.new.bodies.bodies c.carry_out.new.contacts.contacts c.self.invariant.whole (changed_left g c)
 
 pub rest_ready-rest-requires-clause-tells : goal.rest_ready-rest-requires-clause-tells
-rest_ready-rest-requires-clause-tells g c = rw (c.joints.ensures, c.split.ensures) (tell_solved (the_view c.self.inside) c.in_ok-ticks.ticks c.self.inside.sets.acting c.carry_out.new.sets.acting c.carry_out.new.bodies.bodies c.solve-sums.new.bodies.bodies c.solve-sums.new.joints.joints c.carry_out.new.contacts.contacts c.solve-sums.new.contacts.contacts c.solve-sums.result c.self.invariant.whole (changed_left g c) (solved_left g c))
+rest_ready-rest-requires-clause-tells g c = rw c.split.ensures (tell_solved (the_view c.self.inside) c.in_ok-ticks.ticks c.self.inside.sets.acting c.carry_out.new.sets.acting c.carry_out.new.bodies.bodies c.solve-sums.new.bodies.bodies c.solve-sums.new.joints.joints c.carry_out.new.contacts.contacts c.solve-sums.new.contacts.contacts c.solve-sums.result c.self.invariant.whole (changed_left g c) (solved_left g c))
 
 -- ---- what is recorded
 
@@ -257,7 +257,7 @@ are_left g c =
     record {
       collide = after_changes g c;
       ticks = solved g c;
-      phase = rw (c.joints.ensures, c.split.ensures) at c.rest_ready-rest.ensures.acting;
+      phase = rw c.split.ensures at c.rest_ready-rest.ensures.acting;
       bodies = c.rest_ready-rest.ensures.bodies;
       gain_is = c.rest_ready-rest.ensures.gain;
       begin = c.record_step.ensures.begin ∙ c.in_ok-prepared.ensures.begin;
@@ -265,6 +265,13 @@ are_left g c =
       slept = c.record_step.ensures.slept ∙ (rw c.slot_entries-2.ensures at c.rest_ready-rest.ensures.slept);
       woke = c.record_step.ensures.woke ∙ (rw (← c.rest_ready-rest.ensures.woke, c.slot_entries.ensures, c.in_ok-prepared.ensures.bodies) at c.carry_out.ensures.woke);
     }
+
+-- a solve moves nobody to another set, and leaves the ends of joints
+pub rest_ready-rest-requires-clause-standing : goal.rest_ready-rest-requires-clause-standing
+rest_ready-rest-requires-clause-standing g c =
+    let same = c.solve-sums.ensures.slots.slots in
+    joints_by_ends c.solve-sums.new.bodies.bodies c.self.inside.joints.joints c.solve-sums.new.joints.joints c.carry_out.new.stands c.solve-sums.ensures.ends
+    (joints_alike c.carry_out.new.bodies.bodies c.solve-sums.new.bodies.bodies c.self.inside.joints.joints c.carry_out.new.stands (omega (arith, same)) c.solve-sums.ensures.stands c.carry_out.ensures.standing)
 
 -- the table of bodies, once its marks were taken away
 abbrev cleared : Bodies → Bodies
@@ -287,6 +294,7 @@ invariant_of-self-2 g c =
     c.carry_out.new.anchors
     (complete_with_fewer c.carry_out.new.anchors.holds c.carry_out.new.anchors.lists c.carry_out.new.sets.acting.ties _ (fewer_rested _ _ _ c.carry_out.new.sets.acting c.rest_ready-rest.new.sets.acting c.rest_ready-rest.ensures.acting)
     (c.carry_out.ensures.anchored (subst (λ (a : Acting Constraint). AreComplete c.self.inside.anchors.holds c.self.inside.anchors.lists a.ties) (sym c.in_ok-prepared.ensures.acting) c.self.invariant.anchored)))
+    c.rest_ready-rest.new.stands c.rest_ready-rest.ensures.standing
 
 pub returns : goal.returns
 returns g c =

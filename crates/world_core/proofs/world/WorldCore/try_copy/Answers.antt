@@ -1,6 +1,7 @@
 use Rattle.world_core.proofs.CopyLaws.{copied_whole}
 use Rattle.world_core.proofs.KnownLaws.{known_as}
 use Rattle.world_core.proofs.FewerTies.{tell_lapsed}
+use Rattle.world_core_base.proofs.JointStandLaws.{sets_as}
 use Rattle.world_core.proofs.world.WorldCore.try_copy.Goals as goal
 
 pub invariant_of-result : goal.invariant_of-result
@@ -52,4 +53,5 @@ invariant_of-result c =
       whole = whole_as c.self.invariant.whole;
       known = known_as _ _ _ _ _ _ _ _ c.self.invariant.known c.in_ok-bodies.ensures.marks c.in_ok-bodies.ensures.bodies c.in_ok-joints.ensures.joints c.in_ok-constraints.ensures.contacts;
       anchored = tell_lapsed _ _ _ c.new.ensures.lapsed;
+      standing = sets_as _ _ _ _ _ _ c.self.invariant.standing c.in_ok-bodies.ensures.bodies c.in_ok-joints.ensures.joints c.in_ok-joints.ensures.sets;
     }

@@ -19,3 +19,4 @@ invariant_of-self c =
     has_woken (the_view c.self.inside) (c.args.handle.slot ∷ []) _ c.self.inside.sets.acting _ _ c.self.invariant.whole (rw (← c.self.view_is) at c.in_ok-waking.ensures.names) c.wake_planned.ensures.acting c.wake_planned.ensures.told in
     core_bodies (the_view c.self.inside) _ _ _ c.self.inside.bodies c.wake_planned.new.bodies c.self.invariant (wake_whole (the_view c.self.inside) c.args.handle.slot c.self.inside.sets.acting _ _ c.self.invariant.whole calls woke) refl refl refl refl c.wake_planned.ensures.marked
     c.self.inside.anchors (complete_with_fewer c.self.inside.anchors.holds c.self.inside.anchors.lists c.self.inside.sets.acting.ties _ (fewer_woken c.in_ok-waking.waking.names.items c.self.inside.sets.acting c.wake_planned.new.sets.acting c.wake_planned.ensures.acting) c.self.invariant.anchored)
+    c.wake_planned.new.stands c.wake_planned.ensures.standing

@@ -9,6 +9,7 @@ use Rattle.colour_solver.proofs.TickLaws.{rows_as_long}
 use Rattle.plain_world.specs.Bodies.{AreBodies}
 use Rattle.world_core_base.proofs.ListingLaws.{listed_exactly}
 use Rattle.world_core_base.proofs.GatherLaws.{courses-all, length-states, states-all, total-gathered}
+use Rattle.world_core_base.proofs.StandLaws.{alike_moved, stands_alike}
 use Rattle.world_core_base.proofs.body_table.BodyTable.run.Goals as goal
 
 pub run_step-sums-requires-clause-awake : goal.run_step-sums-requires-clause-awake
@@ -55,6 +56,9 @@ returns-clause-momentum g c =
     rw (← c.self.view_is)
     (c.move_bodies.ensures.momentum ∙ c.run_step-sums.ensures.momentum ∙ ap (λ (v : Vec2). plus v (added c.run_step-sums.result)) (ap total c.self.invariant.states ∙ total-gathered c.self.inside.bodies.items bodies))
 
+pub returns-clause-stands : goal.returns-clause-stands
+returns-clause-stands g c = rw (← c.self.view_is, c.move_bodies.ensures.value) (alike_moved c.self.inside.bodies.items c.run_step-sums.new.states.items)
+
 pub returns-clause-marked : goal.returns-clause-marked
 returns-clause-marked g c = rw (← c.self.view_is) c.move_bodies.ensures.marked
 
@@ -71,6 +75,9 @@ invariant_of-self g c =
       for_awake = omega (arith, same, c.self.invariant.for_awake);
       for_carried = omega (arith, same, c.self.invariant.for_carried);
       for_marks = omega (arith, same, c.move_bodies.ensures.len, c.self.invariant.for_marks);
+      stands = stands_alike c.self.inside.bodies.items _ c.self.inside.stands.stands (rw c.move_bodies.ensures.value (alike_moved c.self.inside.bodies.items c.run_step-sums.new.states.items)) c.self.invariant.stands;
+      for_items = omega (arith, same, c.self.invariant.for_items);
+      for_names = omega (arith, same, c.self.invariant.for_names);
       covered = c.move_bodies.ensures.covered;
       for_boxes = omega (arith, same, c.move_bodies.ensures.boxes, c.self.invariant.for_boxes);
     }

@@ -11,54 +11,70 @@ use Rattle.world_core_base.proofs.ListingLaws.{listed_alike}
 use Rattle.world_core_base.proofs.TellLaws.{carried_told, length-told, told_bodies}
 use Rattle.world_core_base.proofs.MarkedLaws.{marked_eq, marked_told, told_all}
 use Rattle.world_core_base.proofs.CoverLaws.{covered_alike, covered_eq}
+use Rattle.world_core_base.proofs.StandLaws.{can_follow_told, told_beside}
+use Rattle.world_core_base.specs.Telling.{AreToldBeside, KeepSets}
+use Rattle.packed_sets.specs.Stands.{stand_at}
 use Rattle.world_core_base.proofs.body_table.BodyTable.tell_listed.Goals as goal
 
-pub tell_listed-requires-clause-fewer : goal.tell_listed-requires-clause-fewer
-tell_listed-requires-clause-fewer c = omega (arith, c.requires.few, c.requires.fewer)
+pub tell_listed-gain-requires-clause-fewer : goal.tell_listed-gain-requires-clause-fewer
+tell_listed-gain-requires-clause-fewer c = omega (arith, c.requires.few, c.requires.fewer)
 
-pub tell_listed-requires-clause-bodies : goal.tell_listed-requires-clause-bodies
-tell_listed-requires-clause-bodies c = rw (← c.self.view_is) at c.requires.bodies
+pub tell_listed-gain-requires-clause-bodies : goal.tell_listed-gain-requires-clause-bodies
+tell_listed-gain-requires-clause-bodies c = rw (← c.self.view_is) at c.requires.bodies
 
-pub tell_listed-requires-clause-others : goal.tell_listed-requires-clause-others
-tell_listed-requires-clause-others c = rw (← c.self.view_is) at c.requires.others
+pub tell_listed-gain-requires-clause-others : goal.tell_listed-gain-requires-clause-others
+tell_listed-gain-requires-clause-others c = rw (← c.self.view_is) at c.requires.others
 
-pub tell_listed-requires-clause-room : goal.tell_listed-requires-clause-room
-tell_listed-requires-clause-room c = omega (arith, c.self.invariant.for_awake)
+pub tell_listed-gain-requires-clause-room : goal.tell_listed-gain-requires-clause-room
+tell_listed-gain-requires-clause-room c = omega (arith, c.self.invariant.for_awake)
+
+pub follow_bodies-requires-clause-can : goal.follow_bodies-requires-clause-can
+follow_bodies-requires-clause-can c =
+    let keep : KeepSets c.args.islands.now.labels c.self.inside.bodies.items = rw (← c.self.view_is) at c.requires.sets in
+    rw (c.deref.ensures.value, c.tell_listed-gain.ensures.bodies) (can_follow_told c.args.islands.now.labels c.self.inside.bodies.items (stand_at c.self.inside.stands.stands) c.self.inside.stands.names c.self.invariant.stands (omega (arith, c.self.invariant.for_names)) keep)
+
+pub follow_bodies-requires-clause-others : goal.follow_bodies-requires-clause-others
+follow_bodies-requires-clause-others c =
+    let others : AreToldBeside c.args.slots.now c.args.islands.now.labels c.self.inside.bodies.items = rw (← c.self.view_is) at c.requires.others in
+    rw (c.deref.ensures.value, c.tell_listed-gain.ensures.bodies) (told_beside c.args.islands.now.labels c.self.inside.bodies.items c.args.slots.now (stand_at c.self.inside.stands.stands) c.self.invariant.stands others)
 
 pub invariant_of-self : goal.invariant_of-self
 invariant_of-self c =
     let bodies = c.self.inside.bodies.items in
     let labels = c.args.islands.now.labels in
-    let now = c.tell_listed.ensures.bodies in
+    let now = c.tell_listed-gain.ensures.bodies in
     let same = ap length now ∙ length-told labels bodies in
     record {
-      covered = covered_eq _ _ _ _ c.tell_listed.ensures.bodies refl (covered_alike bodies (told labels bodies) c.self.inside.boxes (told_all labels bodies) c.self.invariant.covered);
+      covered = covered_eq _ _ _ _ c.tell_listed-gain.ensures.bodies refl (covered_alike bodies (told labels bodies) c.self.inside.boxes (told_all labels bodies) c.self.invariant.covered);
       for_boxes = omega (arith, same, c.self.invariant.for_boxes);
-      states = c.tell_listed.ensures.states;
-      movers = c.tell_listed.ensures.awake;
-      along = listed_alike is_carried c.self.inside.states.items c.tell_listed.new.states.items c.self.inside.carried refl (ap carried_of c.self.invariant.states ∙ sym (carried_told labels bodies) ∙ ap (λ (os : List (Option Body)). carried_of (states_of os)) (sym now) ∙ ap carried_of (sym c.tell_listed.ensures.states)) c.self.invariant.along;
+      states = c.tell_listed-gain.ensures.states;
+      movers = c.tell_listed-gain.ensures.awake;
+      along = listed_alike is_carried c.self.inside.states.items c.tell_listed-gain.new.states.items c.self.inside.carried refl (ap carried_of c.self.invariant.states ∙ sym (carried_told labels bodies) ∙ ap (λ (os : List (Option Body)). carried_of (states_of os)) (sym now) ∙ ap carried_of (sym c.tell_listed-gain.ensures.states)) c.self.invariant.along;
       few = omega (arith, same, c.self.invariant.few);
       for_bodies = omega arith;
       for_states = omega arith;
-      for_awake = omega (arith, same, c.self.invariant.for_awake, c.tell_listed.ensures.capacity);
+      for_awake = omega (arith, same, c.self.invariant.for_awake, c.tell_listed-gain.ensures.capacity);
       for_marks = omega (arith, same, c.self.invariant.for_marks);
+      stands = rw c.deref.ensures.value at c.follow_bodies.ensures.stands;
+      for_items = omega (arith, same, c.follow_bodies.ensures.items, c.self.invariant.for_items);
+      for_names = omega (arith, same, c.follow_bodies.ensures.names, c.self.invariant.for_names);
       for_carried = omega (arith, same, c.self.invariant.for_carried);
     }
 
 pub returns-clause-all_bodies : goal.returns-clause-all_bodies
 returns-clause-all_bodies c =
     let bodies : AreBodies c.self.inside.bodies.items = rw (← c.self.view_is) at c.requires.bodies in
-    subst AreBodies (sym c.tell_listed.ensures.bodies) (told_bodies c.args.islands.now.labels c.self.inside.bodies.items bodies)
+    subst AreBodies (sym c.tell_listed-gain.ensures.bodies) (told_bodies c.args.islands.now.labels c.self.inside.bodies.items bodies)
 
 pub returns-clause-slots : goal.returns-clause-slots
 returns-clause-slots c =
     let bodies = c.self.inside.bodies.items in
-    rw (← c.self.view_is) (subst (HaveSameSlots bodies) (sym c.tell_listed.ensures.bodies) (slots-told c.args.islands.now.labels bodies))
+    rw (← c.self.view_is) (subst (HaveSameSlots bodies) (sym c.tell_listed-gain.ensures.bodies) (slots-told c.args.islands.now.labels bodies))
 
 pub returns-clause-standing : goal.returns-clause-standing
 returns-clause-standing c =
     let bodies = c.self.inside.bodies.items in
-    rw (← c.self.view_is) (subst (HaveSameStanding bodies) (sym c.tell_listed.ensures.bodies) (standing-told c.args.islands.now.labels bodies))
+    rw (← c.self.view_is) (subst (HaveSameStanding bodies) (sym c.tell_listed-gain.ensures.bodies) (standing-told c.args.islands.now.labels bodies))
 
 pub returns-clause-marked : goal.returns-clause-marked
-returns-clause-marked c = rw (← c.self.view_is) (marked_eq _ _ _ _ _ _ c.tell_listed.ensures.bodies refl (marked_told c.args.islands.now.labels c.self.inside.bodies.items c.self.inside.marks))
+returns-clause-marked c = rw (← c.self.view_is) (marked_eq _ _ _ _ _ _ c.tell_listed-gain.ensures.bodies refl (marked_told c.args.islands.now.labels c.self.inside.bodies.items c.self.inside.marks))

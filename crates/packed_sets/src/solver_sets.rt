@@ -1,0 +1,193 @@
+//! The solver sets of one kind of item: of bodies, joints or contacts.
+
+ghost use Rattle.std.specs.Prelude.{◌≡◌, ◌<◌, ◌≤◌, ◌+◌, [], true, IfOk, None, OnErr, OnOk, Some, drop, length, map, slice_set, take, vec_capacity};
+ghost use Rattle.std.specs.Result.{IsOkUnless};
+ghost use Rattle.std.specs.List.Sorted.{IsPermutation};
+ghost use Rattle.packed_sets.specs.declared.stands.Stand.TheVariants.{Sleeping};
+ghost use Rattle.packed_sets.specs.Stands.{is_listed, is_named, items_of, stand_at, stand_of, with_items, woken};
+
+use crate::set_lists::{put, take_listed};
+use crate::set_room::{copies_with_room, fill, reserve_all};
+use crate::set_threads::{list_asleep, wake_all};
+use crate::stands::{ListedSet, MAX_ITEMS, NO_ITEM, Stand};
+use fixed_geom::Refusal;
+use std::alloc::Global;
+use std::marker::Model;
+
+/// The solver sets of one kind of item. An item is known by its number. Contracts see where each item stands (`stands`), and below which
+/// number the names of sleeping sets have to be (`names`).
+#[derive(Drop)]
+pub struct SolverSets {
+    // The sets that aren't sleeping ones, each with room for all items.
+    lists: Vec<Vec<u32>>,
+    // By item where it stands.
+    stands: Vec<Option<Stand>>,
+    // By item its place in its list, or the item that follows it in its sleeping set.
+    places: Vec<u32>,
+    // By name the first item of the sleeping set.
+    heads: Vec<u32>,
+}
+
+impl Model for SolverSets {
+    ghost use Rattle.std.specs.Prelude.{length, map, vec_capacity};
+    ghost use Rattle.packed_sets.specs.Stands.{Standings};
+    ghost use Rattle.packed_sets.specs.Threads.{AreHeld};
+
+    ghost Value = { Standings };
+
+    ghost view = { λ a. record { stands = a.stands.items; names = length a.heads.items } };
+
+    ghost invariant = { λ a. AreHeld (map (λ v. v.items) a.lists.items) (map vec_capacity a.lists.items) a.stands.items a.places.items a.heads.items };
+}
+
+impl SolverSets {
+    /// No items, and no names.
+    pub fn new(alloc: Global) -> SolverSets
+        ensures stands { result.stands ≡ [] }
+        ensures names { result.names ≡ 0 }
+    {
+        SolverSets {
+            lists: Vec::new(alloc),
+            stands: Vec::new(alloc),
+            places: Vec::new(alloc),
+            heads: Vec::new(alloc),
+        }
+    }
+
+    /// Lets items whose numbers are below `items` be put in, and sleeping sets have names below `names`. Each list gets room for all items
+    /// that there can be then, so that nothing else takes memory. Refused 1 where memory is wanting, or there would be more than
+    /// [`MAX_ITEMS`].
+    pub fn reserve(&mut self, items: usize, names: usize) -> Result<(), Refusal>
+        ensures stands { OnOk result (self.new.stands ≡ with_items items self.old.stands) }
+        ensures named { OnOk result (names ≤ self.new.names) }
+        ensures more { self.old.names ≤ self.new.names }
+        ensures refused { OnErr result (self.new ≡ self.old) }
+        ensures memory_only { IsOkUnless result Refusal.NoMemory }
+    {
+        if items > MAX_ITEMS {
+            return Err(Refusal::NoMemory);
+        }
+        reserve_all(
+            &mut self.lists,
+            &mut self.stands,
+            &mut self.places,
+            &mut self.heads,
+            items,
+            names,
+        )?;
+        fill(&mut self.stands, items, None);
+        fill(&mut self.places, items, NO_ITEM);
+        fill(&mut self.heads, names, NO_ITEM);
+        Ok(())
+    }
+
+    /// Below which number those of items have to be.
+    pub fn len(&self) -> usize
+        ensures { result ≡ length self.now.stands }
+    {
+        self.stands.len()
+    }
+
+    /// Below which number the names of sleeping sets have to be.
+    pub fn names(&self) -> usize
+        ensures { result ≡ self.now.names }
+    {
+        self.heads.len()
+    }
+
+    /// Where an item stands; `None` where it stands nowhere.
+    pub fn stand_of(&self, id: u32) -> Option<Stand>
+        ensures { result ≡ stand_at self.now.stands id }
+    {
+        match self.stands.get(id as usize) {
+            Some(stand) => *stand,
+            None => None,
+        }
+    }
+
+    /// The items of a set that isn't a sleeping one, each once, in no order that is promised.
+    pub fn members(&self, set: ListedSet) -> &[u32]
+        ensures { IsPermutation (items_of (stand_of set) self.now.stands) result.now }
+    {
+        match self.lists.get(set.number() as usize) {
+            Some(list) => list.as_slice(),
+            None => &[],
+        }
+    }
+
+    /// Lists the items of a sleeping set, each once, behind others in a list that has room for them. In what order isn't promised.
+    pub fn sleepers(&self, name: u32, items: &mut Vec<u32>)
+        requires room { length items.old.items + length (items_of (Sleeping name) self.now.stands) ≤ vec_capacity items.old }
+        ensures before { take (length items.old.items) items.new.items ≡ items.old.items }
+        ensures listed { IsPermutation (items_of (Sleeping name) self.now.stands) (drop (length items.old.items) items.new.items) }
+        ensures capacity { vec_capacity items.old ≤ vec_capacity items.new }
+    {
+        list_asleep(&self.stands, &self.places, &self.heads, name, items);
+    }
+
+    /// Puts an item that stands nowhere into a set. Takes no memory.
+    pub fn insert(&mut self, stand: Stand, id: u32)
+        requires there { id < length self.old.stands }
+        requires absent { stand_at self.old.stands id ≡ None }
+        requires named { is_named self.old.names stand ≡ true }
+        ensures stands { self.new.stands ≡ slice_set self.old.stands id (Some stand) }
+        ensures names { self.new.names ≡ self.old.names }
+    {
+        put(
+            &mut self.lists,
+            &mut self.stands,
+            &mut self.places,
+            &mut self.heads,
+            stand,
+            id,
+        );
+    }
+
+    /// Takes an item out of its set, which isn't a sleeping one. Takes no memory.
+    pub fn remove(&mut self, id: u32)
+        requires { is_listed (stand_at self.old.stands id) ≡ true }
+        ensures stands { self.new.stands ≡ slice_set self.old.stands id None }
+        ensures names { self.new.names ≡ self.old.names }
+    {
+        take_listed(&mut self.lists, &mut self.stands, &mut self.places, id);
+    }
+
+    /// Moves an item from its set, which isn't a sleeping one, to a set. Takes no memory.
+    pub fn shift(&mut self, stand: Stand, id: u32)
+        requires listed { is_listed (stand_at self.old.stands id) ≡ true }
+        requires named { is_named self.old.names stand ≡ true }
+        ensures stands { self.new.stands ≡ slice_set self.old.stands id (Some stand) }
+        ensures names { self.new.names ≡ self.old.names }
+    {
+        self.remove(id);
+        self.insert(stand, id);
+    }
+
+    /// All items of a sleeping set are awake. Takes no memory, and a time that goes by their number.
+    pub fn wake(&mut self, name: u32)
+        ensures stands { self.new.stands ≡ map (woken name) self.old.stands }
+        ensures names { self.new.names ≡ self.old.names }
+    {
+        wake_all(
+            &mut self.lists,
+            &mut self.stands,
+            &mut self.places,
+            &mut self.heads,
+            name,
+        );
+    }
+
+    /// A copy, whose lists have room for all items, too. Refused 1 where memory is wanting.
+    pub fn try_copy(&self) -> Result<SolverSets, Refusal>
+        ensures copy { IfOk result (λ copied. copied ≡ self.now) }
+        ensures memory_only { IsOkUnless result Refusal.NoMemory }
+    {
+        let alloc = *self.lists.allocator();
+        Ok(SolverSets {
+            lists: copies_with_room(alloc, &self.lists, self.stands.len())?,
+            stands: Vec::from_slice(alloc, self.stands.as_slice())?,
+            places: Vec::from_slice(alloc, self.places.as_slice())?,
+            heads: Vec::from_slice(alloc, self.heads.as_slice())?,
+        })
+    }
+}
