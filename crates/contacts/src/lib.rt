@@ -13,15 +13,11 @@ mod collide;
 mod constraint;
 mod contact_table;
 mod crowded;
-mod dropping;
-mod ends;
 mod fates;
 mod forbidden;
 mod known;
 mod marks;
 mod moved_pairs;
-mod noting;
-mod number_book;
 mod pair_sweep;
 mod pending_update;
 mod rebuild;
@@ -33,12 +29,10 @@ mod update;
 pub use changes::Changes;
 pub use constraint::Constraint;
 pub use contact_table::ContactTable;
-pub use ends::Side;
 pub use fates::{Fate, ShapesById};
 pub use forbidden::{BodyPair, ForbiddenPairs};
 pub use known::{
     all_known_after, contacts_by_codes, contacts_in_parts, known_stays, near_are_known,
 };
-pub use number_book::NumberedContact;
 pub use pair_sweep::PairSweep;
 pub use pending_update::Touches;

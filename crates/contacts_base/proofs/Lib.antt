@@ -7,3 +7,4 @@ pub mod MergeLaws
 pub mod MergedLaws
 pub mod CountingLaws
 pub mod SplitLaws
+mod BodyLaws

@@ -3,6 +3,7 @@
 #![tactic(auto)]
 
 mod ascending;
+mod by_body;
 mod circles;
 mod contact;
 mod contacts;

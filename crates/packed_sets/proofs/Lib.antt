@@ -12,6 +12,3 @@ pub mod ItemLaws
 pub mod StandLaws
 pub mod ThreadLaws
 pub mod SetListLaws
-pub mod LinkLaws
-pub mod SleeperLaws
-pub mod WalkLaws

@@ -26,11 +26,6 @@
 //! set takes items and is emptied as a whole by [`SolverSets::wake`]: no item is taken out of it alone, since whatever changes a sleeping
 //! set wakes it first. Each list has room for all items that there are, so that only [`SolverSets::reserve`] and a copy take memory.
 //!
-//! # Linked sets
-//!
-//! [`LinkedSets`] are sets of which an id comes and goes in constant time, in any order, with no room for each set: a thread through the ids, each of
-//! which tells the one before it and the one behind it.
-//!
 //! # Marks
 //!
 //! [`Marks`] are one set of slots: a flag for each, and a list of those that are marked.
@@ -38,7 +33,6 @@
 
 mod copying;
 mod ids;
-mod linked_sets;
 mod marks;
 mod packing;
 mod set_items;
@@ -51,7 +45,6 @@ mod spots;
 mod stands;
 
 pub use ids::Id;
-pub use linked_sets::LinkedSets;
 pub use marks::{MAX_MARKS, Marks, limits_in_digits};
 pub use set_items::items_stand_there;
 pub use sets::{MAX_SETS, PackedSets};

@@ -1,44 +1,23 @@
 //! The items of each sleeping set as a thread, whose head stands at the set's name.
 
-ghost use Rattle.std.specs.Prelude.{◌≡◌, ◌≢◌, ◌+◌, ◌<◌, ◌≤◌, None, Some, cond, drop, length, map, nat_lt, slice_set, take, vec_capacity};
+ghost use Rattle.std.specs.Prelude.{◌≡◌, ◌≢◌, ◌+◌, ◌<◌, ◌≤◌, None, Some, drop, length, map, slice_set, take, vec_capacity};
 ghost use Rattle.std.specs.List.Sorted.{IsPermutation};
 ghost use Rattle.packed_sets.specs.declared.stands.TheConstants.{NO_ITEM};
 ghost use Rattle.packed_sets.specs.declared.stands.Stand.TheVariants.{Sleeping as Asleep};
 ghost use Rattle.packed_sets.specs.Stands.{items_of, stand_at, woken};
-ghost use Rattle.packed_sets.specs.Threads.{AreHeld, AreSized, AreStrung, ListsStay, head_at, place_at};
+ghost use Rattle.packed_sets.specs.Threads.{AreHeld, AreSized, AreStrung, ListsStay, head_at};
 
 use crate::packing::push_reserved;
 use crate::set_lists::put_in_list;
 use crate::stands::{AWAKE, NO_ITEM, Stand};
 
 /// The first item of a sleeping set; [`NO_ITEM`] where it has none.
-pub(crate) fn first_of(heads: &[u32], name: u32) -> u32
+fn first_of(heads: &[u32], name: u32) -> u32
     ensures { result ≡ head_at heads.now name }
 {
     match heads.get(name as usize) {
         Some(first) => *first,
         None => NO_ITEM,
-    }
-}
-
-/// The item that follows this one in its sleeping set; [`NO_ITEM`] where none does.
-pub(crate) fn next_of(places: &[u32], id: u32) -> u32
-    ensures { result ≡ place_at places.now id }
-{
-    match places.get(id as usize) {
-        Some(next) => *next,
-        None => NO_ITEM,
-    }
-}
-
-/// An item, unless it is none.
-pub(crate) fn some_item(stands: &[Option<Stand>], id: u32) -> Option<u32>
-    ensures { result ≡ cond (nat_lt id (length stands.now)) (Some id) None }
-{
-    if (id as usize) < stands.len() {
-        Some(id)
-    } else {
-        None
     }
 }
 

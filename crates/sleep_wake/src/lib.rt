@@ -10,6 +10,7 @@
 //! it and what follows from it.
 #![tactic(auto)]
 
+mod by_mover;
 mod change;
 pub mod examples;
 mod gathering;
@@ -21,7 +22,6 @@ mod phase;
 mod resting;
 mod sets;
 mod splits;
-mod tie_source;
 mod ties;
 mod wake_and_sleep;
 mod work;
@@ -30,4 +30,3 @@ pub use change::Change;
 pub use names::{push_some, put_some, sort_once};
 pub use phase::{TICKS_TO_SLEEP, limits_in_digits};
 pub use sets::Sets;
-pub use tie_source::TieSource;

@@ -12,3 +12,4 @@ pub mod Laws
 pub mod Census
 pub mod CensusListing
 pub mod EachOnce
+pub mod Anchors

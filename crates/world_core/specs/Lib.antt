@@ -9,5 +9,3 @@ pub mod Stirring
 pub mod Trees
 pub mod SavedAgain
 pub mod Grown
-pub mod WorldTies
-pub mod Committing

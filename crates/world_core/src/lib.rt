@@ -12,7 +12,6 @@ mod kept_awake;
 mod laws;
 mod list_to_wake;
 mod membership;
-mod own_contacts;
 mod own_joints;
 mod plain_parts;
 mod preparing;
@@ -26,7 +25,6 @@ mod solving;
 mod telling;
 mod wake_and_sleep;
 mod world;
-mod world_ties;
 
 pub use body_handles::{Handle, SlotEntry};
 pub use colour_solver::{OneThread, StepSolver};

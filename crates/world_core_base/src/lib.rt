@@ -13,7 +13,6 @@
 #![tactic(auto)]
 
 mod body_table;
-mod contact_sets;
 mod covers;
 mod forbidden_pairs;
 mod gather;
@@ -31,9 +30,6 @@ mod telling;
 mod timing;
 
 pub use body_table::BodyTable;
-pub use contact_sets::{
-    drop_contact_stands, follow_contacts, list_contact_stands, renew_contact_stands,
-};
 pub use gather::gather_rows;
 pub use joint_ends::Ends;
 pub use joint_sets::{drop_joint_stands, list_joint_stands, put_joint_stand};

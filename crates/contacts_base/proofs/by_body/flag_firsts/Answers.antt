@@ -1,0 +1,22 @@
+use Rattle.std.proofs.Common.{◌<◌, length, List, ℕ, arith, ap, sym, ◌∙◌}
+use Rattle.contacts_base.specs.Split.{is_first, over_at}
+use Rattle.contacts_base.proofs.BodyLaws.{IsSpan, flagged_at, span_ends, span_has, span_starts}
+use Rattle.contacts_base.proofs.by_body.flag_firsts.Goals as goal
+
+pub loop-place-init : goal.loop-place-init
+loop-place-init c =
+    let span : IsSpan c.args.slot c.args.entries.now c.first_place-place.result c.place_beyond-place-end.result = record { start_within = c.first_place-place.ensures.within; end_within = c.place_beyond-place-end.ensures.within; below = c.first_place-place.ensures.before; from = c.first_place-place.ensures.after; upto = c.place_beyond-place-end.ensures.before; beyond = c.place_beyond-place-end.ensures.after } in
+    ap (λ (l : List ℕ). over_at l c.args.flags.now) (span_starts c.args.slot c.args.entries.now c.first_place-place.result c.place_beyond-place-end.result span)
+
+pub loop-place-preserved : goal.loop-place-preserved
+loop-place-preserved c =
+    let es = c.args.entries.now in
+    let k = c.loop-place.place in
+    let lt : k < length es = omega (arith, c.loop-place-test.true, c.place_beyond-place-end.ensures.within) in
+    let span : IsSpan c.args.slot c.args.entries.now c.first_place-place.result c.place_beyond-place-end.result = record { start_within = c.first_place-place.ensures.within; end_within = c.place_beyond-place-end.ensures.within; below = c.first_place-place.ensures.before; from = c.first_place-place.ensures.after; upto = c.place_beyond-place-end.ensures.before; beyond = c.place_beyond-place-end.ensures.after } in
+    flagged_at (is_first c.args.slot) es k c.loop-place.flags c.set.new.self _ lt (span_has c.args.slot es c.first_place-place.result c.place_beyond-place-end.result k span c.loop-place.auto.place c.loop-place-test.true) c.set.ensures c.loop-place.invariant
+
+pub returns : goal.returns
+returns c =
+    let span : IsSpan c.args.slot c.args.entries.now c.first_place-place.result c.place_beyond-place-end.result = record { start_within = c.first_place-place.ensures.within; end_within = c.place_beyond-place-end.ensures.within; below = c.first_place-place.ensures.before; from = c.first_place-place.ensures.after; upto = c.place_beyond-place-end.ensures.before; beyond = c.place_beyond-place-end.ensures.after } in
+    sym (ap (λ (l : List ℕ). over_at l c.loop-place.flags) (span_ends c.args.slot c.args.entries.now c.first_place-place.result c.place_beyond-place-end.result c.loop-place.place span c.loop-place-test.false)) ∙ c.loop-place.invariant
