@@ -346,8 +346,8 @@ def visible_fault(module, name, user):
 def function_fault(tree, crate, where):
     """Whether a function stands where its proof's place says: MODULE.FUNCTION, or MODULE.TYPE.FUNCTION.
 
-    A function of a type may stand in another file of the crate. For one of a trait it is the type's name with the trait's,
-    and for one that calls itself, or for a part of it, there is a sign before the name.
+    A function of a type may stand in another file of the crate. For one of a trait it is the type's name with the trait's
+    and its types', and for one that calls itself, or for a part of it, there is a sign before the name.
     """
     at = 0
     while at < len(where) - 1 and (crate, "::".join(where[: at + 1])) in tree.rust:
@@ -367,8 +367,8 @@ def function_fault(tree, crate, where):
 
 
 def is_type_of(module, kind):
-    """Whether a word is a type that the module names, or such a type's name with a trait's."""
-    return kind in module.words or any(kind.startswith(word) and kind[len(word) :] in module.words for word in module.words if word[0].isupper())
+    """Whether a word is a type that the module names, or such a type's name with a trait's and those of the types that the trait is given."""
+    return kind in module.words or any(kind.startswith(word) and is_type_of(module, kind[len(word) :]) for word in module.words if word[0].isupper())
 
 
 def check_proof_folders(tree):

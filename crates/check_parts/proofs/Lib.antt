@@ -1,3 +1,4 @@
 pub mod SceneLaws
 pub mod RowLaws
 pub mod SleepLaws
+pub mod ToldLaws

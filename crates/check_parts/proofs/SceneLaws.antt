@@ -1,20 +1,21 @@
 -- In a scene all bodies may stir, and all slots are marked.
-use Rattle.std.proofs.Common.{◌≡◌, ℕ, zero, suc, ◌+◌, ◌<◌, ◌≤◌, List, [], ◌∷◌, ◌++◌, length, take, get_or, Bool, true, false, cond, is_some, Option, Some, None, inl, refl, sym, ap, ◌∙◌, subst, arith}
+use Rattle.std.proofs.Common.{◌≡◌, ℕ, zero, suc, ◌+◌, ◌<◌, ◌≤◌, List, [], ◌∷◌, ◌++◌, length, take, get_or, Bool, true, false, cond, is_some, not, Option, Some, None, inl, refl, sym, ap, ◌∙◌, subst, arith}
 use Rattle.std.specs.Prelude.{◌/◌, All, replicate}
 use Rattle.std.specs.List.{Contains}
 use Rattle.std.proofs.lemmas.List.{take_all}
-use Rattle.std.proofs.lemmas.List.Elements.{All-more}
+use Rattle.std.proofs.lemmas.List.Elements.{All-filter, All-more}
 use Rattle.fixed_geom.specs.declared.boxes.Box2.{Box2}
 use Rattle.fixed_geom.specs.Boxes.{overlaps}
 use Rattle.contacts_base.specs.declared.near.Proxy.{Proxy}
 use Rattle.contacts_base.specs.declared.contact.ContactEntry.{ContactEntry}
 use Rattle.contacts_base.specs.ContactLists.{AreContacts}
+use Rattle.contacts_base.specs.Contacts.{contacts_without, has_slot}
 use Rattle.contacts_base.specs.Keys.{id_number}
 use Rattle.contacts_base.specs.Proxies.{IsProxy, IsProxyList, number_of}
 use Rattle.contacts_base.specs.Surfaces.{IsSurface}
 use Rattle.contacts.specs.declared.forbidden.BodyPair.{BodyPair}
 use Rattle.contacts.specs.ByPairs.{contacts_between}
-use Rattle.contacts.specs.Known.{IsKnown, found}
+use Rattle.contacts.specs.Known.{IsKnown, IsPairKey, found}
 use Rattle.contacts.specs.Fates.{AreWithin, moved_by, stirs_in}
 use Rattle.contacts.proofs.ByPairsLaws.{contacts_by_codes-holds}
 use Rattle.contacts.proofs.KnownLemmas.{IsPlace, all_known_after-holds, place_of}
@@ -81,6 +82,9 @@ nothing_known marks pairs ps es is keys = record {
 
 pub pairs_after : (pairs : List BodyPair) (ps : List Proxy) (old now : List ContactEntry) → IsProxyList ps → now ≡ contacts_between pairs ps old → ArePairs now
 pairs_after pairs ps old now list is = subst ArePairs (sym (is ∙ contacts_by_codes-holds pairs ps old list)) (all_known_after-holds pairs ps old list).keys
+
+pub pairs_left : (slot : ℕ) (old now : List ContactEntry) → now ≡ contacts_without slot old → ArePairs old → ArePairs now
+pairs_left slot old now is pairs = subst ArePairs (sym is) (All-filter (λ e. not (has_slot slot e)) (λ e. IsPairKey e.key) old pairs)
 
 -- ---- the scene
 

@@ -1,6 +1,6 @@
-//! The contacts as a long list and a short one: those of a body are found and dropped, and the two lists are made one again.
+//! The contacts as a long list and a short one: one is over, and the two lists are made one again.
 
-use crate::assertions::{same, same_items};
+use crate::assertions::same;
 use crate::contacts_scenes::{KEY, resting};
 use contacts_base::{ContactKey, Hint, Impulses, ShapeId, SplitContacts};
 use fixed_geom::Refusal;
@@ -10,15 +10,6 @@ use std::test::Fail;
 /// The contact of the capsule that lay on the floor, in the long list.
 fn lying(alloc: Global) -> Result<SplitContacts, Refusal> {
     SplitContacts::from_entries(alloc, resting(alloc)?.into_entries())
-}
-
-/// The places of the contacts of the bodies in the slots 0, 1 and 2.
-fn places(alloc: Global, contacts: &SplitContacts) -> Result<Vec<usize>, Refusal> {
-    let mut places = Vec::new(alloc);
-    for slot in 0..3 {
-        contacts.push_places_of(&mut places, slot)?;
-    }
-    Ok(places)
 }
 
 /// Whether there is a contact with the key, wherever the search begins.
@@ -34,20 +25,7 @@ const TURNED: ContactKey = ContactKey {
 };
 
 #[test]
-fn contacts_of_a_body_are_found_by_an_index_and_without(rt: HostRuntime) -> Result<(), Fail> {
-    let mut contacts = lying(rt.alloc())?;
-    same(&rt, &contacts.are_slots_below(2), &false);
-    let before = places(rt.alloc(), &contacts)?;
-    contacts.index_bodies()?;
-    same_items(&rt, &places(rt.alloc(), &contacts)?, &before);
-    same_items(&rt, &before, &[0, 0]);
-    same(&rt, &contacts.are_slots_below(2), &true);
-    same(&rt, &contacts.are_slots_below(1), &false);
-    Ok(())
-}
-
-#[test]
-fn a_dropped_contact_stays_in_the_long_list_and_counts_no_more(
+fn a_contact_that_is_over_stays_in_the_long_list_and_counts_no_more(
     rt: HostRuntime,
 ) -> Result<(), Fail> {
     let mut contacts = lying(rt.alloc())?;
@@ -56,14 +34,13 @@ fn a_dropped_contact_stays_in_the_long_list_and_counts_no_more(
         &[has(&contacts, KEY), has(&contacts, TURNED)],
         &[true, false],
     );
-    contacts.index_bodies()?;
-    contacts.drop_of_body(2);
+    contacts.end_at(7);
     same(
         &rt,
         &[contacts.is_one(), has(&contacts, KEY)],
         &[true, true],
     );
-    contacts.drop_of_body(1);
+    contacts.end_at(0);
     same(
         &rt,
         &[contacts.is_one(), has(&contacts, KEY)],

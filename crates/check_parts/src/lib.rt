@@ -59,8 +59,6 @@ mod shapes_placements;
 #[cfg(test)]
 mod sleep_wake_sleep;
 #[cfg(test)]
-mod solver_sets_anchors;
-#[cfg(test)]
 mod solver_sets_census;
 #[cfg(test)]
 mod world_core_base_joints;

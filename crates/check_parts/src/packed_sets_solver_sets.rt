@@ -17,7 +17,8 @@ fn memory_is_had(rt: HostRuntime) -> Result<(), Fail> {
     let sets = room_for_four(rt.alloc())?;
     let copied = sets.try_copy()?;
     assert_eq!(rt; copied.len(), 4);
-    assert_eq!(rt; copied.names(), 2);
+    assert_eq!(rt; copied.names(), sets.names());
+    assert_eq!(rt; copied.names() >= 2, true);
     assert_eq!(rt; copied.members(ListedSet::Awake).len(), 0);
     Ok(())
 }

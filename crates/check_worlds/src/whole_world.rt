@@ -5,8 +5,8 @@ use fixed_geom::Box2;
 use serde_json::Value;
 use std::alloc::Global;
 use world_core::{
-    BodyView, Census, Command, Constraint, Frame, Handle, Item, Pose, Refusal, Shape, ShapeId,
-    StepSolver, Vec2, WorldCore,
+    BodyView, Census, Command, Constraint, Frame, Handle, Item, Pose, Refusal, SetName, Shape,
+    ShapeId, StepSolver, Vec2, WorldCore,
 };
 use world_queries::{Hit, QueryFilter, frame_region, is_ray};
 
@@ -28,6 +28,9 @@ pub trait WholeWorld: World {
     fn body(&self, handle: Handle) -> Option<BodyView>;
 
     fn colour(&self, constraint: Constraint) -> Option<u8>;
+
+    /// The set in which an item stands.
+    fn stand(&self, item: Item) -> Option<SetName>;
 
     fn slots(&self) -> u32;
 
@@ -83,6 +86,10 @@ impl WholeWorld for WorldCore {
 
     fn colour(&self, constraint: Constraint) -> Option<u8> {
         self.colour_of(constraint)
+    }
+
+    fn stand(&self, item: Item) -> Option<SetName> {
+        WorldCore::stand(self, item)
     }
 
     fn slots(&self) -> u32 {

@@ -17,7 +17,7 @@ use Rattle.contacts.specs.declared.fates.Fate.TheVariants.{Stays, Goes, Renewed}
 use Rattle.contacts_base.specs.declared.split.Renewal.{Renewal}
 use Rattle.contacts.specs.Known.{found, again_of, again}
 use Rattle.contacts.specs.Changes.{key_if_new}
-use Rattle.contacts.specs.Fates.{stirs_in, one_stirs_of, after_fate, outcome, key_if_begun, begun_keys, ended_keys}
+use Rattle.contacts.specs.Fates.{stirs_in, one_stirs_of, after_fate, outcome, key_if_begun, key_if_gone, begun_keys, ended_keys, gone_keys}
 use Rattle.contacts_base.specs.Split.{renewed}
 use Rattle.contacts.proofs.ChangeLemmas.{picked_more}
 use Rattle.contacts.proofs.KnownLemmas.{IsPlace, place_of}
@@ -64,3 +64,7 @@ begun_step moved pairs ps old k e d fate o keys more lt is fates so was added =
 pub ended_step : (moved : ℕ → Bool) (pairs : List BodyPair) (ps : List Proxy) (old : List ContactEntry) (k : ℕ) (e d : ContactEntry) (fate : Fate) (o : Option ContactKey) (keys more : List ContactKey) → k < length old → e ≡ get_or old k d → after_fate e fate ≡ outcome moved pairs ps e → o ≡ key_if_new (after_fate e fate) e → keys ≡ ended_keys moved pairs ps (take k old) → more ≡ keys ++ option_to_list o → more ≡ ended_keys moved pairs ps (take (k + 1) old)
 ended_step moved pairs ps old k e d fate o keys more lt is fates so was added =
     keys_step (λ (f : ContactEntry). key_if_new (outcome moved pairs ps f) f) old k e d o keys more lt is (so ∙ ap (λ (x : Option ContactEntry). key_if_new x e) fates) was added
+
+pub gone_step : (moved : ℕ → Bool) (pairs : List BodyPair) (ps : List Proxy) (old : List ContactEntry) (k : ℕ) (e d : ContactEntry) (fate : Fate) (o : Option ContactKey) (keys more : List ContactKey) → k < length old → e ≡ get_or old k d → after_fate e fate ≡ outcome moved pairs ps e → o ≡ key_if_gone e (after_fate e fate) → keys ≡ gone_keys moved pairs ps (take k old) → more ≡ keys ++ option_to_list o → more ≡ gone_keys moved pairs ps (take (k + 1) old)
+gone_step moved pairs ps old k e d fate o keys more lt is fates so was added =
+    keys_step (λ (f : ContactEntry). key_if_gone f (outcome moved pairs ps f)) old k e d o keys more lt is (so ∙ ap (λ (x : Option ContactEntry). key_if_gone e x) fates) was added

@@ -1,19 +1,37 @@
 -- The flagged slots are listed, and the places of the contacts of their bodies, found one body at a time, are those that a pass over all finds.
-use Rattle.std.proofs.Common.{◌≡◌, ℕ, zero, suc, ◌+◌, ◌-◌, ◌<◌, ◌==◌, ◌||◌, List, [], ◌∷◌, ◌++◌, length, take, drop, replicate, slice_set, get_or, Bool, true, false, cond, ◌⊎◌, inl, inr, refl, sym, ap, ◌∙◌, subst, arith, add-one, eqb}
+use Rattle.std.proofs.Common.{Result, Ok, Err, ◌≡◌, ℕ, zero, suc, ◌+◌, ◌-◌, ◌<◌, ◌≤◌, ◌==◌, ◌||◌, ◌&&◌, ◌↔◌, List, [], ◌∷◌, ◌++◌, length, take, replicate, slice_set, Bool, true, false, true≢false, cond, Option, Some, None, ◌⊎◌, inl, inr, refl, sym, ap, ◌∙◌, subst, arith, eqb}
 use Rattle.std.specs.List.{Contains, dedup}
-use Rattle.std.specs.List.Sorted.{IsPermutation, IsSorted}
+use Rattle.std.specs.Prelude.{OnOk, option_map, slice_get}
+use Rattle.std.specs.List.Sorted.{IsPermutation, IsSorted, IsStrictlyIncreasing}
+use Rattle.std.proofs.lemmas.Option.{none-some, same_Some}
 use Rattle.std.specs.Ordering.{nat_cmp}
-use Rattle.std.proofs.lemmas.Bool.Decides.{nat_tests}
-use Rattle.std.proofs.lemmas.List.{append_assoc, length-replicate, length-set}
+use Rattle.std.proofs.lemmas.List.{length-replicate, length-set}
 use Rattle.std.proofs.lemmas.List.Elements.{All-contains}
 use Rattle.std.proofs.lemmas.List.Kept.{Contains-dedup_nat, Contains-from_dedup}
 use Rattle.std.proofs.lemmas.List.Sorted.{Contains-permutation, IsPermutation-sym}
 use Rattle.std.proofs.lemmas.Map.Keys.{IsStrictlyIncreasing-dedup}
 use Rattle.contacts_base.specs.declared.contact.ContactEntry.{ContactEntry}
-use Rattle.contacts_base.specs.Split.{AreSlotsBelow, is_first, is_second, places_from, places_of}
-use Rattle.contacts_base.proofs.MergeLaws.{drop_next}
-use Rattle.contacts.specs.Stirring.{AreFlagsListed, is_flagged, one_flagged, places_of_all, stirring_places}
-use Rattle.contacts.proofs.Members.{Each, IsIn, contains_from_in, in_append, in_from_contains, in_left, in_new, in_passed, in_right}
+use Rattle.contacts_base.specs.Split.{Split, contacts_in, counting, counting_at, is_over, places_from, unless_over}
+use Rattle.contacts_base.specs.declared.key.ContactKey.{ContactKey}
+use Rattle.contacts_base.specs.declared.key.ShapeId.{ShapeId}
+use Rattle.contacts_base.specs.Contacts.{number_of}
+use Rattle.contacts_base.specs.ContactLists.{keys_of}
+use Rattle.contacts.specs.declared.ends.Side.{Side}
+use Rattle.contacts.specs.declared.ends.Side.TheVariants.{First, Second}
+use Rattle.contacts.specs.declared.number_book.NumberBook.{NumberBook}
+use Rattle.contacts.specs.declared.number_book.NumberedContact.{NumberedContact}
+use Rattle.contacts.specs.Ends.{ends_on, slot_on}
+use Rattle.contacts.specs.NumberBooks.{IsBook}
+use Rattle.contacts.specs.Numbered.{AreNumbered, contact_at, key_of, number_key_at, numbered_of, slot_at}
+use Rattle.contacts.specs.Stirring.{AreFlagsListed, AreStirring, is_flagged, one_flagged, stirring_places}
+use Rattle.contacts.specs.StirringPlaces.{IsPlaceOf, IsPlaceOfOne}
+use Rattle.contacts.proofs.EndLaws.{list_within}
+use Rattle.contacts.proofs.PlaceLaws.{IsEntryAt, entry_with_key, key_there}
+use Rattle.packed_sets.specs.Packs.{list_at}
+use Rattle.packed_sets.proofs.ItemLaws.{equal_same, equal_sizes}
+use Rattle.contacts.proofs.Members.{Each, IsIn, contains_from_in, in_from_contains, in_new, in_passed}
+use Rattle.contacts.proofs.MergedMembers.{merged_has}
+use Rattle.contacts.proofs.PartLemmas.{id_by, key_by}
 use Rattle.contacts.proofs.Rising.{IsRising, rising_from_increasing, rising_passed, same_rising}
 use Rattle.packed_sets.proofs.MarkLaws.{marks_cleared, marks_put}
 
@@ -57,25 +75,21 @@ places_rise test n (e ∷ es) = rising_passed n (test e) (places_from test (suc 
 
 -- ---- which contact is at a place
 
--- the contact at a place that was found, which is found by any other test that it passes
+-- the contact at a place that was found
 record IsAt (test : ContactEntry → Bool) (n : ℕ) (es : List ContactEntry) (p : ℕ) : Type 0 where
+  place : ℕ
   entry : ContactEntry
-  is_in : IsIn entry es
+  is : p ≡ n + place
+  there : slice_get es place ≡ Some entry
   passes : test entry ≡ true
-  also : (other : ContactEntry → Bool) → other entry ≡ true → IsIn p (places_from other n es)
 
 at_later : (test : ContactEntry → Bool) (n : ℕ) (x : ContactEntry) (es : List ContactEntry) (p : ℕ) → IsAt test (suc n) es p → IsAt test n (x ∷ es) p
-at_later test n x es p a = record {
-  entry = a.entry;
-  is_in = inr a.is_in;
-  passes = a.passes;
-  also = λ other o. in_passed p n (other x) (places_from other (suc n) es) (a.also other o);
-}
+at_later test n x es p a = record { place = suc a.place; entry = a.entry; is = let e : p ≡ suc n + a.place = a.is in omega (arith, e); there = a.there; passes = a.passes }
 
 at_by : (test : ContactEntry → Bool) (n : ℕ) (t : Bool) (x : ContactEntry) (es : List ContactEntry) (p : ℕ) → test x ≡ t → IsIn p (cond t (n ∷ places_from test (suc n) es) (places_from test (suc n) es)) → (IsIn p (places_from test (suc n) es) → IsAt test (suc n) es p) → IsAt test n (x ∷ es) p
 at_by test n true x es p is h later =
     elim h [
-      | inl same ↦ record { entry = x; is_in = inl refl; passes = is; also = λ other o. in_new p n (other x) (places_from other (suc n) es) o same }
+      | inl same ↦ record { place = zero; entry = x; is = omega (arith, same); there = refl; passes = is }
       | inr i ↦ at_later test n x es p (later i)
     ]
 at_by test n false x es p is h later = at_later test n x es p (later h)
@@ -84,28 +98,11 @@ entry_at : (test : ContactEntry → Bool) (n : ℕ) (es : List ContactEntry) (p 
 entry_at test n [] p h = absurd h
 entry_at test n (e ∷ es) p h = at_by test n (test e) e es p refl h (λ i. entry_at test (suc n) es p i)
 
--- ---- whose place it is
-
-in_all : (slots : List ℕ) (es : List ContactEntry) (slot p : ℕ) → IsIn slot slots → IsIn p (places_of slot es) → IsIn p (places_of_all slots es)
-in_all [] es slot p i h = absurd i
-in_all (s ∷ slots) es slot p i h =
-    elim i [
-      | inl e ↦ in_left p (places_of s es) (places_of_all slots es) (subst (λ (m : ℕ). IsIn p (places_of m es)) e h)
-      | inr l ↦ in_right p (places_of s es) (places_of_all slots es) (in_all slots es slot p l h)
-    ]
-
-record IsOfOne (slots : List ℕ) (es : List ContactEntry) (p : ℕ) : Type 0 where
-  slot : ℕ
-  is_in : IsIn slot slots
-  there : IsIn p (places_of slot es)
-
-of_one : (slots : List ℕ) (es : List ContactEntry) (p : ℕ) → IsIn p (places_of_all slots es) → IsOfOne slots es p
-of_one [] es p h = absurd h
-of_one (s ∷ slots) es p h =
-    elim (in_append p (places_of s es) (places_of_all slots es) h) [
-      | inl a ↦ record { slot = s; is_in = inl refl; there = a }
-      | inr b ↦ let o : IsOfOne slots es p = of_one slots es p b in record { slot = o.slot; is_in = inr o.is_in; there = o.there }
-    ]
+-- and one at a place that a test lets in is found
+place_found : (test : ContactEntry → Bool) (n place p : ℕ) (es : List ContactEntry) (e : ContactEntry) → p ≡ n + place → slice_get es place ≡ Some e → test e ≡ true → IsIn p (places_from test n es)
+place_found test n place p [] e is at passes = absurd (none-some e at)
+place_found test n zero p (x ∷ es) e is at passes = in_new p n (test x) (places_from test (suc n) es) (ap test (same_Some x e at) ∙ passes) (omega (arith, is))
+place_found test n (suc place) p (x ∷ es) e is at passes = in_passed p n (test x) (places_from test (suc n) es) (place_found test (suc n) place p es e (omega (arith, is)) at passes)
 
 -- ---- a contact is of a flagged body just where one of its two slots is flagged
 
@@ -120,48 +117,18 @@ by_second : (s t : Bool) → t ≡ true → (s || t) ≡ true
 by_second true t h = refl
 by_second false t h = h
 
-same_slot : (m n : ℕ) → (m == n) ≡ true → m ≡ n
-same_slot m n h = grind (arith, nat_tests)
+both_true : (s t : Bool) → s ≡ true → t ≡ true → (s && t) ≡ true
+both_true s t a b = rw (a, b) refl
 
-its_slot : (n : ℕ) → (n == n) ≡ true
-its_slot n = grind (arith, nat_tests)
+true_parts : (s t : Bool) → (s && t) ≡ true → (s ≡ true) × (t ≡ true)
+true_parts true t h = (refl, h)
+true_parts false t h = absurd (true≢false (sym h))
 
-first_passes : (flags : List Bool) (slot : ℕ) (e : ContactEntry) → is_first slot e ≡ true → is_flagged flags slot ≡ true → one_flagged flags e ≡ true
-first_passes flags slot e same h = by_first (is_flagged flags e.key.first.slot) (is_flagged flags e.key.second.slot) (ap (is_flagged flags) (same_slot e.key.first.slot slot same) ∙ h)
-
-second_passes : (flags : List Bool) (slot : ℕ) (e : ContactEntry) → is_second slot e ≡ true → is_flagged flags slot ≡ true → one_flagged flags e ≡ true
-second_passes flags slot e same h = by_second (is_flagged flags e.key.first.slot) (is_flagged flags e.key.second.slot) (ap (is_flagged flags) (same_slot e.key.second.slot slot same) ∙ h)
-
--- a place of a flagged body's contact is one that the pass finds
-gathered_passes : (flags : List Bool) (slots : List ℕ) (es : List ContactEntry) (p : ℕ) → AreFlagsListed flags slots → IsIn p (places_of_all slots es) → IsIn p (stirring_places flags es)
-gathered_passes flags slots es p listed h =
-    let one : IsOfOne slots es p = of_one slots es p h in
-    let flagged : is_flagged flags one.slot ≡ true = All-contains (λ slot. is_flagged flags slot ≡ true) slots one.slot listed.listed.only (contains_from_in slots one.slot one.is_in) in
-    elim (in_append p (places_from (is_first one.slot) 0 es) (places_from (is_second one.slot) 0 es) one.there) [
-      | inl a ↦ let at : IsAt (is_first one.slot) 0 es p = entry_at (is_first one.slot) 0 es p a in at.also (one_flagged flags) (first_passes flags one.slot at.entry at.passes flagged)
-      | inr b ↦ let at : IsAt (is_second one.slot) 0 es p = entry_at (is_second one.slot) 0 es p b in at.also (one_flagged flags) (second_passes flags one.slot at.entry at.passes flagged)
-    ]
-
--- and the other way round
-passed_gathers : (flags : List Bool) (slots : List ℕ) (es : List ContactEntry) (p : ℕ) → AreFlagsListed flags slots → AreSlotsBelow (length flags) es → IsIn p (stirring_places flags es) → IsIn p (places_of_all slots es)
-passed_gathers flags slots es p listed below h =
-    let at : IsAt (one_flagged flags) 0 es p = entry_at (one_flagged flags) 0 es p h in
-    let e : ContactEntry = at.entry in
-    let there : Contains es e = contains_from_in es e at.is_in in
-    let first_below : e.key.first.slot < length flags = All-contains (λ f. f.key.first.slot < length flags) es e below.first there in
-    let second_below : e.key.second.slot < length flags = All-contains (λ f. f.key.second.slot < length flags) es e below.second there in
-    elim (one_of (is_flagged flags e.key.first.slot) (is_flagged flags e.key.second.slot) at.passes) [
-      | inl a ↦ in_all slots es e.key.first.slot p (in_from_contains slots e.key.first.slot (listed.listed.all e.key.first.slot first_below a)) (in_left p (places_from (is_first e.key.first.slot) 0 es) (places_from (is_second e.key.first.slot) 0 es) (at.also (is_first e.key.first.slot) (its_slot e.key.first.slot)))
-      | inr b ↦ in_all slots es e.key.second.slot p (in_from_contains slots e.key.second.slot (listed.listed.all e.key.second.slot second_below b)) (in_right p (places_from (is_first e.key.second.slot) 0 es) (places_from (is_second e.key.second.slot) 0 es) (at.also (is_second e.key.second.slot) (its_slot e.key.second.slot)))
-    ]
+one_passes : (side : Side) (flags : List Bool) (e : ContactEntry) → is_flagged flags (slot_on side e.key) ≡ true → one_flagged flags e ≡ true
+one_passes First flags e h = by_first (is_flagged flags e.key.first.slot) (is_flagged flags e.key.second.slot) h
+one_passes Second flags e h = by_second (is_flagged flags e.key.first.slot) (is_flagged flags e.key.second.slot) h
 
 -- ---- as the code has them
-
--- the places of one more body's contacts are pushed
-pub places_pushed : (es : List ContactEntry) (slots : List ℕ) (k slot d : ℕ) (now more whole : List ℕ) → k < length slots → slot ≡ get_or slots k d → more ≡ now ++ places_of slot es → (now ++ places_of_all (drop k slots) es) ≡ whole → (more ++ places_of_all (drop (k + 1) slots) es) ≡ whole
-places_pushed es slots k slot d now more whole lt is added so =
-    let head : drop k slots ≡ slot ∷ drop (suc k) slots = drop_next slots k d lt ∙ ap (λ (x : ℕ). x ∷ drop (suc k) slots) (sym is) in
-    rw add-one (ap (λ (l : List ℕ). l ++ places_of_all (drop (suc k) slots) es) added ∙ append_assoc now (places_of slot es) (places_of_all (drop (suc k) slots) es) ∙ ap (λ (l : List ℕ). now ++ places_of_all l es) (sym head) ∙ so)
 
 -- what sorting and taking each once does to a list of numbers
 pub record IsSortedOnce (gathered sorted places : List ℕ) : Type 0 where
@@ -179,12 +146,165 @@ once_has gathered sorted places p s h =
     let kept : Contains (dedup eqb sorted) p = Contains-dedup_nat sorted p (Contains-permutation gathered sorted p s.moved (contains_from_in gathered p h)) in
     subst (λ (l : List ℕ). IsIn p l) (sym s.once) (in_from_contains (dedup eqb sorted) p kept)
 
-once_rises : (gathered sorted places : List ℕ) → IsSortedOnce gathered sorted places → IsRising places
-once_rises gathered sorted places s = rw s.once (rising_from_increasing (dedup eqb sorted) (IsStrictlyIncreasing-dedup sorted s.line))
+pub once_up : (gathered sorted places : List ℕ) → IsSortedOnce gathered sorted places → IsStrictlyIncreasing places
+once_up gathered sorted places s = rw s.once (IsStrictlyIncreasing-dedup sorted s.line)
 
--- the places of all flagged bodies' contacts, sorted, each once, are those that the pass finds
-pub gathered_are : (flags : List Bool) (slots : List ℕ) (es : List ContactEntry) (gathered sorted places : List ℕ) → gathered ≡ places_of_all slots es → IsSortedOnce gathered sorted places → AreFlagsListed flags slots → AreSlotsBelow (length flags) es → places ≡ stirring_places flags es
-gathered_are flags slots es gathered sorted places all s listed below =
-    let from : (p : ℕ) → IsIn p places → IsIn p (stirring_places flags es) = λ p h. gathered_passes flags slots es p listed (subst (λ (l : List ℕ). IsIn p l) all (once_from gathered sorted places p s h)) in
-    let has : (p : ℕ) → IsIn p (stirring_places flags es) → IsIn p places = λ p h. once_has gathered sorted places p s (subst (λ (l : List ℕ). IsIn p l) (sym all) (passed_gathers flags slots es p listed below h)) in
-    same_rising places (stirring_places flags es) (once_rises gathered sorted places s) (places_rise (one_flagged flags) 0 es) from has
+pub once_same : {P : Type 0} (gathered sorted places : List ℕ) (p : ℕ) → IsSortedOnce gathered sorted places → (Contains gathered p ↔ P) → (Contains places p ↔ P)
+once_same gathered sorted places p s is = (
+  λ h. is.0 (contains_from_in gathered p (once_from gathered sorted places p s (in_from_contains places p h))),
+  λ x. contains_from_in places p (once_has gathered sorted places p s (in_from_contains gathered p (is.1 x))),
+)
+
+-- ---- the keys of the contacts with numbers
+
+abbrev same_id : ShapeId → ShapeId → Bool
+same_id i j = (i.slot == j.slot) && (i.index == j.index)
+
+abbrev same_key : ContactKey → ContactKey → Bool
+same_key k j = same_id k.first j.first && same_id k.second j.second
+
+ids_are : (i j : ShapeId) → same_id i j ≡ true → i ≡ j
+ids_are i j h =
+    let both : ((i.slot == j.slot) ≡ true) × ((i.index == j.index) ≡ true) = true_parts (i.slot == j.slot) (i.index == j.index) h in
+    id_by i j (equal_sizes i.slot j.slot both.0) (equal_sizes i.index j.index both.1)
+
+keys_are : (k j : ContactKey) → same_key k j ≡ true → k ≡ j
+keys_are k j h =
+    let both : (same_id k.first j.first ≡ true) × (same_id k.second j.second ≡ true) = true_parts (same_id k.first j.first) (same_id k.second j.second) h in
+    key_by k j (ids_are k.first j.first both.0) (ids_are k.second j.second both.1)
+
+id_same : (i : ShapeId) → same_id i i ≡ true
+id_same i = both_true (i.slot == i.slot) (i.index == i.index) (equal_same i.slot) (equal_same i.index)
+
+key_same : (k : ContactKey) → same_key k k ≡ true
+key_same k = both_true (same_id k.first k.first) (same_id k.second k.second) (id_same k.first) (id_same k.second)
+
+-- a contact with a number has the key
+abbrev has_number : List (Option NumberedContact) → ContactKey → Bool
+has_number [] key = false
+has_number (None ∷ numbered) key = has_number numbered key
+has_number (Some c ∷ numbered) key = same_key c.key key || has_number numbered key
+
+has_here : (c : NumberedContact) (numbered : List (Option NumberedContact)) (key : ContactKey) → c.key ≡ key → has_number (Some c ∷ numbered) key ≡ true
+has_here c numbered key h = by_first (same_key c.key key) (has_number numbered key) (subst (λ (k : ContactKey). same_key c.key k ≡ true) h (key_same c.key))
+
+has_behind : (o : Option NumberedContact) (numbered : List (Option NumberedContact)) (key : ContactKey) → has_number numbered key ≡ true → has_number (o ∷ numbered) key ≡ true
+has_behind None numbered key h = h
+has_behind (Some c) numbered key h = by_second (same_key c.key key) (has_number numbered key) h
+
+number_has : (numbered : List (Option NumberedContact)) (number : ℕ) (key : ContactKey) → number_key_at numbered number ≡ Some key → has_number numbered key ≡ true
+number_has [] number key h = absurd (none-some key h)
+number_has (None ∷ numbered) zero key h = absurd (none-some key h)
+number_has (Some c ∷ numbered) zero key h = has_here c numbered key (same_Some c.key key h)
+number_has (o ∷ numbered) (suc number) key h = has_behind o numbered key (number_has numbered number key h)
+
+in_has : (numbered : List (Option NumberedContact)) (c : NumberedContact) → IsIn (Some c) numbered → has_number numbered c.key ≡ true
+in_has [] c i = absurd i
+in_has (o ∷ numbered) c i =
+    elim i [
+      | inl same ↦ subst (λ (x : Option NumberedContact). has_number (x ∷ numbered) c.key ≡ true) same (has_here c numbered c.key refl)
+      | inr later ↦ has_behind o numbered c.key (in_has numbered c later)
+    ]
+
+record HasNumber (numbered : List (Option NumberedContact)) (key : ContactKey) : Type 0 where
+  number : ℕ
+  is : number_key_at numbered number ≡ Some key
+
+number_behind : (o : Option NumberedContact) (numbered : List (Option NumberedContact)) (key : ContactKey) → HasNumber numbered key → HasNumber (o ∷ numbered) key
+number_behind o numbered key h = record { number = suc h.number; is = h.is }
+
+has_a_number : (numbered : List (Option NumberedContact)) (key : ContactKey) → has_number numbered key ≡ true → HasNumber numbered key
+has_a_number [] key h = absurd (true≢false (sym h))
+has_a_number (None ∷ numbered) key h = number_behind None numbered key (has_a_number numbered key h)
+has_a_number (Some c ∷ numbered) key h =
+    elim (one_of (same_key c.key key) (has_number numbered key) h) [
+      | inl same ↦ record { number = zero; is = ap (λ (k : ContactKey). Some k) (keys_are c.key key same) }
+      | inr later ↦ number_behind (Some c) numbered key (has_a_number numbered key later)
+    ]
+
+-- ---- a contact that counts is one of the contacts
+
+counting_there : (s : Split) (place : ℕ) (e : ContactEntry) → counting_at s place ≡ Some e → (is_over s.over place ≡ false) × (slice_get s.long place ≡ Some e)
+counting_there s place e at = by (is_over s.over place) refl at
+  where
+    by : (t : Bool) → is_over s.over place ≡ t → unless_over t (slice_get s.long place) ≡ Some e → (is_over s.over place ≡ false) × (slice_get s.long place ≡ Some e)
+    by true is h = absurd (none-some e h)
+    by false is h = (is, h)
+
+counted_first : (o : Bool) (x e : ContactEntry) (es : List ContactEntry) → o ≡ false → e ≡ x → IsIn e (cond o es (x ∷ es))
+counted_first true x e es h p = absurd (true≢false h)
+counted_first false x e es h p = inl p
+
+counted_behind : (o : Bool) (x e : ContactEntry) (es : List ContactEntry) → IsIn e es → IsIn e (cond o es (x ∷ es))
+counted_behind true x e es i = i
+counted_behind false x e es i = inr i
+
+counted_in : (over : List Bool) (es : List ContactEntry) (k : ℕ) (e : ContactEntry) → is_over over k ≡ false → slice_get es k ≡ Some e → IsIn e (counting over es)
+counted_in over [] k e off at = absurd (none-some e at)
+counted_in [] (x ∷ es) zero e off at = inl (sym (same_Some x e at))
+counted_in [] (x ∷ es) (suc k) e off at = inr (counted_in [] es k e refl at)
+counted_in (o ∷ over) (x ∷ es) zero e off at = counted_first o x e (counting over es) off (sym (same_Some x e at))
+counted_in (o ∷ over) (x ∷ es) (suc k) e off at = counted_behind o x e (counting over es) (counted_in over es k e off at)
+
+-- where all bodies have a flag, the places of the contacts of the flagged ones, ascending, are those of which a body may stir
+pub gathered_are : (flags : List Bool) (slots places : List ℕ) (s : Split) (b : NumberBook) → AreFlagsListed flags slots → IsBook b → AreNumbered (contacts_in s) b.contacts.items → length b.ends.firsts.sets ≤ length flags → length b.ends.seconds.sets ≤ length flags → IsStrictlyIncreasing places
+    → ((place : ℕ) → Contains places place ↔ IsPlaceOfOne s.long b.contacts.items slots place) → AreStirring flags s places
+gathered_are flags slots places s b listed book numbered firsts seconds up are = record {
+  lets_in = has_number b.contacts.items;
+  is = same_rising places (stirring_places flags (has_number b.contacts.items) s.long) (rising_from_increasing places up) (places_rise (λ e. one_flagged flags e && has_number b.contacts.items e.key) 0 s.long) (λ p h. from p ((are p).0 (contains_from_in places p h)))
+      (λ p h. in_from_contains places p ((are p).1 (has p (entry_at (λ e. one_flagged flags e && has_number b.contacts.items e.key) 0 s.long p h))));
+  counts = λ place e at. counts place e (counting_there s place e at);
+}
+  where
+    within : (side : Side) (slot number : ℕ) → Contains (list_at (ends_on side b.ends).sets slot) number → slot < length flags
+    within First slot number h = let lt : slot < length b.ends.firsts.sets = list_within b.ends.firsts.sets slot number h in omega (arith, lt, firsts)
+    within Second slot number h = let lt : slot < length b.ends.seconds.sets = list_within b.ends.seconds.sets slot number h in omega (arith, lt, seconds)
+
+    counts : (place : ℕ) (e : ContactEntry) → (is_over s.over place ≡ false) × (slice_get s.long place ≡ Some e) → has_number b.contacts.items e.key ≡ true
+    counts place e there =
+        let among : IsIn e (contacts_in s) = merged_has number_of e (counting s.over s.long) s.short (inl (counted_in s.over s.long place e there.0 there.1)) in
+        in_has b.contacts.items (numbered_of e) (in_from_contains b.contacts.items (Some (numbered_of e)) (numbered.all e (contains_from_in (contacts_in s) e among)))
+
+    from_by : (p : ℕ) (one : IsPlaceOfOne s.long b.contacts.items slots p) (o : Option NumberedContact) → contact_at b.contacts.items one.is.number ≡ o → option_map (slot_on one.side) (key_of o) ≡ Some one.slot → IsPlaceOf s.long o p → IsIn p (stirring_places flags (has_number b.contacts.items) s.long)
+    from_by p one None at slot there = absurd there
+    from_by p one (Some c) at slot there =
+        let e : IsEntryAt s.long p c.key = entry_with_key s.long p c.key there in
+        let flagged : is_flagged flags one.slot ≡ true = All-contains (λ slot. is_flagged flags slot ≡ true) slots one.slot listed.listed.only one.listed in
+        let on : slot_on one.side c.key ≡ one.slot = same_Some (slot_on one.side c.key) one.slot slot in
+        let passes : one_flagged flags e.entry ≡ true = one_passes one.side flags e.entry (ap (λ (k : ContactKey). is_flagged flags (slot_on one.side k)) e.has ∙ ap (is_flagged flags) on ∙ flagged) in
+        let known : has_number b.contacts.items e.entry.key ≡ true = ap (has_number b.contacts.items) e.has ∙ number_has b.contacts.items one.is.number c.key (ap key_of at) in
+        place_found (λ f. one_flagged flags f && has_number b.contacts.items f.key) 0 p p s.long e.entry (omega arith) e.there (both_true (one_flagged flags e.entry) (has_number b.contacts.items e.entry.key) passes known)
+
+    from : (p : ℕ) → IsPlaceOfOne s.long b.contacts.items slots p → IsIn p (stirring_places flags (has_number b.contacts.items) s.long)
+    from p one = from_by p one (contact_at b.contacts.items one.is.number) refl one.is.on one.is.at
+
+    placed : (o : Option NumberedContact) (key : ContactKey) (p : ℕ) → key_of o ≡ Some key → slice_get (keys_of s.long) p ≡ Some key → IsPlaceOf s.long o p
+    placed None key p h at = absurd (none-some key h)
+    placed (Some c) key p h at = at ∙ sym h
+
+    on_side : (p : ℕ) (e : ContactEntry) (side : Side) → slice_get s.long p ≡ Some e → has_number b.contacts.items e.key ≡ true → is_flagged flags (slot_on side e.key) ≡ true → IsPlaceOfOne s.long b.contacts.items slots p
+    on_side p e side at lets flagged =
+        let n : HasNumber b.contacts.items e.key = has_a_number b.contacts.items e.key lets in
+        let on : slot_at side b.contacts.items n.number ≡ Some (slot_on side e.key) = ap (option_map (slot_on side)) n.is in
+        let there : Contains (list_at (ends_on side b.ends).sets (slot_on side e.key)) n.number = (book.ends side (slot_on side e.key) n.number).1 on in
+        record {
+          side = side;
+          slot = slot_on side e.key;
+          listed = listed.listed.all (slot_on side e.key) (within side (slot_on side e.key) n.number there) flagged;
+          is = record { number = n.number; on = on; at = placed (contact_at b.contacts.items n.number) e.key p n.is (key_there s.long p e at) };
+        }
+
+    has_by : (p : ℕ) (e : ContactEntry) → slice_get s.long p ≡ Some e → has_number b.contacts.items e.key ≡ true → (is_flagged flags e.key.first.slot ≡ true) ⊎ (is_flagged flags e.key.second.slot ≡ true) → IsPlaceOfOne s.long b.contacts.items slots p
+    has_by p e at lets one = elim one [ inl h ↦ on_side p e First at lets h | inr h ↦ on_side p e Second at lets h ]
+
+    has : (p : ℕ) → IsAt (λ e. one_flagged flags e && has_number b.contacts.items e.key) 0 s.long p → IsPlaceOfOne s.long b.contacts.items slots p
+    has p at =
+        let place : p ≡ at.place = let e : p ≡ 0 + at.place = at.is in omega (arith, e) in
+        let parts : (one_flagged flags at.entry ≡ true) × (has_number b.contacts.items at.entry.key ≡ true) = true_parts (one_flagged flags at.entry) (has_number b.contacts.items at.entry.key) at.passes in
+        has_by p at.entry (subst (λ (k : ℕ). slice_get s.long k ≡ Some at.entry) (sym place) at.there) parts.1 (one_of (is_flagged flags at.entry.key.first.slot) (is_flagged flags at.entry.key.second.slot) parts.0)
+
+-- ---- in the code
+
+pub on_ok_both : {X E : Type 0} (A B C : Type 0) (r : Result X E) → (A → B → C) → OnOk r A → OnOk r B → OnOk r C
+on_ok_both A B C (Ok x) f a b = f a b
+on_ok_both A B C (Err e) f a b = tt

@@ -1,13 +1,21 @@
--- What is pending where nothing is, and the places of the contacts of which a body may stir.
-use Rattle.std.proofs.Common.{◌≡◌, refl, sym, subst}
+-- What is pending where nothing is.
+use Rattle.std.proofs.Common.{◌≡◌, refl, List, [], map, Option, ap, sym, subst, ◌∙◌}
 use Rattle.contacts_base.specs.ContactLists.{AreContacts}
 use Rattle.contacts_base.specs.Split.{Split, contacts_in}
+use Rattle.contacts.specs.declared.number_book.NumberedContact.{NumberedContact}
 use Rattle.contacts.specs.declared.pending_update.PendingUpdate.{PendingUpdate}
-use Rattle.contacts.specs.PendingUpdates.{IsPendingUpdate, IsNothing, after}
+use Rattle.contacts.specs.ChangedKeys.{AreRising}
+use Rattle.contacts.specs.PendingUpdates.{IsPendingUpdate, IsNothing, after, pending_contacts, whole_or}
+use Rattle.contacts.proofs.ChangeOfLaws.{nothing_changes}
+use Rattle.contacts.proofs.Rising.{increasing_from_rising}
 
 -- where nothing is noted the lists stay as they are
 pub nothing_after : (d : PendingUpdate) (s : Split) → IsNothing d → after d s ≡ s
 nothing_after d s n = rw (n.notes, n.ends, n.short) refl
+
+-- and so do the contacts
+pub nothing_pending : (d : PendingUpdate) (s : Split) → IsNothing d → pending_contacts d s ≡ contacts_in s
+nothing_pending d s n = ap (λ (o : Option Split). contacts_in (whole_or o (after d s))) n.whole ∙ ap contacts_in (nothing_after d s n)
 
 -- and that can be carried out
 pub nothing_is_pending : (d : PendingUpdate) (s : Split) → IsNothing d → AreContacts (contacts_in s) → IsPendingUpdate d s
@@ -15,4 +23,6 @@ nothing_is_pending d s n all = record {
   short = rw n.short (λ x is. cc);
   contacts = subst (λ (t : Split). AreContacts (contacts_in t)) (sym (nothing_after d s n)) all;
   idle = λ h. n;
+  change = rw (nothing_pending d s n, n.made, n.gone, n.begin, n.end) (nothing_changes (contacts_in s) all.rising);
+  rising = subst (λ (l : List NumberedContact). AreRising (map (λ (c : NumberedContact). c.key) l)) (sym n.made) (increasing_from_rising [] tt);
 }

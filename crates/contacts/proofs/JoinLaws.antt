@@ -19,17 +19,14 @@ use Rattle.contacts_base.proofs.LookupLemmas.{keys_later}
 use Rattle.contacts_base.proofs.MergeLaws.{is_lower, not_lower, tail_ascends}
 use Rattle.contacts_base.proofs.MergedLaws.{ascends_without, filter_merged, map_merged, merged_none}
 use Rattle.contacts.specs.declared.forbidden.BodyPair.{BodyPair}
-use Rattle.contacts.specs.declared.pending_update.PendingUpdate.{PendingUpdate}
 use Rattle.contacts.specs.declared.rebuild.Rebuilt.{Rebuilt}
 use Rattle.contacts.specs.ByPairs.{contacts_between}
 use Rattle.contacts.specs.Changes.{key_if_new, keys_touching_only_in}
 use Rattle.contacts.specs.ByCodes.{contacts_of, allowed_codes}
-use Rattle.contacts.specs.ChangedKeys.{AreRising}
-use Rattle.contacts.specs.PendingUpdates.{IsPendingUpdate}
-use Rattle.contacts.specs.Known.{IsKnown, IsPairKey, again, fresh, stays, staying}
-use Rattle.contacts.specs.Looked.{IsLookedOver, IsRebuilt, IsRebuiltIf}
+use Rattle.contacts.specs.Known.{IsKnown, IsPairKey, again, stays, staying}
+use Rattle.contacts.specs.Looked.{AreGoneIf, IsDone, IsLookedOver, IsRebuilt, IsRebuiltIf}
 use Rattle.contacts.specs.Stirring.{AreQuiet, one_flagged}
-use Rattle.contacts.specs.Fates.{IsMade, begun_keys, ended_keys, key_if_begun, moved_by, outcome}
+use Rattle.contacts.specs.Fates.{begun_keys, ended_keys, gone_keys, key_if_begun, key_if_gone, moved_by, outcome}
 use Rattle.contacts.proofs.ByPairsLaws.{contacts_by_codes-holds}
 use Rattle.contacts.proofs.ChangeLemmas.{PicksKeys, if_step, picked_rise, picked_rising, unless_step}
 use Rattle.contacts.proofs.KnownLemmas.{IsImage, in_map, map_in}
@@ -201,14 +198,6 @@ touches_ascend moved pairs ps s notes ends new all long_begin long_end short_beg
 
 -- ---- both lists together
 
--- all that is said of what is pending, and of which contacts begin and end to touch
-pub record IsDone (pairs : List BodyPair) (ps : List Proxy) (s : Split) (notes : List Renewal) (ends : List ℕ) (short : Option (List ContactEntry)) (begin end : List ContactKey) : Type 0 where
-  pub short_is : ForSome short (λ es. AreContacts es)
-  pub contacts : AreContacts (contacts_in (carried notes ends short s))
-  pub made : IsMade pairs ps (contacts_in s) (contacts_in (carried notes ends short s)) begin end
-  pub begin_rises : AreRising begin
-  pub end_rises : AreRising end
-
 each_of : {X : Type 0} (P : X → Type 0) (xs : List X) → All P xs → Each P xs
 each_of P [] h = tt
 each_of P (x ∷ xs) h = (h 0 x (omega arith), each_of P xs (λ k d lt. h (suc k) d (omega (arith, lt))))
@@ -312,6 +301,10 @@ none_end : (moved : ℕ → Bool) (pairs : List BodyPair) (ps : List Proxy) (es 
 none_end moved pairs ps [] h = refl
 none_end moved pairs ps (e ∷ es) h = none_end moved pairs ps es h.1 ∙ ap (λ (o : Option ContactKey). cons_option o (ended_keys moved pairs ps es)) (none_new e ∙ ap (λ (o : Option ContactEntry). key_if_new o e) (sym h.0))
 
+none_gone : (moved : ℕ → Bool) (pairs : List BodyPair) (ps : List Proxy) (es : List ContactEntry) → AreStill moved pairs ps es → [] ≡ gone_keys moved pairs ps es
+none_gone moved pairs ps [] h = refl
+none_gone moved pairs ps (e ∷ es) h = none_gone moved pairs ps es h.1 ∙ ap (λ (o : Option ContactEntry). cons_option (key_if_gone e o) (gone_keys moved pairs ps es)) (sym h.0)
+
 quiet_still : (flags marks : List Bool) (pairs : List BodyPair) (ps : List Proxy) (es : List ContactEntry) → AreQuiet flags marks ps → All (λ e. IsPairKey e.key) es → All (λ e. one_flagged flags e ≡ false) es → AreStill (moved_by marks) pairs ps es
 quiet_still flags marks pairs ps [] quiet keys off = tt
 quiet_still flags marks pairs ps (e ∷ es) quiet keys off =
@@ -326,6 +319,9 @@ short_stays flags marks pairs ps short new quiet are keys off none =
       begin_is = none_begin (moved_by marks) pairs ps short still ∙ ap (λ (l : List ContactEntry). merged key_number (filter_map (key_if_new None) l) (begun_keys (moved_by marks) pairs ps short)) (sym none);
       end_is = none_end (moved_by marks) pairs ps short still;
     }
+
+pub none_go : (flags marks : List Bool) (pairs : List BodyPair) (ps : List Proxy) (short : List ContactEntry) → AreQuiet flags marks ps → All (λ e. IsPairKey e.key) short → All (λ e. one_flagged flags e ≡ false) short → [] ≡ gone_keys (moved_by marks) pairs ps short
+none_go flags marks pairs ps short quiet keys off = none_gone (moved_by marks) pairs ps short (quiet_still flags marks pairs ps short quiet keys off)
 
 -- ---- the keys of both lists
 
@@ -347,17 +343,16 @@ rebuilt_none moved pairs ps short same new o is none h = subst (λ (l : List Con
 pub rebuilt_some : (moved : ℕ → Bool) (pairs : List BodyPair) (ps : List Proxy) (short same new : List ContactEntry) (o : Option Rebuilt) (r : Rebuilt) → same ≡ short → o ≡ Some r → IsRebuiltIf moved pairs ps same new o → IsRebuilt moved pairs ps short new r.all.items r.touches.begin.items r.touches.end.items
 rebuilt_some moved pairs ps short same new o r is some h = subst (λ (l : List ContactEntry). IsRebuilt moved pairs ps l new r.all.items r.touches.begin.items r.touches.end.items) is (subst (IsRebuiltIf moved pairs ps same new) some h)
 
-pub pending_from : (pairs : List BodyPair) (ps : List Proxy) (d : PendingUpdate) (s : Split) (begin end : List ContactKey) → d.any ≡ true → IsDone pairs ps s d.notes.items d.ends.items (option_map (λ es. es.items) d.short) begin end → IsPendingUpdate d s
-pending_from pairs ps d s begin end any done = record {
-  short = for_some_map (λ es. es.items) (λ es. AreContacts es) d.short done.short_is;
-  contacts = done.contacts;
-  idle = λ h. let wrong : true ≡ false = sym any ∙ h in cc;
-}
+pub gone_none : (moved : ℕ → Bool) (pairs : List BodyPair) (ps : List Proxy) (short same : List ContactEntry) (o : Option Rebuilt) (gone : List ContactKey) → same ≡ short → o ≡ None → gone ≡ [] → AreGoneIf moved pairs ps same o → gone ≡ gone_keys moved pairs ps short
+gone_none moved pairs ps short same o gone is none empty h = empty ∙ subst (AreGoneIf moved pairs ps same) none h ∙ ap (gone_keys moved pairs ps) is
+
+pub gone_some : (moved : ℕ → Bool) (pairs : List BodyPair) (ps : List Proxy) (short same : List ContactEntry) (o : Option Rebuilt) (r : Rebuilt) → same ≡ short → o ≡ Some r → AreGoneIf moved pairs ps same o → r.gone.items ≡ gone_keys moved pairs ps short
+gone_some moved pairs ps short same o r is some h = subst (AreGoneIf moved pairs ps same) some h ∙ ap (gone_keys moved pairs ps) is
 
 pub if_ok_both : {X E : Type 0} (P Q R : X → Type 0) (r : Result X E) → ((x : X) → P x → Q x → R x) → IfOk r P → IfOk r Q → IfOk r R
 if_ok_both P Q R (Ok x) f p q = f x p q
 if_ok_both P Q R (Err e) f p q = tt
 
-pub on_ok_by : {X E : Type 0} (P : X → Type 0) (A : Type 0) (r : Result X E) → ((x : X) → P x → A) → IfOk r P → OnOk r A
-on_ok_by P A (Ok x) f p = f x p
-on_ok_by P A (Err e) f p = tt
+pub on_ok_known : {X E : Type 0} (A : Type 0) (r : Result X E) → A → OnOk r A
+on_ok_known A (Ok x) a = a
+on_ok_known A (Err e) a = tt

@@ -232,7 +232,7 @@ in_key [] k h = absurd h
 in_key (e ∷ es) k h = has_step e es k (entry_number e == key_number k) (λ q. grind (arith, nat_tests)) (elim h [ inl p ↦ inl p | inr q ↦ inr (in_key es k q) ])
 
 -- two keys with one number
-lookup_same : (es : List ContactEntry) (k j : ContactKey) → key_number k ≡ key_number j → lookup es k ≡ lookup es j
+pub lookup_same : (es : List ContactEntry) (k j : ContactKey) → key_number k ≡ key_number j → lookup es k ≡ lookup es j
 lookup_same [] k j h = refl
 lookup_same (e ∷ es) k j h = rw (h, lookup_same es k j h) refl
 

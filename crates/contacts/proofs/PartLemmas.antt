@@ -53,19 +53,19 @@ again_numbers ps (e ∷ es) = cc (again_key_of e (found ps (id_number e.key.firs
 abbrev shape_id : ℕ → ℕ → ShapeId
 shape_id s n = record { slot = s; index = n }
 
-id_by : (i j : ShapeId) → i.slot ≡ j.slot → i.index ≡ j.index → i ≡ j
+pub id_by : (i j : ShapeId) → i.slot ≡ j.slot → i.index ≡ j.index → i ≡ j
 id_by i j a b = ap (λ (s : ℕ). shape_id s i.index) a ∙ ap (λ (n : ℕ). shape_id j.slot n) b
 
 abbrev contact_key : ShapeId → ShapeId → ContactKey
 contact_key a b = record { first = a; second = b }
 
-key_by : (k j : ContactKey) → k.first ≡ j.first → k.second ≡ j.second → k ≡ j
+pub key_by : (k j : ContactKey) → k.first ≡ j.first → k.second ≡ j.second → k ≡ j
 key_by k j a b = ap (λ (x : ShapeId). contact_key x k.second) a ∙ ap (λ (x : ShapeId). contact_key j.first x) b
 
 id_of : (i j : ShapeId) → i.index < 256 → j.index < 256 → id_number i ≡ id_number j → i ≡ j
 id_of i j a b e = let slot : i.slot ≡ j.slot = omega arith in let index : i.index ≡ j.index = omega arith in id_by i j slot index
 
-key_from : (k j : ContactKey) → IsPairKey k → IsPairKey j → key_number k ≡ key_number j → k ≡ j
+pub key_from : (k j : ContactKey) → IsPairKey k → IsPairKey j → key_number k ≡ key_number j → k ≡ j
 key_from k j a b e =
     let ids = ids_same k j a b e in
     let first : k.first ≡ j.first = id_of k.first j.first a.first_index b.first_index ids.0 in

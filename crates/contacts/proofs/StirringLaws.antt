@@ -1,8 +1,9 @@
 -- Which contacts are those of which a body may stir, by their places, and that the others stay as they are.
-use Rattle.std.proofs.Common.{◌≡◌, ℕ, zero, suc, ◌+◌, ◌<◌, ◌≤◌, ◌||◌, List, [], ◌∷◌, ◌++◌, length, map, drop, get_or, Bool, true, false, cond, Option, Some, None, ◌⊎◌, inl, inr, refl, sym, ap, ◌∙◌, subst, arith, add-one}
+use Rattle.std.proofs.Common.{◌≡◌, ℕ, zero, suc, ◌+◌, ◌<◌, ◌≤◌, ◌||◌, ◌&&◌, List, [], ◌∷◌, ◌++◌, length, map, drop, get_or, Bool, true, false, true≢false, cond, Option, Some, None, ◌⊎◌, inl, inr, refl, sym, ap, ◌∙◌, subst, arith, add-one}
 use Rattle.std.specs.Prelude.{◌/◌, All, slice_get}
 use Rattle.std.specs.List.{Contains}
 use Rattle.std.proofs.lemmas.List.Elements.{All-contains}
+use Rattle.std.proofs.lemmas.Option.{none-some, same_Some}
 use Rattle.contacts_base.specs.declared.near.Proxy.{Proxy}
 use Rattle.contacts_base.specs.declared.key.ContactKey.{ContactKey}
 use Rattle.contacts_base.specs.declared.key.ShapeId.{ShapeId}
@@ -16,8 +17,8 @@ use Rattle.contacts.specs.declared.forbidden.BodyPair.{BodyPair}
 use Rattle.contacts.specs.Changes.{key_if_new}
 use Rattle.contacts.specs.Known.{again, either_moved, found, stays}
 use Rattle.contacts.specs.declared.stirring.Stirring.{Stirring}
-use Rattle.contacts.specs.Stirring.{AreHeld, AreQuiet, is_flagged, one_flagged, passed_by}
-use Rattle.contacts_base.specs.Split.{places_from}
+use Rattle.contacts.specs.Stirring.{AreHeld, AreQuiet, AreStirring, HaveKeys, is_flagged, one_flagged, passed_by}
+use Rattle.contacts_base.specs.Split.{Split, counting_at, is_over, places_from, unless_over}
 use Rattle.contacts.specs.Fates.{moved_by, one_stirs_of, outcome, stirs_in}
 use Rattle.contacts_base.specs.Split.{renewed}
 use Rattle.contacts_base.proofs.MergeLaws.{drop_next}
@@ -72,14 +73,15 @@ same_head f e fs es h = cc
 same_tail : (f e : ContactEntry) (fs es : List ContactEntry) → f.key ∷ map (λ e. e.key) fs ≡ e.key ∷ map (λ e. e.key) es → map (λ e. e.key) fs ≡ map (λ e. e.key) es
 same_tail f e fs es h = cc
 
-pub same_places : (flags : List Bool) (n : ℕ) (es fs : List ContactEntry) → map (λ e. e.key) fs ≡ map (λ e. e.key) es → places_from (one_flagged flags) n fs ≡ places_from (one_flagged flags) n es
-same_places flags n [] [] h = refl
-same_places flags n [] (f ∷ fs) h = cc
-same_places flags n (e ∷ es) [] h = cc
-same_places flags n (e ∷ es) (f ∷ fs) h =
+pub same_places : (flags : List Bool) (lets_in : ContactKey → Bool) (n : ℕ) (es fs : List ContactEntry) → map (λ e. e.key) fs ≡ map (λ e. e.key) es → places_from (λ e. one_flagged flags e && lets_in e.key) n fs ≡ places_from (λ e. one_flagged flags e && lets_in e.key) n es
+same_places flags lets_in n [] [] h = refl
+same_places flags lets_in n [] (f ∷ fs) h = cc
+same_places flags lets_in n (e ∷ es) [] h = cc
+same_places flags lets_in n (e ∷ es) (f ∷ fs) h =
+    let test : ContactEntry → Bool = λ x. one_flagged flags x && lets_in x.key in
     let key : f.key ≡ e.key = same_head f e fs es h in
-    let rest : places_from (one_flagged flags) (suc n) fs ≡ places_from (one_flagged flags) (suc n) es = same_places flags (suc n) es fs (same_tail f e fs es h) in
-    ap (λ (l : List ℕ). cond (one_flagged flags f) (n ∷ l) l) rest ∙ ap (λ (k : ContactKey). cond (is_flagged flags k.first.slot || is_flagged flags k.second.slot) (n ∷ places_from (one_flagged flags) (suc n) es) (places_from (one_flagged flags) (suc n) es)) key
+    let rest : places_from test (suc n) fs ≡ places_from test (suc n) es = same_places flags lets_in (suc n) es fs (same_tail f e fs es h) in
+    ap (λ (l : List ℕ). cond (test f) (n ∷ l) l) rest ∙ ap (λ (k : ContactKey). cond ((is_flagged flags k.first.slot || is_flagged flags k.second.slot) && lets_in k) (n ∷ places_from test (suc n) es) (places_from test (suc n) es)) key
 
 later_set : (i : ℕ) (c : Contact) (e : ContactEntry) (es : List ContactEntry) (o : Option ContactEntry) → contact_set (suc i) c (e ∷ es) o ≡ e ∷ contact_set i c es o
 later_set i c e es None = refl
@@ -94,9 +96,45 @@ pub renewed_keys : (rs : List Renewal) (es : List ContactEntry) → map (λ e. e
 renewed_keys [] es = refl
 renewed_keys (r ∷ rs) es = renewed_keys rs (contact_set r.place r.contact es (slice_get es r.place)) ∙ set_keys es r.place r.contact
 
+-- a contact that counts had its key where it is, and counted
+counted_before : (c d : Split) (place : ℕ) (e : ContactEntry) → HaveKeys c d → counting_at d place ≡ Some e → (f : ContactEntry) × ((counting_at c place ≡ Some f) × (f.key ≡ e.key))
+counted_before c d place e have at = by (is_over d.over place) refl (is_over c.over place) refl (same_key d.long c.long place e have.keys)
+  where
+    same_key : (es fs : List ContactEntry) (place : ℕ) (e : ContactEntry) → map (λ (x : ContactEntry). x.key) es ≡ map (λ (x : ContactEntry). x.key) fs → slice_get es place ≡ Some e → (f : ContactEntry) × ((slice_get fs place ≡ Some f) × (f.key ≡ e.key))
+    same_key [] fs place e h at = absurd (none-some e at)
+    same_key (x ∷ es) [] place e h at = cc
+    same_key (x ∷ es) (y ∷ fs) zero e h at = (y, (refl, sym (same_head x y es fs h) ∙ ap (λ (z : ContactEntry). z.key) (same_Some x e at)))
+    same_key (x ∷ es) (y ∷ fs) (suc place) e h at = same_key es fs place e (same_tail x y es fs h) at
+
+    by : (t : Bool) → is_over d.over place ≡ t → (u : Bool) → is_over c.over place ≡ u → (slice_get d.long place ≡ Some e → (f : ContactEntry) × ((slice_get c.long place ≡ Some f) × (f.key ≡ e.key))) → (f : ContactEntry) × ((counting_at c place ≡ Some f) × (f.key ≡ e.key))
+    by true on u was there = absurd (none-some e (ap (λ (b : Bool). unless_over b (slice_get d.long place)) (sym on) ∙ at))
+    by false off true was there = absurd (true≢false (sym (have.over place was) ∙ off))
+    by false off false was there =
+        let found : (f : ContactEntry) × ((slice_get c.long place ≡ Some f) × (f.key ≡ e.key)) = there (ap (λ (b : Bool). unless_over b (slice_get d.long place)) (sym off) ∙ at) in
+        (found.0, (ap (λ (b : Bool). unless_over b (slice_get c.long place)) was ∙ found.1.0, found.1.1))
+
 -- the places that are held serve for all contacts with the same keys
-pub held_over : (s : Stirring) (es fs : List ContactEntry) → AreHeld s es → map (λ e. e.key) fs ≡ map (λ e. e.key) es → AreHeld s fs
-held_over s es fs held same = record { flagged = held.flagged; places = λ h. held.places h ∙ sym (same_places s.flags.items 0 es fs same) }
+pub held_over : (s : Stirring) (c d : Split) → AreHeld s c → HaveKeys c d → AreHeld s d
+held_over s c d held have = record {
+  flagged = held.flagged;
+  places = λ h.
+      let are : AreStirring s.flags.items c s.places.items = held.places h in
+      record {
+        lets_in = are.lets_in;
+        is = are.is ∙ sym (same_places s.flags.items are.lets_in 0 c.long d.long have.keys);
+        counts = λ place e at.
+            let was : (f : ContactEntry) × ((counting_at c place ≡ Some f) × (f.key ≡ e.key)) = counted_before c d place e have at in
+            ap are.lets_in (sym was.1.1) ∙ are.counts place was.0 was.1.0;
+      };
+}
+
+-- all places serve, whatever is over
+and_true : (t : Bool) → t ≡ (t && true)
+and_true true = refl
+and_true false = refl
+
+pub let_all_in : (flags : List Bool) (e : ContactEntry) (t : Bool) → t ≡ one_flagged flags e → t ≡ (one_flagged flags e && true)
+let_all_in flags e t h = h ∙ and_true (one_flagged flags e)
 
 -- ---- the flags have all that stirs and all that is marked
 

@@ -1,8 +1,10 @@
 -- A collide passes over those contacts of the long list alone of which a body may stir, and finds what it would find of all that count.
-use Rattle.std.proofs.Common.{◌≡◌, ℕ, zero, suc, ◌+◌, ◌<◌, ◌≤◌, List, [], ◌∷◌, ◌++◌, length, map, take, drop, get_or, Bool, true, false, cond, Option, Some, None, inl, inr, refl, sym, ap, ◌∙◌, subst, arith, add-one}
-use Rattle.std.specs.Prelude.{All, filter, slice_get, slice_set}
+use Rattle.std.proofs.Common.{◌≡◌, ℕ, zero, suc, ◌+◌, ◌<◌, ◌≤◌, List, [], ◌∷◌, ◌++◌, length, map, take, drop, get_or, Bool, true, false, true≢false, cond, ◌&&◌, Option, Some, None, inl, inr, refl, sym, ap, ◌∙◌, subst, arith, add-one}
+use Rattle.std.specs.Prelude.{All, filter, option_map, slice_get, slice_set}
+use Rattle.std.specs.List.{cons_option}
 use Rattle.std.specs.Option.{option_to_list}
 use Rattle.std.proofs.lemmas.List.{append_assoc, length-append, map-append, take_more}
+use Rattle.std.proofs.lemmas.List.Elements.{filter_map-append}
 use Rattle.std.proofs.lemmas.Option.{slice_get-get_or}
 use Rattle.contacts_base.specs.declared.near.Proxy.{Proxy}
 use Rattle.contacts_base.specs.declared.key.ContactKey.{ContactKey}
@@ -17,9 +19,9 @@ use Rattle.contacts.specs.declared.fates.Fate.{Fate}
 use Rattle.contacts.specs.declared.fates.Fate.TheVariants.{Stays, Goes, Renewed}
 use Rattle.contacts.specs.Changes.{key_if_new}
 use Rattle.contacts.specs.Known.{IsPairKey, again, stays, staying}
-use Rattle.contacts.specs.Looked.{IsLookedOver, IsFate, begun_of, ended_of, ending}
-use Rattle.contacts.specs.Stirring.{AreQuiet, one_flagged, passed_by}
-use Rattle.contacts.specs.Fates.{begun_keys, ended_keys, key_if_begun, moved_by, noted, outcome, after_fate}
+use Rattle.contacts.specs.Looked.{IsLookedOver, IsFate, begun_of, ended_of, ending, keys_at}
+use Rattle.contacts.specs.Stirring.{AreQuiet, AreStirring, one_flagged, passed_by}
+use Rattle.contacts.specs.Fates.{begun_keys, ended_keys, gone_keys, key_if_begun, key_if_gone, moved_by, noted, outcome, after_fate}
 use Rattle.contacts.proofs.ChangeLemmas.{picked_more}
 use Rattle.contacts.proofs.KnownLemmas.{each_from_all}
 use Rattle.contacts.proofs.Members.{IsIn, each_in}
@@ -136,6 +138,7 @@ pub record IsFound (moved : ℕ → Bool) (pairs : List BodyPair) (ps : List Pro
   pub now_are : counting flags done ≡ map (again ps) (staying moved pairs ps met)
   pub begin_are : begin ≡ begun_keys moved pairs ps met
   pub end_are : end ≡ ended_keys moved pairs ps met
+  pub gone_are : keys_at s.long ends ≡ gone_keys moved pairs ps met
 
 pub nothing_found : (moved : ℕ → Bool) (pairs : List BodyPair) (ps : List Proxy) (s : Split) (notes : List Renewal) (ends : List ℕ) (begin end : List ContactKey) → notes ≡ [] → ends ≡ [] → begin ≡ [] → end ≡ [] → IsFound moved pairs ps s notes ends begin end 0
 nothing_found moved pairs ps s notes ends begin end a b c d = record {
@@ -150,6 +153,7 @@ nothing_found moved pairs ps s notes ends begin end a b c d = record {
   now_are = refl;
   begin_are = c;
   end_are = d;
+  gone_are = ap (keys_at s.long) b;
 }
 
 -- ---- what a fate writes
@@ -246,6 +250,24 @@ is_at s p e d o flags lt is so = record {
   over = drop_next s.over p false (omega (arith, flags, lt)) ∙ ap (λ (b : Bool). b ∷ drop (suc p) s.over) so;
 }
 
+got_first : (es : List ContactEntry) (p : ℕ) (e : ContactEntry) (rest : List ContactEntry) → drop p es ≡ e ∷ rest → slice_get es p ≡ Some e
+got_first [] zero e rest h = cc
+got_first [] (suc p) e rest h = cc
+got_first (x ∷ es) zero e rest h = ap (λ (y : ContactEntry). Some y) (first_is x e es rest h)
+got_first (x ∷ es) (suc p) e rest h = got_first es p e rest h
+
+ending_key : (es : List ContactEntry) (p : ℕ) (e : ContactEntry) (fate : Fate) → slice_get es p ≡ Some e → keys_at es (ending p fate) ≡ option_to_list (key_if_gone e (after_fate e fate))
+ending_key es p e Stays h = refl
+ending_key es p e Goes h = ap (λ (o : Option ContactEntry). cons_option (option_map (λ (x : ContactEntry). x.key) o) []) h
+ending_key es p e (Renewed c) h = refl
+
+-- the key of one more that goes
+gone_more : (s : Split) (p : ℕ) (e : ContactEntry) (fate : Fate) (ends later : List ℕ) → IsAt s p e false → later ≡ ends ++ ending p fate → keys_at s.long later ≡ keys_at s.long ends ++ option_to_list (key_if_gone e (after_fate e fate))
+gone_more s p e fate ends later at added =
+    ap (keys_at s.long) added
+    ∙ filter_map-append (λ place. option_map (λ (x : ContactEntry). x.key) (slice_get s.long place)) ends (ending p fate)
+    ∙ ap (λ (l : List ContactKey). keys_at s.long ends ++ l) (ending_key s.long p e fate (got_first s.long p e (drop (suc p) s.long) at.long))
+
 noted_more : (s : Split) (p : ℕ) (e : ContactEntry) (o : Bool) (fate : Fate) (notes later : List Renewal) (done : List ContactEntry) → IsAt s p e o → length done ≡ p → renewed notes s.long ≡ done ++ drop p s.long → later ≡ notes ++ noted p fate
     → renewed later s.long ≡ (done ++ put_fate e fate ∷ []) ++ drop (suc p) s.long
 noted_more s p e o fate notes later done at len so added =
@@ -288,6 +310,7 @@ step_by moved pairs ps s p e true fate notes later ends goes begin begins end en
   now_are = counting-append f.flags f.done true (put_fate e fate) (f.length_flags ∙ sym f.length_done) ∙ nothing_after (counting f.flags f.done) ∙ f.now_are;
   begin_are = picked_none begin begins b ∙ f.begin_are;
   end_are = picked_none end ended x ∙ f.end_are;
+  gone_are = ap (keys_at s.long) (g ∙ ap (λ (t : Fate). ends ++ ending p t) is ∙ nothing_after ends) ∙ f.gone_are;
 }
 step_by moved pairs ps s p e false fate notes later ends goes begin begins end ended at is n g b x f = record {
   done = f.done ++ put_fate e fate ∷ [];
@@ -305,6 +328,10 @@ step_by moved pairs ps s p e false fate notes later ends goes begin begins end e
       ∙ sym (staying_more moved pairs ps f.met e);
   begin_are = b ∙ ap (λ (l : List ContactKey). l ++ option_to_list (key_if_begun e (after_fate e fate))) f.begin_are ∙ sym (picked_more (λ (y : ContactEntry). key_if_begun y (outcome moved pairs ps y)) f.met e (key_if_begun e (after_fate e fate)) (ap (key_if_begun e) (sym is)));
   end_are = x ∙ ap (λ (l : List ContactKey). l ++ option_to_list (key_if_new (after_fate e fate) e)) f.end_are ∙ sym (picked_more (λ (y : ContactEntry). key_if_new (outcome moved pairs ps y) y) f.met e (key_if_new (after_fate e fate) e) (ap (λ (z : Option ContactEntry). key_if_new z e) (sym is)));
+  gone_are =
+      gone_more s p e fate ends goes at g
+      ∙ ap (λ (l : List ContactKey). l ++ option_to_list (key_if_gone e (after_fate e fate))) f.gone_are
+      ∙ sym (picked_more (λ (y : ContactEntry). key_if_gone y (outcome moved pairs ps y)) f.met e (key_if_gone e (after_fate e fate)) (ap (key_if_gone e) (sym is)));
 }
 
 -- which contact stands at a place
@@ -345,9 +372,9 @@ counted_at (o ∷ over) (e ∷ es) zero d lt h = counted_by o e (counting over e
 counted_at (o ∷ over) (e ∷ es) (suc k) d lt h = counted_later o (get_or es k d) e (counting over es) (counted_at over es k d (omega (arith, lt)) h)
 
 -- what a contact that counts becomes where neither of its bodies is flagged
-quiet_fate : (flags marks : List Bool) (pairs : List BodyPair) (ps : List Proxy) (o : Bool) (e : ContactEntry) → AreQuiet flags marks ps → (o ≡ false → IsPairKey e.key) → one_flagged flags e ≡ false → IsFate (moved_by marks) pairs ps (unless_over o (Some e)) Stays
+quiet_fate : (flags marks : List Bool) (pairs : List BodyPair) (ps : List Proxy) (o : Bool) (e : ContactEntry) → AreQuiet flags marks ps → (o ≡ false → IsPairKey e.key) → (o ≡ false → one_flagged flags e ≡ false) → IsFate (moved_by marks) pairs ps (unless_over o (Some e)) Stays
 quiet_fate flags marks pairs ps true e quiet key t = refl
-quiet_fate flags marks pairs ps false e quiet key t = let both = quiet e (key refl) t in sym (quiet_outcome (moved_by marks) pairs ps e both.0 both.1)
+quiet_fate flags marks pairs ps false e quiet key t = let both = quiet e (key refl) (t refl) in sym (quiet_outcome (moved_by marks) pairs ps e both.0 both.1)
 
 quiet_begins : (o : Bool) (e : ContactEntry) (ks : List ContactKey) → ks ≡ ks ++ option_to_list (begun_of (unless_over o (Some e)) Stays)
 quiet_begins true e ks = sym (nothing_after ks)
@@ -357,11 +384,16 @@ quiet_ends : (o : Bool) (e : ContactEntry) (ks : List ContactKey) → ks ≡ ks 
 quiet_ends true e ks = sym (nothing_after ks)
 quiet_ends false e ks = sym (nothing_after ks) ∙ ap (λ (x : Option ContactKey). ks ++ option_to_list x) (none_new e)
 
-pub quiet_passes : (flags marks : List Bool) (pairs : List BodyPair) (ps : List Proxy) (s : Split) (notes : List Renewal) (ends : List ℕ) (begin end : List ContactKey) → length s.over ≡ length s.long → AreQuiet flags marks ps → All (λ e. IsPairKey e.key) (counting s.over s.long)
-    → PassesBy s.long (one_flagged flags) (IsFound (moved_by marks) pairs ps s notes ends begin end)
-quiet_passes flags marks pairs ps s notes ends begin end same quiet keys = λ k e d lt is t f.
+-- a test that isn't passed, of a contact that the second part of it lets in
+not_both : (a b : Bool) → (a && b) ≡ false → b ≡ true → a ≡ false
+not_both true b h on = absurd (true≢false (sym on ∙ h))
+not_both false b h on = refl
+
+pub quiet_passes : (flags marks : List Bool) (pairs : List BodyPair) (ps : List Proxy) (s : Split) (lets_in : ContactKey → Bool) (notes : List Renewal) (ends : List ℕ) (begin end : List ContactKey) → length s.over ≡ length s.long → AreQuiet flags marks ps → All (λ e. IsPairKey e.key) (counting s.over s.long)
+    → ((place : ℕ) (e : ContactEntry) → counting_at s place ≡ Some e → lets_in e.key ≡ true) → PassesBy s.long (λ e. one_flagged flags e && lets_in e.key) (IsFound (moved_by marks) pairs ps s notes ends begin end)
+quiet_passes flags marks pairs ps s lets_in notes ends begin end same quiet keys counts = λ k e d lt is t f.
     let key : is_over s.over k ≡ false → IsPairKey e.key = λ h. subst (λ (x : ContactEntry). IsPairKey x.key) (sym is) (each_in (λ (x : ContactEntry). IsPairKey x.key) (get_or s.long k d) (counting s.over s.long) (each_from_all (counting s.over s.long) keys) (counted_at s.over s.long k d lt h)) in
-    step_by (moved_by marks) pairs ps s k e (is_over s.over k) Stays notes notes ends ends begin begin end end (is_at s k e d (is_over s.over k) same lt is refl) (quiet_fate flags marks pairs ps (is_over s.over k) e quiet key t) (sym (nothing_after notes)) (sym (nothing_after ends)) (quiet_begins (is_over s.over k) e begin) (quiet_ends (is_over s.over k) e end) f
+    step_by (moved_by marks) pairs ps s k e (is_over s.over k) Stays notes notes ends ends begin begin end end (is_at s k e d (is_over s.over k) same lt is refl) (quiet_fate flags marks pairs ps (is_over s.over k) e quiet key (λ off. not_both (one_flagged flags e) (lets_in e.key) t (counts k e (ap (λ (b : Bool). unless_over b (slice_get s.long k)) off ∙ slice_get-get_or s.long k d lt ∙ ap (λ (x : ContactEntry). Some x) (sym is))))) (sym (nothing_after notes)) (sym (nothing_after ends)) (quiet_begins (is_over s.over k) e begin) (quiet_ends (is_over s.over k) e end) f
 
 -- ---- all of them
 
@@ -384,4 +416,36 @@ all_found moved pairs ps s notes ends begin end same t =
       now_is = ap (λ (l : List Bool). counting l (renewed notes s.long)) flags ∙ ap (counting f.flags) now ∙ f.now_are ∙ ap (λ (l : List ContactEntry). map (again ps) (staying moved pairs ps l)) met;
       begin_is = f.begin_are ∙ ap (begun_keys moved pairs ps) met;
       end_is = f.end_are ∙ ap (ended_keys moved pairs ps) met;
+      gone_is = f.gone_are ∙ ap (gone_keys moved pairs ps) met;
     }
+
+-- ---- the places that are kept
+
+-- what the loop over the places keeps: they are those of the contacts whose key a test lets in, which is that of each that counts
+pub record IsWalking (flags : List Bool) (s : Split) (places : List ℕ) (index : ℕ) (I : ℕ → Type 0) : Type 0 where
+  pub lets_in : ContactKey → Bool
+  pub counts : (place : ℕ) (e : ContactEntry) → counting_at s place ≡ Some e → lets_in e.key ≡ true
+  pub passing : IsPassing s.long (λ e. one_flagged flags e && lets_in e.key) places index I
+
+pub walk_starts : (flags : List Bool) (s : Split) (kept places : List ℕ) (I : ℕ → Type 0) → places ≡ kept → AreStirring flags s kept → I 0 → IsWalking flags s places 0 I
+walk_starts flags s kept places I same are f = record {
+  lets_in = are.lets_in;
+  counts = are.counts;
+  passing = none_passed s.long (λ e. one_flagged flags e && are.lets_in e.key) places I (same ∙ are.is) f;
+}
+
+pub walk_goes : (flags marks : List Bool) (pairs : List BodyPair) (ps : List Proxy) (s : Split) (notes more : List Renewal) (ends gone : List ℕ) (begin end begun ended : List ContactKey) (places : List ℕ) (index k d : ℕ) → length s.over ≡ length s.long → AreQuiet flags marks ps → All (λ e. IsPairKey e.key) (counting s.over s.long)
+    → index < length places → k ≡ get_or places index d → IsWalking flags s places index (IsFound (moved_by marks) pairs ps s notes ends begin end)
+    → (k < length s.long → IsFound (moved_by marks) pairs ps s notes ends begin end k → IsFound (moved_by marks) pairs ps s more gone begun ended (suc k)) → IsWalking flags s places (index + 1) (IsFound (moved_by marks) pairs ps s more gone begun ended)
+walk_goes flags marks pairs ps s notes more ends gone begin end begun ended places index k d same quiet keys lt at walk fate = record {
+  lets_in = walk.lets_in;
+  counts = walk.counts;
+  passing = passing_step s.long (λ e. one_flagged flags e && walk.lets_in e.key) places index k d (IsFound (moved_by marks) pairs ps s notes ends begin end) (IsFound (moved_by marks) pairs ps s more gone begun ended)
+      (quiet_passes flags marks pairs ps s walk.lets_in notes ends begin end same quiet keys walk.counts) lt at walk.passing fate;
+}
+
+pub walk_ends : (flags marks : List Bool) (pairs : List BodyPair) (ps : List Proxy) (s : Split) (notes : List Renewal) (ends : List ℕ) (begin end : List ContactKey) (places : List ℕ) (index : ℕ) → length s.over ≡ length s.long → AreQuiet flags marks ps → All (λ e. IsPairKey e.key) (counting s.over s.long)
+    → length places ≤ index → IsWalking flags s places index (IsFound (moved_by marks) pairs ps s notes ends begin end) → IsThrough s.long (IsFound (moved_by marks) pairs ps s notes ends begin end)
+walk_ends flags marks pairs ps s notes ends begin end places index same quiet keys le walk =
+    all_passed s.long (λ e. one_flagged flags e && walk.lets_in e.key) places index (IsFound (moved_by marks) pairs ps s notes ends begin end)
+    (quiet_passes flags marks pairs ps s walk.lets_in notes ends begin end same quiet keys walk.counts) le walk.passing

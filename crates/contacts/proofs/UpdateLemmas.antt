@@ -1,6 +1,5 @@
 -- The contacts after a collide, from what became of those that there were and from the fresh ones.
-use Rattle.std.proofs.Common.{◌≡◌, ℕ, zero, suc, ◌+◌, ◌<◌, ◌≤◌, ◌==◌, List, [], ◌∷◌, ◌++◌, length, map, drop, get_or, Bool, true, false, cond, Option, Some, None, Result, Ok, Err, is_some, ◌⊎◌, inl, inr, refl, sym, ap, ◌∙◌, subst, arith, add-one}
-use Rattle.std.specs.Prelude.{IfOk}
+use Rattle.std.proofs.Common.{◌≡◌, ℕ, zero, suc, ◌+◌, ◌<◌, ◌≤◌, ◌==◌, List, [], ◌∷◌, ◌++◌, length, map, drop, get_or, Bool, true, false, cond, Option, Some, None, is_some, ◌⊎◌, inl, inr, refl, sym, ap, ◌∙◌, subst, arith, add-one}
 use Rattle.std.specs.List.{filter_map, cons_option}
 use Rattle.std.specs.List.Sorted.{IsStrictlyIncreasing}
 use Rattle.std.proofs.lemmas.Bool.{cases_lt}
@@ -59,7 +58,7 @@ not_near false n h = cc
 abbrev after : List BodyPair → List Proxy → List ContactEntry → List ContactEntry
 after pairs ps old = contacts_of old ps (allowed_codes pairs ps)
 
-after_rises : (pairs : List BodyPair) (ps : List Proxy) (old : List ContactEntry) → IsProxyList ps → IsRising (map entry_number (after pairs ps old))
+pub after_rises : (pairs : List BodyPair) (ps : List Proxy) (old : List ContactEntry) → IsProxyList ps → IsRising (map entry_number (after pairs ps old))
 after_rises pairs ps old list = rising_from_increasing (map entry_number (after pairs ps old)) (contacts_rise old ps (allowed_codes pairs ps) list (allowed_are_pairs pairs ps list))
 
 lookup_by : (moved : ℕ → Bool) (pairs : List BodyPair) (ps : List Proxy) (old : List ContactEntry) (e : ContactEntry) (t : Bool) → IsProxyList ps → AreKeysRising old → IsKnown moved pairs ps old → IsIn e old → stays moved pairs ps e ≡ t → lookup (after pairs ps old) e.key ≡ cond t (Some (again ps e)) None
@@ -145,7 +144,7 @@ picked_merged pick f (e ∷ es) rs r s n =
     let apart_too : (m : ℕ) → IsIn m (map entry_number es) → IsIn m (map entry_number rs) → ⊥ = λ m i j. n m (inr i) j in
     picked_put pick f e (merged entry_number es rs) (merged_rises entry_number es rs r.1 s apart_too) ∙ ap (λ (ks : List ContactKey). put_option (pick e) ks) (picked_merged pick f es rs r.1 s apart_too) ∙ put_cons (pick e) (filter_map pick es) (filter_map pick rs)
 
-touching_picks : (others : List ContactEntry) → PicksKeys (key_if_touching others)
+pub touching_picks : (others : List ContactEntry) → PicksKeys (key_if_touching others)
 unfolding key_if_touching key_if_new
 touching_picks others e k q = if_step _ _ k e.key (unless_step _ k e.key) q
 
@@ -184,7 +183,7 @@ begun_among moved pairs ps old (e ∷ es) rising i = begun_step old ps e (stays 
 begun_is : (moved : ℕ → Bool) (pairs : List BodyPair) (ps : List Proxy) (old : List ContactEntry) → AreKeysRising old → keys_touching_only_in old (old_ones moved pairs ps old) ≡ begun_keys moved pairs ps old
 begun_is moved pairs ps old keys = begun_among moved pairs ps old old (rising_from_increasing (map entry_number old) keys) (λ e i. i)
 
-fresh_none : (moved : ℕ → Bool) (pairs : List BodyPair) (ps : List Proxy) (old : List ContactEntry) (e : ContactEntry) → IsIn e (new_ones moved pairs ps old) → lookup old e.key ≡ None
+pub fresh_none : (moved : ℕ → Bool) (pairs : List BodyPair) (ps : List Proxy) (old : List ContactEntry) (e : ContactEntry) → IsIn e (new_ones moved pairs ps old) → lookup old e.key ≡ None
 fresh_none moved pairs ps old e i =
     let m : IsImage (entry_at old ps) e (fresh moved pairs ps old) = map_in (entry_at old ps) e (fresh moved pairs ps old) i in
     let f : IsIn m.from (allowed_codes pairs ps) × (is_fresh moved ps old m.from ≡ true) = filter_in (is_fresh moved ps old) m.from (allowed_codes pairs ps) m.among in
@@ -292,7 +291,3 @@ all_from moved pairs ps old new all list keys known made are = are ∙ ap (λ (l
 pub empty_of : {X : Type 0} (xs : List X) (n : ℕ) (t : Bool) → n ≡ length xs → t ≡ (n == 0) → t ≡ true → xs ≡ []
 empty_of [] n t l h e = refl
 empty_of (x ∷ xs) n t l h e = let none : n ≡ 0 = grind (arith, nat_tests) in absurd (omega arith)
-
-pub if_ok_map : {X E : Type 0} (P Q : X → Type 0) (r : Result X E) → ((x : X) → P x → Q x) → IfOk r P → IfOk r Q
-if_ok_map P Q (Ok x) f p = f x p
-if_ok_map P Q (Err e) f p = tt

@@ -49,6 +49,11 @@ abbrev pub key_if_begun : ContactEntry → Option ContactEntry → Option Contac
 key_if_begun e None = None
 key_if_begun e (Some f) = key_if_new (Some e) f
 
+-- its key, if it isn't there after its fate
+abbrev pub key_if_gone : ContactEntry → Option ContactEntry → Option ContactKey
+key_if_gone e None = Some e.key
+key_if_gone e (Some f) = None
+
 -- ---- all of them
 
 -- the keys of those that begin to touch
@@ -58,6 +63,10 @@ begun_keys moved pairs ps old = filter_map (λ e. key_if_begun e (outcome moved 
 -- of those that touched, and don't any more or are gone
 abbrev pub ended_keys : (ℕ → Bool) → List BodyPair → List Proxy → List ContactEntry → List ContactKey
 ended_keys moved pairs ps old = filter_map (λ e. key_if_new (outcome moved pairs ps e) e) old
+
+-- of those that go
+abbrev pub gone_keys : (ℕ → Bool) → List BodyPair → List Proxy → List ContactEntry → List ContactKey
+gone_keys moved pairs ps old = filter_map (λ e. key_if_gone e (outcome moved pairs ps e)) old
 
 -- what a fate notes of the contact at a place
 abbrev pub noted : ℕ → Fate → List Renewal

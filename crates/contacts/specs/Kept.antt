@@ -1,11 +1,17 @@
 -- The contacts of near shapes with what is kept beside them, and what they become when the last collide is carried out.
-use Rattle.std.specs.Prelude.{ℕ, Bool, List}
+use Rattle.std.specs.Prelude.{◌≡◌, ℕ, Bool, true, List, Option}
 use Rattle.contacts_base.specs.declared.contact.ContactEntry.{ContactEntry}
 use Rattle.contacts_base.specs.declared.near.Proxy.{Proxy}
 use Rattle.contacts_base.specs.Proxies.{IsProxyList}
+use Rattle.contacts_base.specs.Split.{contacts_in}
 use Rattle.contacts.specs.declared.forbidden.BodyPair.{BodyPair}
 use Rattle.contacts.specs.declared.pending_update.Touches.{Touches}
 use Rattle.contacts.specs.ChangedKeys.{AreRising}
+use Rattle.contacts.specs.declared.ends.Side.{Side}
+use Rattle.contacts.specs.declared.ends.Side.TheVariants.{First, Second}
+use Rattle.contacts.specs.declared.number_book.NumberedContact.{NumberedContact}
+use Rattle.contacts.specs.Numbered.{AreNumbered}
+use Rattle.contacts.specs.NumberBooks.{HasRoomFor, IsBook}
 use Rattle.contacts.specs.PendingUpdates.{IsPendingUpdate}
 use Rattle.contacts.specs.Known.{IsKnown}
 use Rattle.contacts.specs.Stirring.{AreHeld}
@@ -13,15 +19,31 @@ use Rattle.contacts.specs.Fates.{AreWithin, IsMade, moved_by}
 use Rattle.packed_sets.specs.Marks.{AreListed}
 use Rattle.contacts.specs.declared.contact_table.ContactTable.TheInside.{Inside}
 
--- the contacts, and what they become when the last collide is carried out
+-- the contacts, and what they become when the last collide is carried out; by its number each contact, and by the slot of its first body and of its second one
+-- which numbers there are; which numbers the last change gave and took away; and below which number all contacts have theirs once what is pending is carried out
 pub record Kept : Type 0 where
   pub contacts : List ContactEntry
   pub pending : List ContactEntry
+  pub numbered : List (Option NumberedContact)
+  pub firsts : List (List ℕ)
+  pub seconds : List (List ℕ)
+  pub made : List ℕ
+  pub gone : List ℕ
+  pub bound : ℕ
 
--- what the fields of a `ContactTable` hold: the places in the long list of those contacts of which a body may stir, and what can be carried out
+-- by the slot of the body on one side which numbers there are
+abbrev pub numbers_on : Side → Kept → List (List ℕ)
+numbers_on First k = k.firsts
+numbers_on Second k = k.seconds
+
+-- what the fields of a `ContactTable` hold: the places in the long list of those contacts of which a body may stir, and what can be carried out; each contact
+-- has a number, and there is room for those that come
 pub record IsKeptContacts (a : Inside) : Type 0 where
-  pub held : AreHeld a.beside.stirring a.contacts.long
+  pub held : AreHeld a.beside.stirring a.contacts
   pub pending : IsPendingUpdate a.pending a.contacts
+  pub book : IsBook a.numbers
+  pub numbered : AreNumbered (contacts_in a.contacts) a.numbers.contacts.items
+  pub room : a.pending.any ≡ true → HasRoomFor a.pending.made.items a.numbers
 
 -- what a collide stands on: shapes in their order, marks for all of their bodies, and contacts that tell which of those that aren't marked are near
 pub record CanCollide (ps : List Proxy) (marks : List Bool) (marked : List ℕ) (forbidden : List BodyPair) (contacts : List ContactEntry) : Type 0 where

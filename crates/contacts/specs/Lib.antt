@@ -11,6 +11,13 @@ pub mod Forbidden
 pub mod ByCodes
 pub mod ByPairs
 pub mod Inside
+pub mod Ends
+pub mod Numbered
+pub mod Touching
+pub mod NumberBooks
+pub mod NumberChanges
+pub mod StirringPlaces
 pub mod PendingUpdates
+pub mod Dropping
 pub mod Looked
 pub mod Kept

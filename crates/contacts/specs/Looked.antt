@@ -1,21 +1,24 @@
 -- Inner forms of the code; no public contract rests on them. What the parts of a collide make of the two lists.
-use Rattle.std.specs.Prelude.{◌≡◌, ℕ, Bool, List, [], ◌∷◌, map, Option, Some, None}
+use Rattle.std.specs.Prelude.{◌≡◌, ℕ, Bool, List, [], ◌∷◌, map, Option, Some, None, option_map, slice_get}
 use Rattle.std.specs.List.{filter_map}
+use Rattle.std.specs.Option.{ForSome}
 use Rattle.contacts_base.specs.declared.near.Proxy.{Proxy}
 use Rattle.contacts_base.specs.declared.key.ContactKey.{ContactKey}
 use Rattle.contacts_base.specs.declared.contact.ContactEntry.{ContactEntry}
 use Rattle.contacts_base.specs.declared.split.Renewal.{Renewal}
 use Rattle.contacts_base.specs.Keys.{key_number}
 use Rattle.contacts_base.specs.Contacts.{number_of}
+use Rattle.contacts_base.specs.ContactLists.{AreContacts}
 use Rattle.contacts_base.specs.Merge.{merged}
-use Rattle.contacts_base.specs.Split.{Split, counting, over_at, renewed}
+use Rattle.contacts_base.specs.Split.{Split, carried, contacts_in, counting, over_at, renewed}
 use Rattle.contacts.specs.declared.forbidden.BodyPair.{BodyPair}
 use Rattle.contacts.specs.declared.rebuild.Rebuilt.{Rebuilt}
 use Rattle.contacts.specs.declared.fates.Fate.{Fate}
 use Rattle.contacts.specs.declared.fates.Fate.TheVariants.{Stays, Goes, Renewed}
 use Rattle.contacts.specs.Changes.{key_if_new}
+use Rattle.contacts.specs.ChangedKeys.{AreRising}
 use Rattle.contacts.specs.Known.{again, staying}
-use Rattle.contacts.specs.Fates.{begun_keys, ended_keys, key_if_begun, outcome, after_fate}
+use Rattle.contacts.specs.Fates.{IsMade, begun_keys, ended_keys, gone_keys, key_if_begun, outcome, after_fate}
 
 -- ---- one contact of the long list
 
@@ -42,11 +45,16 @@ ending place (Renewed c) = []
 
 -- ---- both lists
 
+-- the keys of the contacts of a list at these places
+abbrev pub keys_at : List ContactEntry → List ℕ → List ContactKey
+keys_at es places = filter_map (λ place. option_map (λ (e : ContactEntry). e.key) (slice_get es place)) places
+
 -- what was noted of the long list makes of those that count what the collide makes of them
 pub record IsLookedOver (moved : ℕ → Bool) (pairs : List BodyPair) (ps : List Proxy) (s : Split) (notes : List Renewal) (ends : List ℕ) (begin end : List ContactKey) : Type 0 where
   pub now_is : counting (over_at ends s.over) (renewed notes s.long) ≡ map (again ps) (staying moved pairs ps (counting s.over s.long))
   pub begin_is : begin ≡ begun_keys moved pairs ps (counting s.over s.long)
   pub end_is : end ≡ ended_keys moved pairs ps (counting s.over s.long)
+  pub gone_is : keys_at s.long ends ≡ gone_keys moved pairs ps (counting s.over s.long)
 
 -- the short list anew, with the fresh contacts
 pub record IsRebuilt (moved : ℕ → Bool) (pairs : List BodyPair) (ps : List Proxy) (short fresh all : List ContactEntry) (begin end : List ContactKey) : Type 0 where
@@ -58,3 +66,16 @@ pub record IsRebuilt (moved : ℕ → Bool) (pairs : List BodyPair) (ps : List P
 abbrev pub IsRebuiltIf : (ℕ → Bool) → List BodyPair → List Proxy → List ContactEntry → List ContactEntry → Option Rebuilt → Type 0
 IsRebuiltIf moved pairs ps short fresh None = IsRebuilt moved pairs ps short fresh short [] []
 IsRebuiltIf moved pairs ps short fresh (Some r) = IsRebuilt moved pairs ps short fresh r.all.items r.touches.begin.items r.touches.end.items
+
+-- the keys of those of the short list that go: none where it stays as it is
+abbrev pub AreGoneIf : (ℕ → Bool) → List BodyPair → List Proxy → List ContactEntry → Option Rebuilt → Type 0
+AreGoneIf moved pairs ps short None = [] ≡ gone_keys moved pairs ps short
+AreGoneIf moved pairs ps short (Some r) = r.gone.items ≡ gone_keys moved pairs ps short
+
+-- what a collide makes of both lists, and which contacts begin and end to touch
+pub record IsDone (pairs : List BodyPair) (ps : List Proxy) (s : Split) (notes : List Renewal) (ends : List ℕ) (short : Option (List ContactEntry)) (begin end : List ContactKey) : Type 0 where
+  pub short_is : ForSome short (λ es. AreContacts es)
+  pub contacts : AreContacts (contacts_in (carried notes ends short s))
+  pub made : IsMade pairs ps (contacts_in s) (contacts_in (carried notes ends short s)) begin end
+  pub begin_rises : AreRising begin
+  pub end_rises : AreRising end

@@ -1,8 +1,9 @@
 -- The contacts of which a body may stir, by their places in the list.
-use Rattle.std.specs.Prelude.{◌≡◌, ℕ, suc, Bool, true, false, ◌||◌, List, [], ◌∷◌, ◌++◌, length, slice_index_or}
+use Rattle.std.specs.Prelude.{◌≡◌, ℕ, suc, Bool, true, false, ◌||◌, ◌&&◌, List, [], ◌∷◌, length, map, slice_index_or, Some}
 use Rattle.contacts_base.specs.declared.near.Proxy.{Proxy}
 use Rattle.contacts_base.specs.declared.contact.ContactEntry.{ContactEntry}
-use Rattle.contacts_base.specs.Split.{places_from, places_of}
+use Rattle.contacts_base.specs.declared.key.ContactKey.{ContactKey}
+use Rattle.contacts_base.specs.Split.{Split, counting_at, is_over, places_from}
 use Rattle.contacts.specs.declared.stirring.Stirring.{Stirring}
 use Rattle.contacts.specs.Known.{IsPairKey, either_moved}
 use Rattle.contacts.specs.Fates.{moved_by, one_stirs_of}
@@ -16,8 +17,15 @@ is_flagged flags slot = slice_index_or flags slot true
 abbrev pub one_flagged : List Bool → ContactEntry → Bool
 one_flagged flags e = is_flagged flags e.key.first.slot || is_flagged flags e.key.second.slot
 
-abbrev pub stirring_places : List Bool → List ContactEntry → List ℕ
-stirring_places flags es = places_from (one_flagged flags) 0 es
+-- the places of those contacts of a list of which a body may stir and whose key a test lets in
+abbrev pub stirring_places : List Bool → (ContactKey → Bool) → List ContactEntry → List ℕ
+stirring_places flags lets_in es = places_from (λ e. one_flagged flags e && lets_in e.key) 0 es
+
+-- the places of the contacts of the long list of which a body may stir: of each that counts, and maybe of some that are over
+pub record AreStirring (flags : List Bool) (c : Split) (places : List ℕ) : Type 0 where
+  pub lets_in : ContactKey → Bool
+  pub is : places ≡ stirring_places flags lets_in c.long
+  pub counts : (place : ℕ) (e : ContactEntry) → counting_at c place ≡ Some e → lets_in e.key ≡ true
 
 -- where neither body is flagged, none has moved, and none stirs
 abbrev pub AreQuiet : List Bool → List Bool → List Proxy → Type 0
@@ -28,14 +36,14 @@ abbrev pub AreFlagsListed : List Bool → List ℕ → Type 0
 AreFlagsListed flags slots = IsMarks flags slots (length flags)
 
 -- the flagged slots are listed, and the places, if they hold, are those of these contacts
-pub record AreHeld (s : Stirring) (es : List ContactEntry) : Type 0 where
+pub record AreHeld (s : Stirring) (c : Split) : Type 0 where
   pub flagged : AreFlagsListed s.flags.items s.flagged.items
-  pub places : s.holds ≡ true → s.places.items ≡ stirring_places s.flags.items es
+  pub places : s.holds ≡ true → AreStirring s.flags.items c s.places.items
 
--- the places of the contacts of the bodies in these slots, one body after the other
-abbrev pub places_of_all : List ℕ → List ContactEntry → List ℕ
-places_of_all [] es = []
-places_of_all (slot ∷ slots) es = places_of slot es ++ places_of_all slots es
+-- the same keys stand in the long list, and what is over is so still
+pub record HaveKeys (c d : Split) : Type 0 where
+  pub keys : map (λ (e : ContactEntry). e.key) d.long ≡ map (λ (e : ContactEntry). e.key) c.long
+  pub over : (place : ℕ) → is_over c.over place ≡ true → is_over d.over place ≡ true
 
 -- the place after the last of these, or n
 abbrev pub passed_by : ℕ → List ℕ → ℕ

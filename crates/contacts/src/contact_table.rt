@@ -1,28 +1,38 @@
 //! The contacts of near shapes, kept from collide to collide, so that a collide looks for new ones only where a shape has a new
 //! fat box, came or went.
 
-ghost use Rattle.std.specs.Prelude.{◌≡◌, [], IfOk, IfSome, List, OnErr, OnOk, true};
+ghost use Rattle.std.specs.Prelude.{◌≡◌, ◌≤◌, ◌^◌, ◌↔◌, ◌∷◌, ◌++◌, [], ℕ, Contains, IfOk, IfSome, List, OnErr, OnOk, Some, false, length, map, slice_get, true};
 ghost use Rattle.std.specs.Result.{IsOkUnless};
 ghost use Rattle.contacts_base.specs.declared.contact.ContactEntry.{ContactEntry};
 ghost use Rattle.contacts_base.specs.Contacts.{contacts_without};
 ghost use Rattle.contacts_base.specs.ContactLists.{AreContacts, impulses_given};
 ghost use Rattle.contacts_base.specs.Proxies.{IsProxyList};
-ghost use Rattle.contacts_base.specs.Split.{contacts_in};
+ghost use Rattle.contacts_base.specs.Split.{Split, contacts_in};
 ghost use Rattle.contacts.specs.ByPairs.{contacts_between};
 ghost use Rattle.contacts.specs.Changes.{keys_touching_only_in};
 ghost use Rattle.contacts.specs.ChangedKeys.{AreRising};
+ghost use Rattle.contacts.specs.Numbered.{AreEndsAt, AreNumbered, IsTurnover, contact_at, number_key_at};
+ghost use Rattle.contacts.specs.NumberBooks.{HasRoomFor, IsBook, IsNoKey, KeepBook, bound_of, gone_of};
+ghost use Rattle.contacts.specs.NumberChanges.{IsChange, IsNoted};
 ghost use Rattle.contacts.specs.PendingUpdates.{IsPendingUpdate, IsNothing, pending_contacts};
 ghost use Rattle.contacts.specs.Known.{IsKnown};
 ghost use Rattle.contacts.specs.Stirring.{AreFlagsListed, AreHeld};
 ghost use Rattle.contacts.specs.Fates.{AreWithin, moved_by};
-ghost use Rattle.contacts.specs.Kept.{CanCollide, IsMadeOf};
+ghost use Rattle.contacts.specs.Kept.{CanCollide, IsMadeOf, numbers_on};
 ghost use Rattle.packed_sets.specs.Marks.{AreListed};
+ghost use Rattle.packed_sets.specs.Packs.{list_at};
+ghost use Rattle.packed_sets.specs.Stands.{AreOnce};
 
+use crate::changes::Changes;
 use crate::collide::Collide;
 use crate::crowded::are_crowded;
+use crate::dropping::drop_of_body;
+use crate::ends::Side;
 use crate::fates::ShapesById;
 use crate::forbidden::ForbiddenPairs;
 use crate::moved_pairs::fresh_of_marked;
+use crate::noting::{note_fresh, note_made, note_touches};
+use crate::number_book::{NumberBook, NumberedContact};
 use crate::pair_sweep::PairSweep;
 use crate::pending_update::{PendingUpdate, Touches, carry_out};
 use crate::stirring::{Stirring, refresh};
@@ -47,8 +57,9 @@ struct Beside {
     spent: usize,
 }
 
-/// A contact for each pair of near shapes. Contracts see the list of them (`contacts`), and what it becomes when the last collide is carried
-/// out (`pending`).
+/// A contact for each pair of near shapes. Contracts see the list of them (`contacts`), what it becomes when the last collide is carried out (`pending`), by
+/// number what is known of a contact (`numbered`), the numbers of each body's contacts by side (`firsts`, `seconds`), those that the last change made and
+/// ended (`made`, `gone`), and a bound of the numbers once what is pending is carried out (`bound`).
 ///
 /// They are kept as a long list and a short one: where a contact comes or goes the long list stands, and the places in it hold. The two are made one
 /// when the collides since the last time have looked at as many contacts beside the long list as it has, so that this costs no more than was spent
@@ -59,23 +70,27 @@ pub struct ContactTable {
     // What the last collide made of the contacts, until it is carried out.
     pending: PendingUpdate,
     beside: Beside,
+    // The number of each contact, and the contacts of each body.
+    numbers: NumberBook,
 }
 
 impl Model for ContactTable {
     ghost use Rattle.contacts_base.specs.Split.{contacts_in};
+    ghost use Rattle.std.specs.Prelude.{length};
+    ghost use Rattle.contacts.specs.NumberBooks.{bound_of, gone_of};
     ghost use Rattle.contacts.specs.PendingUpdates.{pending_contacts};
     ghost use Rattle.contacts.specs.Kept.{Kept, IsKeptContacts};
 
     ghost Value = { Kept };
 
-    ghost view = { λ a. record { contacts = contacts_in a.contacts; pending = pending_contacts a.pending a.contacts } };
+    ghost view = { λ a. record { contacts = contacts_in a.contacts; pending = pending_contacts a.pending a.contacts; numbered = a.numbers.contacts.items; firsts = a.numbers.ends.firsts.sets; seconds = a.numbers.ends.seconds.sets; made = a.numbers.made.items; gone = gone_of a.numbers; bound = bound_of a.numbers (length a.pending.made.items) } };
 
     ghost invariant = { λ a. IsKeptContacts a };
 }
 
 /// Nothing is known.
 fn nothing_beside(alloc: Global) -> Beside
-    ensures { (entries : List ContactEntry) → AreHeld result.stirring entries }
+    ensures { (contacts : Split) → AreHeld result.stirring contacts }
 {
     Beside {
         stirring: Stirring::new(alloc),
@@ -109,7 +124,7 @@ fn is_sweep_wanted<S: ShapesById, F: ForbiddenPairs>(
 /// The long list is another: the places don't hold for it, and nothing was looked at beside it.
 fn lapse(beside: &mut Beside)
     requires { AreFlagsListed beside.old.stirring.flags.items beside.old.stirring.flagged.items }
-    ensures { (entries : List ContactEntry) → AreHeld beside.new.stirring entries }
+    ensures { (contacts : Split) → AreHeld beside.new.stirring contacts }
 {
     beside.stirring.holds = false;
     beside.spent = 0;
@@ -117,10 +132,10 @@ fn lapse(beside: &mut Beside)
 
 /// Makes the two lists one, if they aren't. Refused 1 where memory is wanting, and then all stays as it is.
 fn flush(alloc: Global, contacts: &mut SplitContacts, beside: &mut Beside) -> Result<(), Refusal>
-    requires { AreHeld beside.old.stirring contacts.old.long }
+    requires { AreHeld beside.old.stirring contacts.old }
     ensures contacts { contacts_in contacts.new ≡ contacts_in contacts.old }
     ensures one { OnOk result (contacts.new.long ≡ contacts_in contacts.old) }
-    ensures held { AreHeld beside.new.stirring contacts.new.long }
+    ensures held { AreHeld beside.new.stirring contacts.new }
     ensures memory_only { IsOkUnless result Refusal.NoMemory }
 {
     if contacts.is_one() {
@@ -137,9 +152,9 @@ fn flush_if_spent(
     contacts: &mut SplitContacts,
     beside: &mut Beside,
 ) -> Result<(), Refusal>
-    requires { AreHeld beside.old.stirring contacts.old.long }
+    requires { AreHeld beside.old.stirring contacts.old }
     ensures contacts { contacts_in contacts.new ≡ contacts_in contacts.old }
-    ensures held { AreHeld beside.new.stirring contacts.new.long }
+    ensures held { AreHeld beside.new.stirring contacts.new }
     ensures memory_only { IsOkUnless result Refusal.NoMemory }
 {
     if beside.spent >= contacts.long().len() {
@@ -149,6 +164,32 @@ fn flush_if_spent(
     Ok(())
 }
 
+/// Notes all that a collide by all near pairs finds. Refused 1 where memory is wanting.
+fn note_changes(
+    alloc: Global,
+    pending: &mut PendingUpdate,
+    changes: Changes,
+) -> Result<Touches, Refusal>
+    requires nothing { IsNothing pending.old }
+    requires any { pending.old.any ≡ true }
+    ensures pending { OnOk result ((s : Split) → AreContacts (contacts_in s) → IsNoted (contacts_in s) changes → IsPendingUpdate pending.new s) }
+    ensures now { OnOk result ((s : Split) → pending_contacts pending.new s ≡ changes.now) }
+    ensures begin { IfOk result (λ touches. touches.begin.items ≡ changes.begin.items) }
+    ensures end { IfOk result (λ touches. touches.end.items ≡ changes.end.items) }
+    ensures any { pending.new.any ≡ true }
+    ensures memory_only { IsOkUnless result Refusal.NoMemory }
+{
+    let touches = Touches {
+        begin: changes.begin,
+        end: changes.end,
+    };
+    note_made(&mut pending.made, changes.now.as_slice(), &changes.made)?;
+    note_touches(pending, &touches)?;
+    pending.gone = changes.gone;
+    pending.whole = Some(SplitContacts::from_entries(alloc, changes.now.into_entries())?);
+    Ok(touches)
+}
+
 /// What a collide makes of the contacts: by all near pairs, or by what is known of them. Refused 1 where memory is wanting.
 fn make_pending<S: ShapesById, F: ForbiddenPairs>(
     beside: &mut Beside,
@@ -156,13 +197,16 @@ fn make_pending<S: ShapesById, F: ForbiddenPairs>(
     pending: &mut PendingUpdate,
     collide: &Collide<'_, S, F>,
     contacts: &mut SplitContacts,
+    numbers: &NumberBook,
 ) -> Result<Touches, Refusal>
     requires can { CanCollide (S.proxies collide.now.shapes.now) collide.now.marks.now collide.now.marked.now (F.pairs collide.now.forbidden.now) (contacts_in contacts.old) }
-    requires held { AreHeld beside.old.stirring contacts.old.long }
+    requires held { AreHeld beside.old.stirring contacts.old }
     requires nothing { IsNothing pending.old }
     requires any { pending.old.any ≡ true }
+    requires book { IsBook numbers.now }
+    requires numbered { AreNumbered (contacts_in contacts.old) numbers.now.contacts.items }
     ensures contacts { contacts_in contacts.new ≡ contacts_in contacts.old }
-    ensures held { AreHeld beside.new.stirring contacts.new.long }
+    ensures held { AreHeld beside.new.stirring contacts.new }
     ensures pending { OnOk result (IsPendingUpdate pending.new contacts.new) }
     ensures made { IfOk result (IsMadeOf (S.proxies collide.now.shapes.now) (F.pairs collide.now.forbidden.now) (contacts_in contacts.old) (pending_contacts pending.new contacts.new)) }
     ensures any { pending.new.any ≡ true }
@@ -175,16 +219,42 @@ fn make_pending<S: ShapesById, F: ForbiddenPairs>(
         let changes = beside
             .broad
             .update_contacts(room, collide.forbidden, contacts.long())?;
-        pending.whole = Some(SplitContacts::from_entries(alloc, changes.now.into_entries())?);
-        return Ok(Touches {
-            begin: changes.begin,
-            end: changes.end,
-        });
+        return note_changes(alloc, pending, changes);
     }
     flush_if_spent(alloc, contacts, beside)?;
-    refresh(&mut beside.stirring, collide, contacts)?;
+    refresh(&mut beside.stirring, collide, contacts, numbers)?;
     let fresh = fresh_of_marked(alloc, &mut beside.numbers, collide, contacts)?;
     update_known(alloc, pending, collide, contacts, &beside.stirring, &fresh)
+}
+
+/// The same, with room for the numbers of those that come.
+fn make_with_room<S: ShapesById, F: ForbiddenPairs>(
+    beside: &mut Beside,
+    alloc: Global,
+    pending: &mut PendingUpdate,
+    collide: &Collide<'_, S, F>,
+    contacts: &mut SplitContacts,
+    numbers: &mut NumberBook,
+) -> Result<Touches, Refusal>
+    requires can { CanCollide (S.proxies collide.now.shapes.now) collide.now.marks.now collide.now.marked.now (F.pairs collide.now.forbidden.now) (contacts_in contacts.old) }
+    requires held { AreHeld beside.old.stirring contacts.old }
+    requires nothing { IsNothing pending.old }
+    requires any { pending.old.any ≡ true }
+    requires book { IsBook numbers.old }
+    requires numbered { AreNumbered (contacts_in contacts.old) numbers.old.contacts.items }
+    ensures contacts { contacts_in contacts.new ≡ contacts_in contacts.old }
+    ensures held { AreHeld beside.new.stirring contacts.new }
+    ensures pending { OnOk result (IsPendingUpdate pending.new contacts.new) }
+    ensures made { IfOk result (IsMadeOf (S.proxies collide.now.shapes.now) (F.pairs collide.now.forbidden.now) (contacts_in contacts.old) (pending_contacts pending.new contacts.new)) }
+    ensures any { pending.new.any ≡ true }
+    ensures numbers { KeepBook numbers.old numbers.new }
+    ensures book { IsBook numbers.new }
+    ensures room { OnOk result (HasRoomFor pending.new.made.items numbers.new) }
+    ensures memory_only { IsOkUnless result Refusal.NoMemory }
+{
+    let touches = make_pending(beside, alloc, pending, collide, contacts, numbers)?;
+    numbers.reserve_for(&pending.made)?;
+    Ok(touches)
 }
 
 /// The same; where memory is wanting nothing is pending.
@@ -194,19 +264,25 @@ fn make_or_clear<S: ShapesById, F: ForbiddenPairs>(
     pending: &mut PendingUpdate,
     collide: &Collide<'_, S, F>,
     contacts: &mut SplitContacts,
+    numbers: &mut NumberBook,
 ) -> Result<Touches, Refusal>
     requires can { CanCollide (S.proxies collide.now.shapes.now) collide.now.marks.now collide.now.marked.now (F.pairs collide.now.forbidden.now) (contacts_in contacts.old) }
-    requires held { AreHeld beside.old.stirring contacts.old.long }
+    requires held { AreHeld beside.old.stirring contacts.old }
     requires nothing { IsNothing pending.old }
+    requires book { IsBook numbers.old }
+    requires numbered { AreNumbered (contacts_in contacts.old) numbers.old.contacts.items }
     ensures contacts { contacts_in contacts.new ≡ contacts_in contacts.old }
-    ensures held { AreHeld beside.new.stirring contacts.new.long }
+    ensures held { AreHeld beside.new.stirring contacts.new }
     ensures pending { IsPendingUpdate pending.new contacts.new }
+    ensures numbers { KeepBook numbers.old numbers.new }
+    ensures book { IsBook numbers.new }
+    ensures room { pending.new.any ≡ true → HasRoomFor pending.new.made.items numbers.new }
     ensures made { IfOk result (IsMadeOf (S.proxies collide.now.shapes.now) (F.pairs collide.now.forbidden.now) (contacts_in contacts.old) (pending_contacts pending.new contacts.new)) }
     ensures refused { OnErr result (pending_contacts pending.new contacts.new ≡ contacts_in contacts.old) }
     ensures memory_only { IsOkUnless result Refusal.NoMemory }
 {
     pending.any = true;
-    let made = make_pending(beside, alloc, pending, collide, contacts);
+    let made = make_with_room(beside, alloc, pending, collide, contacts, numbers);
     if made.is_err() {
         pending.clear();
         contacts.know_ascending();
@@ -214,14 +290,65 @@ fn make_or_clear<S: ShapesById, F: ForbiddenPairs>(
     made
 }
 
-/// Carries out what is pending, if something is. Takes no memory.
-fn carry_out_now(contacts: &mut SplitContacts, pending: &mut PendingUpdate, beside: &mut Beside)
-    requires held { AreHeld beside.old.stirring contacts.old.long }
-    requires pending { IsPendingUpdate pending.old contacts.old }
-    ensures contacts { contacts_in contacts.new ≡ pending_contacts pending.old contacts.old }
-    ensures held { AreHeld beside.new.stirring contacts.new.long }
-    ensures nothing { IsNothing pending.new }
+/// Carries out what is pending on the numbers: contacts begin and end to touch, some come, and some go.
+fn renumber(numbers: &mut NumberBook, pending: &PendingUpdate)
+    requires book { IsBook numbers.old }
+    requires rising { AreRising (map (λ c. c.key) pending.now.made.items) }
+    requires room { pending.now.any ≡ true → HasRoomFor pending.now.made.items numbers.old }
+    requires idle { pending.now.any ≡ false → IsNothing pending.now }
+    requires absent { (c : NumberedContact) → Contains pending.now.made.items c → IsNoKey c.key numbers.old }
+    ensures change { (old new : List ContactEntry) → AreNumbered old numbers.old.contacts.items → IsChange old new pending.now.made.items pending.now.gone.items pending.now.begin.items pending.now.end.items → AreNumbered new numbers.new.contacts.items }
+    ensures turnover { (old new : List ContactEntry) → AreNumbered old numbers.old.contacts.items → IsChange old new pending.now.made.items pending.now.gone.items pending.now.begin.items pending.now.end.items → IsTurnover numbers.old.contacts.items numbers.new.contacts.items numbers.new.made.items (gone_of numbers.new) }
+    ensures bound { length numbers.new.contacts.items ≤ bound_of numbers.old (length pending.now.made.items) }
+    ensures book { IsBook numbers.new }
 {
+    numbers.begin();
+    if pending.any {
+        numbers.set_all_touching(&pending.begin, true);
+        numbers.set_all_touching(&pending.end, false);
+        numbers.make_all(&pending.made);
+        numbers.end_all(&pending.gone);
+    }
+}
+
+/// These contacts get the numbers from 0 on. Refused 1 where memory is wanting.
+fn number_all(alloc: Global, entries: &[ContactEntry]) -> Result<NumberBook, Refusal>
+    requires { AreContacts entries.now }
+    ensures book { IfOk result (λ numbers. IsBook numbers) }
+    ensures numbered { IfOk result (λ numbers. AreNumbered entries.now numbers.contacts.items) }
+    ensures memory_only { IsOkUnless result Refusal.NoMemory }
+{
+    let mut numbers = NumberBook::new(alloc);
+    let mut made = Vec::new(alloc);
+    note_fresh(&mut made, entries)?;
+    numbers.reserve_for(&made)?;
+    numbers.begin();
+    numbers.make_all(&made);
+    Ok(numbers)
+}
+
+/// Carries out what is pending, if something is. Takes no memory.
+fn carry_out_now(
+    contacts: &mut SplitContacts,
+    pending: &mut PendingUpdate,
+    beside: &mut Beside,
+    numbers: &mut NumberBook,
+)
+    requires held { AreHeld beside.old.stirring contacts.old }
+    requires pending { IsPendingUpdate pending.old contacts.old }
+    requires book { IsBook numbers.old }
+    requires numbered { AreNumbered (contacts_in contacts.old) numbers.old.contacts.items }
+    requires room { pending.old.any ≡ true → HasRoomFor pending.old.made.items numbers.old }
+    ensures contacts { contacts_in contacts.new ≡ pending_contacts pending.old contacts.old }
+    ensures held { AreHeld beside.new.stirring contacts.new }
+    ensures nothing { IsNothing pending.new }
+    ensures idle { pending.new.any ≡ false }
+    ensures book { IsBook numbers.new }
+    ensures numbered { AreNumbered (contacts_in contacts.new) numbers.new.contacts.items }
+    ensures turnover { IsTurnover numbers.old.contacts.items numbers.new.contacts.items numbers.new.made.items (gone_of numbers.new) }
+    ensures bound { length numbers.new.contacts.items ≤ bound_of numbers.old (length pending.old.made.items) }
+{
+    renumber(numbers, pending);
     if !carry_out(contacts, pending) {
         lapse(beside);
     }
@@ -230,7 +357,8 @@ fn carry_out_now(contacts: &mut SplitContacts, pending: &mut PendingUpdate, besi
 impl ContactTable {
     /// No contacts.
     pub fn new(alloc: Global) -> ContactTable
-        ensures { result.contacts ≡ [] }
+        ensures contacts { result.contacts ≡ [] }
+        ensures numbered { result.numbered ≡ [] }
     {
         let contacts = SplitContacts::new(alloc);
         contacts.know_ascending();
@@ -238,6 +366,7 @@ impl ContactTable {
             contacts,
             pending: PendingUpdate::new(alloc),
             beside: nothing_beside(alloc),
+            numbers: NumberBook::new(alloc),
         }
     }
 
@@ -248,10 +377,12 @@ impl ContactTable {
     {
         let contacts = SplitContacts::from_entries(alloc, contacts.into_entries())?;
         contacts.know_ascending();
+        let numbers = number_all(alloc, contacts.long())?;
         Ok(ContactTable {
             contacts,
             pending: PendingUpdate::new(alloc),
             beside: nothing_beside(alloc),
+            numbers,
         })
     }
 
@@ -292,25 +423,83 @@ impl ContactTable {
         self.contacts.to_entries(alloc)
     }
 
-    /// Makes ready for the drop of the contacts of a body, which then needs no pass over the long list. The first drop since that list was made has
-    /// one, which costs less than the index that all later ones ask. Refused 1 where memory is wanting.
-    pub fn reserve_drop(&mut self) -> Result<(), Refusal>
-        ensures contacts { self.new.contacts ≡ self.old.contacts }
-        ensures pending { self.new.pending ≡ self.old.pending }
-        ensures memory_only { IsOkUnless result Refusal.NoMemory }
+    // ---- contacts by their numbers
+
+    /// What is known of the numbers: each contact has one. The function does nothing; its contract is the law.
+    #[inline(always)]
+    pub fn know_numbered(&self)
+        ensures numbered { AreNumbered self.now.contacts self.now.numbered }
     {
-        if self.contacts.is_one() {
-            return Ok(());
-        }
-        self.contacts.index_bodies()
+        let _ = &self.numbers;
     }
 
-    /// Drops the contacts of the body in a slot; nothing is pending then. Takes no memory.
+    /// What the number of a contact tells of it, if there is a contact with the number.
+    #[inline(always)]
+    pub fn contact(&self, number: u32) -> Option<NumberedContact>
+        ensures { result ≡ contact_at self.now.numbered number }
+    {
+        self.numbers.contact(number)
+    }
+
+    /// The number of the contact with this key, if there is one. It costs by the shorter of two threads: those of the contacts whose first body is the key's
+    /// first one, and of those whose second body is its second one.
+    pub fn number_of(&self, key: ContactKey) -> Option<u32>
+        ensures number { (number : ℕ) → (result ≡ Some number) ↔ (number_key_at self.now.numbered number ≡ Some key) }
+    {
+        self.numbers.number_of(key)
+    }
+
+    /// The number of the first contact of the body in a slot, of those that have it on one side, if there is one.
+    #[inline(always)]
+    pub fn first_at(&self, side: Side, slot: u32) -> Option<u32>
+        ensures first { result ≡ slice_get (list_at (numbers_on side self.now) slot) 0 }
+        ensures ends { AreEndsAt side self.now.numbered slot (list_at (numbers_on side self.now) slot) }
+        ensures once { AreOnce (list_at (numbers_on side self.now) slot) }
+    {
+        self.numbers.ends.know_once();
+        self.numbers.ends.first_at(side, slot)
+    }
+
+    /// The number of the contact that comes behind this one, of those that have the same body on one side, if one does.
+    #[inline(always)]
+    pub fn behind(&self, side: Side, number: u32) -> Option<u32>
+        ensures { (slot : ℕ) (front back : List ℕ) → list_at (numbers_on side self.now) slot ≡ front ++ number ∷ back → result ≡ slice_get back 0 }
+    {
+        self.numbers.ends.behind(side, number)
+    }
+
+    /// Below which number all contacts have theirs once what is pending is carried out.
+    pub fn number_bound(&self) -> usize
+        ensures bound { result ≡ self.now.bound }
+        ensures numbered { length self.now.numbered ≤ result }
+        ensures few { result ≤ 2 ^ 32 }
+    {
+        self.numbers.bound(self.pending.made.len())
+    }
+
+    /// The numbers of the contacts that the last change made, until the next collide.
+    pub fn made(&self) -> &[u32]
+        ensures { result.now ≡ self.now.made }
+    {
+        self.numbers.made.as_slice()
+    }
+
+    /// The numbers of the contacts that the last change ended.
+    pub fn gone(&self) -> &[u32]
+        ensures { result.now ≡ self.now.gone }
+    {
+        self.numbers.gone()
+    }
+
+    /// Drops the contacts of the body in a slot; nothing is pending then. Takes no memory. Each of them takes a search of the long list, and all together a
+    /// pass over the short one.
     pub fn drop_of_body(&mut self, slot: u32)
-        ensures { self.new.contacts ≡ contacts_without slot self.old.contacts }
+        ensures contacts { self.new.contacts ≡ contacts_without slot self.old.contacts }
+        ensures turnover { IsTurnover self.old.numbered self.new.numbered self.new.made self.new.gone }
+        ensures none { self.new.made ≡ [] }
     {
         self.pending.clear();
-        self.contacts.drop_of_body(slot);
+        drop_of_body(&mut self.numbers, &mut self.contacts, slot);
         self.contacts.know_ascending();
     }
 
@@ -324,7 +513,8 @@ impl ContactTable {
         first: Impulses,
         second: Option<Impulses>,
     )
-        ensures { self.new.contacts ≡ impulses_given key first second self.old.contacts }
+        ensures contacts { self.new.contacts ≡ impulses_given key first second self.old.contacts }
+        ensures numbered { self.new.numbered ≡ self.old.numbered }
     {
         self.pending.clear();
         self.contacts.set_impulses(place, key, first, second);
@@ -340,7 +530,7 @@ impl ContactTable {
     ///
     /// A contact is evaluated anew if one of its two bodies stirs, and else stays as it is. A pair that had a contact keeps its surface, and the
     /// impulses of its points by their candidates; a new pair gets a contact with what its shapes' surfaces mix to. A contact ends that touched
-    /// and doesn't any more, also where its shapes are no longer near or its bodies may no longer collide.
+    /// and doesn't any more, also where its shapes are no longer near or its bodies may no longer collide. What [`ContactTable::made`] tells isn't known then.
     pub fn collide<S: ShapesById, F: ForbiddenPairs>(
         &mut self,
         alloc: Global,
@@ -354,6 +544,7 @@ impl ContactTable {
         requires listed { AreListed marks.now marked.now }
         requires known { IsKnown (moved_by marks.now) (F.pairs forbidden.now) (S.proxies shapes.now) self.old.contacts }
         ensures contacts { self.new.contacts ≡ self.old.contacts }
+        ensures numbered { self.new.numbered ≡ self.old.numbered }
         ensures pending { OnOk result (self.new.pending ≡ contacts_between (F.pairs forbidden.now) (S.proxies shapes.now) self.old.contacts) }
         ensures refused { OnErr result (self.new.pending ≡ self.old.contacts) }
         ensures begin { IfOk result (λ touches. touches.begin.items ≡ keys_touching_only_in self.old.contacts (contacts_between (F.pairs forbidden.now) (S.proxies shapes.now) self.old.contacts)) }
@@ -375,14 +566,22 @@ impl ContactTable {
             &mut self.pending,
             &collide,
             &mut self.contacts,
+            &mut self.numbers,
         )
     }
 
     /// The contacts become what is pending, or stay as they are where nothing is. Takes no memory.
     pub fn carry_out(&mut self)
-        ensures { self.new.contacts ≡ self.old.pending }
+        ensures contacts { self.new.contacts ≡ self.old.pending }
+        ensures turnover { IsTurnover self.old.numbered self.new.numbered self.new.made self.new.gone }
+        ensures bound { length self.new.numbered ≤ self.old.bound }
     {
-        carry_out_now(&mut self.contacts, &mut self.pending, &mut self.beside);
+        carry_out_now(
+            &mut self.contacts,
+            &mut self.pending,
+            &mut self.beside,
+            &mut self.numbers,
+        );
         self.contacts.know_ascending();
     }
 }

@@ -11,7 +11,7 @@ ghost use Rattle.contacts_base.specs.Contacts.{is_touching};
 ghost use Rattle.contacts.specs.Changes.{key_if_new};
 ghost use Rattle.contacts.specs.Known.{again, either_moved, found, may_touch, near_key, stays};
 ghost use Rattle.contacts.specs.Looked.{ending};
-ghost use Rattle.contacts.specs.Fates.{key_if_begun, moved_by, noted, one_stirs_of, outcome, stirs_in, after_fate};
+ghost use Rattle.contacts.specs.Fates.{key_if_begun, key_if_gone, moved_by, noted, one_stirs_of, outcome, stirs_in, after_fate};
 
 use crate::changes::contact_with;
 use crate::collide::Collide;
@@ -170,6 +170,17 @@ pub(crate) fn ended_key(entry: &ContactEntry, fate: &Fate) -> Option<ContactKey>
         None
     } else {
         Some(entry.key)
+    }
+}
+
+/// The contact's key, if it goes.
+pub(crate) fn gone_key(entry: &ContactEntry, fate: &Fate) -> Option<ContactKey>
+    ensures { result ≡ key_if_gone entry.now (after_fate entry.now fate.now) }
+{
+    match fate {
+        Fate::Stays => None,
+        Fate::Goes => Some(entry.key),
+        Fate::Renewed(_) => None,
     }
 }
 

@@ -5,7 +5,8 @@
 //! and which began or ended to touch.
 //!
 //! `ContactTable` has the contacts of a world from one collide to the next. A collide looks for new ones only where a shape has a
-//! new fat box, came or went; where much has moved, it goes over all shapes by `PairSweep`.
+//! new fat box, came or went; where much has moved, it goes over all shapes by `PairSweep`. Each contact has a number for as long as it is there, and a body
+//! has two threads of the numbers of its contacts, one for each `Side`.
 #![tactic(auto)]
 
 mod changes;
@@ -13,11 +14,15 @@ mod collide;
 mod constraint;
 mod contact_table;
 mod crowded;
+mod dropping;
+mod ends;
 mod fates;
 mod forbidden;
 mod known;
 mod marks;
 mod moved_pairs;
+mod noting;
+mod number_book;
 mod pair_sweep;
 mod pending_update;
 mod rebuild;
@@ -29,10 +34,12 @@ mod update;
 pub use changes::Changes;
 pub use constraint::Constraint;
 pub use contact_table::ContactTable;
+pub use ends::Side;
 pub use fates::{Fate, ShapesById};
 pub use forbidden::{BodyPair, ForbiddenPairs};
 pub use known::{
     all_known_after, contacts_by_codes, contacts_in_parts, known_stays, near_are_known,
 };
+pub use number_book::NumberedContact;
 pub use pair_sweep::PairSweep;
 pub use pending_update::Touches;

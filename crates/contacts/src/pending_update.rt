@@ -1,14 +1,17 @@
 //! What a collide makes of the contacts, and how that is carried out.
 
-ghost use Rattle.std.specs.Prelude.{◌≡◌, IsTrue, false, map};
+ghost use Rattle.std.specs.Prelude.{◌≡◌, IsTrue, false};
 ghost use Rattle.contacts_base.specs.Split.{contacts_in};
 ghost use Rattle.contacts.specs.PendingUpdates.{IsPendingUpdate, IsNothing, pending_contacts};
+ghost use Rattle.contacts.specs.Stirring.{HaveKeys};
 
+use crate::number_book::NumberedContact;
 use contacts_base::{ContactEntry, ContactKey, Renewal, SplitContacts};
 use std::alloc::Global;
 
 /// What a collide makes of the contacts, not yet carried out: of the long list what becomes of the contacts at some places, and which of them are
-/// over; and the short list anew, if one of it changes or contacts come. Or all contacts anew.
+/// over; and the short list anew, if one of it changes or contacts come. Or all contacts anew. And what that does to the numbers: which contacts come, and
+/// the keys of those that go, that begin to touch, and that end to touch.
 #[derive(Drop)]
 pub(crate) struct PendingUpdate {
     // What contacts of the long list become.
@@ -17,6 +20,13 @@ pub(crate) struct PendingUpdate {
     pub(crate) ends: Vec<usize>,
     pub(crate) short: Option<Vec<ContactEntry>>,
     pub(crate) whole: Option<SplitContacts>,
+    // Those that come, ascending by key.
+    pub(crate) made: Vec<NumberedContact>,
+    // The keys of those that begin to touch, and of those that end to touch, with those that touched and go.
+    pub(crate) begin: Vec<ContactKey>,
+    pub(crate) end: Vec<ContactKey>,
+    // The keys of those that go.
+    pub(crate) gone: Vec<ContactKey>,
     // Whether there may be anything of these.
     pub(crate) any: bool,
 }
@@ -39,6 +49,10 @@ impl PendingUpdate {
             ends: Vec::new(alloc),
             short: None,
             whole: None,
+            made: Vec::new(alloc),
+            begin: Vec::new(alloc),
+            end: Vec::new(alloc),
+            gone: Vec::new(alloc),
             any: false,
         }
     }
@@ -65,6 +79,10 @@ impl PendingUpdate {
         self.ends.clear();
         self.short = None;
         self.whole = None;
+        self.made.clear();
+        self.begin.clear();
+        self.end.clear();
+        self.gone.clear();
         self.any = false;
     }
 }
@@ -73,7 +91,7 @@ impl PendingUpdate {
 pub(crate) fn carry_out(contacts: &mut SplitContacts, pending: &mut PendingUpdate) -> bool
     requires { IsPendingUpdate pending.old contacts.old }
     ensures contacts { contacts_in contacts.new ≡ pending_contacts pending.old contacts.old }
-    ensures keys { IsTrue result → map (λ e. e.key) contacts.new.long ≡ map (λ e. e.key) contacts.old.long }
+    ensures keys { IsTrue result → HaveKeys contacts.old contacts.new }
     ensures idle { pending.new.any ≡ false }
     ensures nothing { IsNothing pending.new }
 {

@@ -11,11 +11,11 @@ ghost use Rattle.contacts.specs.Known.{IsPairKey, again, staying};
 ghost use Rattle.contacts.specs.Looked.{IsRebuilt};
 ghost use Rattle.contacts_base.specs.Merge.{AreAscending, merged};
 ghost use Rattle.contacts.specs.Stirring.{AreQuiet};
-ghost use Rattle.contacts.specs.Fates.{IsAdded, begun_keys, ended_keys, moved_by, after_fate};
+ghost use Rattle.contacts.specs.Fates.{IsAdded, begun_keys, ended_keys, gone_keys, moved_by, after_fate};
 
 use crate::changes::push_key;
 use crate::collide::Collide;
-use crate::fates::{Fate, ShapesById, begun_key, ended_key};
+use crate::fates::{Fate, ShapesById, begun_key, ended_key, gone_key};
 use crate::forbidden::ForbiddenPairs;
 use crate::pending_update::Touches;
 use crate::stirring::fate_in;
@@ -23,19 +23,21 @@ use contacts_base::{ContactEntry, ContactKey, merge, push_below};
 use fixed_geom::Refusal;
 use std::alloc::Global;
 
-/// The contacts of the list, and the keys of those of the old ones that begin to touch and that end.
+/// The contacts of the list, and the keys of those of the old ones that begin to touch, that end, and that go.
 #[derive(Drop)]
 struct Survivors {
     all: Vec<ContactEntry>,
     begin: Vec<ContactKey>,
     end: Vec<ContactKey>,
+    gone: Vec<ContactKey>,
 }
 
-/// The list anew, and the keys of those of it that begin to touch and that end.
+/// The list anew, the keys of those of it that begin to touch and that end, and of the old ones that go.
 #[derive(Drop)]
 pub(crate) struct Rebuilt {
     pub all: Vec<ContactEntry>,
     pub touches: Touches,
+    pub gone: Vec<ContactKey>,
 }
 
 /// Adds a contact, and before it the fresh ones from a place on that come first. Answers the place of the next fresh one. Refused 1 where
@@ -100,11 +102,13 @@ fn fate_each<S: ShapesById, F: ForbiddenPairs>(
     ensures all { IfOk result (λ found. found.all.items ≡ merged number_of (map (again (S.proxies collide.now.shapes.now)) (staying (moved_by collide.now.marks.now) (F.pairs collide.now.forbidden.now) (S.proxies collide.now.shapes.now) old.now)) fresh.now) }
     ensures begin { IfOk result (λ found. found.begin.items ≡ begun_keys (moved_by collide.now.marks.now) (F.pairs collide.now.forbidden.now) (S.proxies collide.now.shapes.now) old.now) }
     ensures end { IfOk result (λ found. found.end.items ≡ ended_keys (moved_by collide.now.marks.now) (F.pairs collide.now.forbidden.now) (S.proxies collide.now.shapes.now) old.now) }
+    ensures gone { IfOk result (λ found. found.gone.items ≡ gone_keys (moved_by collide.now.marks.now) (F.pairs collide.now.forbidden.now) (S.proxies collide.now.shapes.now) old.now) }
     ensures memory_only { IsOkUnless result Refusal.NoMemory }
 {
     let mut all = Vec::with_capacity(alloc, old.len().saturating_add(fresh.len()))?;
     let mut begin = Vec::new(alloc);
     let mut end = Vec::new(alloc);
+    let mut gone = Vec::new(alloc);
     let mut next = 0;
     for place in 0..old.len() {
         let entry = &old[place];
@@ -112,9 +116,15 @@ fn fate_each<S: ShapesById, F: ForbiddenPairs>(
         next = push_after_fate(&mut all, fresh, next, entry, &fate)?;
         push_key(&mut begin, begun_key(entry, &fate))?;
         push_key(&mut end, ended_key(entry, &fate))?;
+        push_key(&mut gone, gone_key(entry, &fate))?;
     }
     all.extend_from_slice(&fresh[next..])?;
-    Ok(Survivors { all, begin, end })
+    Ok(Survivors {
+        all,
+        begin,
+        end,
+        gone,
+    })
 }
 
 /// The contact's key, if it touches.
@@ -155,6 +165,7 @@ pub(crate) fn rebuild<S: ShapesById, F: ForbiddenPairs>(
     requires quiet { AreQuiet flags.now collide.now.marks.now (S.proxies collide.now.shapes.now) }
     requires fresh { AreKeysRising fresh.now }
     ensures rebuilt { IfOk result (λ rebuilt. IsRebuilt (moved_by collide.now.marks.now) (F.pairs collide.now.forbidden.now) (S.proxies collide.now.shapes.now) old.now fresh.now rebuilt.all.items rebuilt.touches.begin.items rebuilt.touches.end.items) }
+    ensures gone { IfOk result (λ rebuilt. rebuilt.gone.items ≡ gone_keys (moved_by collide.now.marks.now) (F.pairs collide.now.forbidden.now) (S.proxies collide.now.shapes.now) old.now) }
     ensures memory_only { IsOkUnless result Refusal.NoMemory }
 {
     let survivors = fate_each(alloc, collide, old, flags, fresh)?;
@@ -166,5 +177,6 @@ pub(crate) fn rebuild<S: ShapesById, F: ForbiddenPairs>(
             begin,
             end: survivors.end,
         },
+        gone: survivors.gone,
     })
 }

@@ -1,18 +1,26 @@
 //! The contacts of which a body may stir, by their places in the long list, so that a collide passes over those alone.
 
-ghost use Rattle.std.specs.Prelude.{◌≡◌, ◌++◌, ◌∷◌, [], All, Bool, IsTrue, List, OnOk, cond, false, length, replicate, true};
+ghost use Rattle.std.specs.Prelude.{◌≡◌, ◌↔◌, ◌++◌, ◌∷◌, [], ℕ, All, Contains, IsTrue, OnOk, cond, false, length, replicate, true};
 ghost use Rattle.std.specs.Result.{IsOkUnless};
 ghost use Rattle.contacts_base.specs.Proxies.{IsProxyList};
-ghost use Rattle.contacts_base.specs.Split.{AreSlotsBelow};
+ghost use Rattle.std.specs.List.Sorted.{IsStrictlyIncreasing};
+ghost use Rattle.contacts_base.specs.Contacts.{AreKeysRising};
+ghost use Rattle.contacts_base.specs.Split.{Split, contacts_in};
 ghost use Rattle.contacts.specs.Known.{IsPairKey};
-ghost use Rattle.contacts.specs.Stirring.{AreFlagsListed, AreHeld, AreQuiet, is_flagged, one_flagged, places_of_all, stirring_places};
+ghost use Rattle.contacts.specs.Stirring.{AreFlagsListed, AreHeld, AreQuiet, AreStirring, is_flagged, one_flagged, stirring_places};
+ghost use Rattle.contacts.specs.Numbered.{AreNumbered};
+ghost use Rattle.contacts.specs.NumberBooks.{IsBook};
+ghost use Rattle.contacts.specs.StirringPlaces.{ArePushed, IsPlaceOf, IsPlaceOfOne, IsPlaceOn};
 ghost use Rattle.contacts.specs.Fates.{moved_by, outcome, after_fate};
 ghost use Rattle.packed_sets.specs.Marks.{AreListed};
 
 use crate::collide::Collide;
+use crate::dropping::has_key;
+use crate::ends::Side;
 use crate::fates::{Fate, ShapesById, fate_of};
 use crate::forbidden::ForbiddenPairs;
-use contacts_base::{ContactEntry, SplitContacts};
+use crate::number_book::{NumberBook, NumberedContact};
+use contacts_base::{ContactEntry, SplitContacts, seek_next};
 use fixed_geom::Refusal;
 use std::alloc::Global;
 
@@ -27,7 +35,7 @@ pub(crate) struct Stirring {
     // The slots whose flag is set, each once.
     pub flagged: Vec<u32>,
     pub places: Vec<usize>,
-    // Whether the places are those of the contacts as they are now.
+    // Whether the places have all contacts of the long list that count and of which a body may stir. Some at them may be over.
     pub holds: bool,
 }
 
@@ -35,7 +43,7 @@ impl Stirring {
     /// Nothing is known yet.
     pub fn new(alloc: Global) -> Stirring
         ensures holds { result.holds ≡ false }
-        ensures held { (entries : List ContactEntry) → AreHeld result entries }
+        ensures held { (contacts : Split) → AreHeld result contacts }
     {
         Stirring {
             flags: Vec::new(alloc),
@@ -200,7 +208,7 @@ fn scan_places(
     flags: &[bool],
     entries: &[ContactEntry],
 ) -> Result<(), Refusal>
-    ensures listed { OnOk result (places.new.items ≡ stirring_places flags.now entries.now) }
+    ensures listed { OnOk result (places.new.items ≡ stirring_places flags.now (λ key. true) entries.now) }
     ensures memory_only { IsOkUnless result Refusal.NoMemory }
 {
     places.clear();
@@ -210,55 +218,104 @@ fn scan_places(
     Ok(())
 }
 
-/// Lists the places of the contacts of the bodies in these slots, one body after the other. Refused 1 where memory is wanting.
-fn push_places(
+/// Adds the place in a list of the contact with the key of this one, if it is there. It is looked for from the hint on, which becomes where the search ended.
+/// Refused 1 where memory is wanting.
+fn push_place_of(
     places: &mut Vec<usize>,
-    slots: &[u32],
-    contacts: &SplitContacts,
+    hint: &mut usize,
+    entries: &[ContactEntry],
+    contact: Option<NumberedContact>,
 ) -> Result<(), Refusal>
-    ensures pushed { OnOk result (places.new.items ≡ places_of_all slots.now contacts.now.long) }
+    requires rising { AreKeysRising entries.now }
+    ensures pushed { OnOk result (ArePushed (IsPlaceOf entries.now contact) places.old.items places.new.items) }
     ensures memory_only { IsOkUnless result Refusal.NoMemory }
 {
-    places.clear();
-    for place in 0..slots.len() {
-        contacts.push_places_of(places, slots[place])?;
+    if let Some(contact) = contact {
+        *hint = seek_next(entries, *hint, contact.key);
+        push_place(places, has_key(entries.get(*hint), contact.key), *hint)?;
     }
     Ok(())
 }
 
-/// Lists the places of those contacts of which a body may stir from those of each flagged body. Refused 1 where memory is wanting.
-fn gather_places(
+/// Adds the places in a list of the contacts that have the body in a slot on one side. Refused 1 where memory is wanting.
+fn push_side(
     places: &mut Vec<usize>,
-    flagged: &[u32],
-    contacts: &SplitContacts,
+    entries: &[ContactEntry],
+    numbers: &NumberBook,
+    side: Side,
+    slot: u32,
 ) -> Result<(), Refusal>
-    ensures listed { (flags : List Bool) → AreFlagsListed flags flagged.now → AreSlotsBelow (length flags) contacts.now.long → OnOk result (places.new.items ≡ stirring_places flags contacts.now.long) }
+    requires rising { AreKeysRising entries.now }
+    requires book { IsBook numbers.now }
+    ensures pushed { OnOk result (ArePushed (IsPlaceOn entries.now numbers.now.contacts.items side slot) places.old.items places.new.items) }
     ensures memory_only { IsOkUnless result Refusal.NoMemory }
 {
-    push_places(places, flagged, contacts)?;
+    numbers.ends.know_once();
+    let mut hint = 0;
+    let mut next = numbers.ends.first_at(side, slot);
+    while let Some(number) = next {
+        push_place_of(places, &mut hint, entries, numbers.contact(number))?;
+        next = numbers.ends.behind(side, number);
+    }
+    Ok(())
+}
+
+/// Lists the places in a list of the contacts of the bodies in these slots, one body after the other. Refused 1 where memory is wanting.
+fn push_places(
+    places: &mut Vec<usize>,
+    slots: &[u32],
+    entries: &[ContactEntry],
+    numbers: &NumberBook,
+) -> Result<(), Refusal>
+    requires rising { AreKeysRising entries.now }
+    requires book { IsBook numbers.now }
+    ensures pushed { OnOk result ((place : ℕ) → Contains places.new.items place ↔ IsPlaceOfOne entries.now numbers.now.contacts.items slots.now place) }
+    ensures memory_only { IsOkUnless result Refusal.NoMemory }
+{
+    places.clear();
+    for place in 0..slots.len() {
+        push_side(places, entries, numbers, Side::First, slots[place])?;
+        push_side(places, entries, numbers, Side::Second, slots[place])?;
+    }
+    Ok(())
+}
+
+/// Lists the places in a list of the contacts of the bodies in these slots, ascending. Refused 1 where memory is wanting.
+fn gather_places(
+    places: &mut Vec<usize>,
+    slots: &[u32],
+    entries: &[ContactEntry],
+    numbers: &NumberBook,
+) -> Result<(), Refusal>
+    requires rising { AreKeysRising entries.now }
+    requires book { IsBook numbers.now }
+    ensures rising { OnOk result (IsStrictlyIncreasing places.new.items) }
+    ensures listed { OnOk result ((place : ℕ) → Contains places.new.items place ↔ IsPlaceOfOne entries.now numbers.now.contacts.items slots.now place) }
+    ensures memory_only { IsOkUnless result Refusal.NoMemory }
+{
+    push_places(places, slots, entries, numbers)?;
     places.sort_unstable();
     places.dedup();
     Ok(())
 }
 
-/// Lists the places of those contacts of which a body may stir: where few are flagged, that costs by their own contacts, once the long list has its
-/// index. Refused 1 where memory is wanting.
+/// Lists the places of those contacts of which a body may stir: where few are flagged, that takes a search for each of their contacts. Refused 1 where
+/// memory is wanting.
 fn list_places(
     places: &mut Vec<usize>,
     flags: &[bool],
     flagged: &[u32],
-    contacts: &mut SplitContacts,
+    contacts: &SplitContacts,
+    numbers: &NumberBook,
 ) -> Result<(), Refusal>
-    requires { AreFlagsListed flags.now flagged.now }
-    ensures listed { OnOk result (places.new.items ≡ stirring_places flags.now contacts.new.long) }
-    ensures contacts { contacts.new ≡ contacts.old }
+    requires flagged { AreFlagsListed flags.now flagged.now }
+    requires book { IsBook numbers.now }
+    requires numbered { AreNumbered (contacts_in contacts.now) numbers.now.contacts.items }
+    ensures listed { OnOk result (AreStirring flags.now contacts.now places.new.items) }
     ensures memory_only { IsOkUnless result Refusal.NoMemory }
 {
-    if flagged.len() < contacts.long().len() / FEW_FLAGGED {
-        contacts.index_bodies()?;
-        if contacts.are_slots_below(flags.len()) {
-            return gather_places(places, flagged, contacts);
-        }
+    if flagged.len() < contacts.long().len() / FEW_FLAGGED && numbers.ends.bodies() <= flags.len() {
+        return gather_places(places, flagged, contacts.long(), numbers);
     }
     scan_places(places, flags, contacts.long())
 }
@@ -296,7 +353,7 @@ fn refresh_flags<S: ShapesById, F: ForbiddenPairs>(
 ) -> Result<(), Refusal>
     requires listed { AreListed collide.now.marks.now collide.now.marked.now }
     requires flagged { AreFlagsListed stirring.old.flags.items stirring.old.flagged.items }
-    ensures held { (entries : List ContactEntry) → AreHeld stirring.old entries → AreHeld stirring.new entries }
+    ensures held { (contacts : Split) → AreHeld stirring.old contacts → AreHeld stirring.new contacts }
     ensures quiet { OnOk result (AreQuiet stirring.new.flags.items collide.now.marks.now (S.proxies collide.now.shapes.now)) }
     ensures memory_only { IsOkUnless result Refusal.NoMemory }
 {
@@ -308,12 +365,17 @@ fn refresh_flags<S: ShapesById, F: ForbiddenPairs>(
 }
 
 /// Puts the places right. Refused 1 where memory is wanting.
-fn refresh_places(stirring: &mut Stirring, contacts: &mut SplitContacts) -> Result<(), Refusal>
-    requires { AreHeld stirring.old contacts.old.long }
-    ensures held { AreHeld stirring.new contacts.new.long }
-    ensures contacts { contacts.new ≡ contacts.old }
+fn refresh_places(
+    stirring: &mut Stirring,
+    contacts: &SplitContacts,
+    numbers: &NumberBook,
+) -> Result<(), Refusal>
+    requires held { AreHeld stirring.old contacts.now }
+    requires book { IsBook numbers.now }
+    requires numbered { AreNumbered (contacts_in contacts.now) numbers.now.contacts.items }
+    ensures held { AreHeld stirring.new contacts.now }
     ensures flags { stirring.new.flags.items ≡ stirring.old.flags.items }
-    ensures places { OnOk result (stirring.new.places.items ≡ stirring_places stirring.new.flags.items contacts.new.long) }
+    ensures places { OnOk result (AreStirring stirring.new.flags.items contacts.now stirring.new.places.items) }
     ensures memory_only { IsOkUnless result Refusal.NoMemory }
 {
     if stirring.holds {
@@ -324,6 +386,7 @@ fn refresh_places(stirring: &mut Stirring, contacts: &mut SplitContacts) -> Resu
         &stirring.flags,
         &stirring.flagged,
         contacts,
+        numbers,
     )?;
     stirring.holds = true;
     Ok(())
@@ -335,18 +398,20 @@ fn refresh_places(stirring: &mut Stirring, contacts: &mut SplitContacts) -> Resu
 pub(crate) fn refresh<S: ShapesById, F: ForbiddenPairs>(
     stirring: &mut Stirring,
     collide: &Collide<'_, S, F>,
-    contacts: &mut SplitContacts,
+    contacts: &SplitContacts,
+    numbers: &NumberBook,
 ) -> Result<(), Refusal>
     requires listed { AreListed collide.now.marks.now collide.now.marked.now }
-    requires held { AreHeld stirring.old contacts.old.long }
-    ensures held { AreHeld stirring.new contacts.new.long }
-    ensures contacts { contacts.new ≡ contacts.old }
-    ensures places { OnOk result (stirring.new.places.items ≡ stirring_places stirring.new.flags.items contacts.new.long) }
+    requires held { AreHeld stirring.old contacts.now }
+    requires book { IsBook numbers.now }
+    requires numbered { AreNumbered (contacts_in contacts.now) numbers.now.contacts.items }
+    ensures held { AreHeld stirring.new contacts.now }
+    ensures places { OnOk result (AreStirring stirring.new.flags.items contacts.now stirring.new.places.items) }
     ensures quiet { OnOk result (AreQuiet stirring.new.flags.items collide.now.marks.now (S.proxies collide.now.shapes.now)) }
     ensures memory_only { IsOkUnless result Refusal.NoMemory }
 {
     refresh_flags(stirring, collide)?;
-    refresh_places(stirring, contacts)
+    refresh_places(stirring, contacts, numbers)
 }
 
 /// What becomes of a contact: one of which no body may stir stays as it is.

@@ -7,7 +7,7 @@ ghost use Rattle.contacts_base.specs.Proxies.{IsProxyList};
 ghost use Rattle.contacts_base.specs.Split.{counting, counting_at};
 ghost use Rattle.contacts.specs.Known.{IsPairKey};
 ghost use Rattle.contacts.specs.Looked.{IsLookedOver, IsFate, begun_of, ended_of, ending};
-ghost use Rattle.contacts.specs.Stirring.{AreQuiet, stirring_places};
+ghost use Rattle.contacts.specs.Stirring.{AreQuiet, AreStirring};
 ghost use Rattle.contacts.specs.Fates.{moved_by, noted};
 
 use crate::changes::push_key;
@@ -63,7 +63,7 @@ pub(crate) fn look_over<S: ShapesById, F: ForbiddenPairs>(
     requires shapes { IsProxyList (S.proxies collide.now.shapes.now) }
     requires flags { length old.now.over ≡ length old.now.long }
     requires keys { All (λ e. IsPairKey e.key) (counting old.now.over old.now.long) }
-    requires places { stirring.now.places.items ≡ stirring_places stirring.now.flags.items old.now.long }
+    requires places { AreStirring stirring.now.flags.items old.now stirring.now.places.items }
     requires quiet { AreQuiet stirring.now.flags.items collide.now.marks.now (S.proxies collide.now.shapes.now) }
     ensures looked { IfOk result (λ touches. IsLookedOver (moved_by collide.now.marks.now) (F.pairs collide.now.forbidden.now) (S.proxies collide.now.shapes.now) old.now notes.new.items ends.new.items touches.begin.items touches.end.items) }
     ensures memory_only { IsOkUnless result Refusal.NoMemory }

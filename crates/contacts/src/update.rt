@@ -1,25 +1,26 @@
 //! The contacts after a collide, from what is known of the near pairs: only fresh pairs are looked for, and of the long list of contacts those alone
 //! of which a body may stir. Contacts that come go into the short list, which is made anew.
 
-ghost use Rattle.std.specs.Prelude.{◌≡◌, All, IfOk, OnOk, false, true};
+ghost use Rattle.std.specs.Prelude.{◌≡◌, All, IfOk, None, OnOk, false, option_map, true};
 ghost use Rattle.std.specs.Result.{IsOkUnless};
 ghost use Rattle.contacts_base.specs.Contacts.{AreKeysRising};
 ghost use Rattle.contacts_base.specs.ContactLists.{AreContacts};
 ghost use Rattle.contacts_base.specs.Keys.{key_number};
 ghost use Rattle.contacts_base.specs.Merge.{AreAscending, merged};
 ghost use Rattle.contacts_base.specs.Proxies.{IsProxyList};
-ghost use Rattle.contacts_base.specs.Split.{contacts_in};
+ghost use Rattle.contacts_base.specs.Split.{contacts_in, counting};
 ghost use Rattle.contacts.specs.ByCodes.{contacts_of};
 ghost use Rattle.contacts.specs.ChangedKeys.{AreRising};
 ghost use Rattle.contacts.specs.PendingUpdates.{IsPendingUpdate, pending_contacts};
 ghost use Rattle.contacts.specs.Known.{IsKnown, IsPairKey, fresh as fresh_codes};
-ghost use Rattle.contacts.specs.Looked.{IsRebuiltIf};
-ghost use Rattle.contacts.specs.Stirring.{AreQuiet, one_flagged, stirring_places};
-ghost use Rattle.contacts.specs.Fates.{IsMade, moved_by};
+ghost use Rattle.contacts.specs.Looked.{AreGoneIf, IsDone, IsRebuiltIf, keys_at};
+ghost use Rattle.contacts.specs.Stirring.{AreQuiet, AreStirring, one_flagged};
+ghost use Rattle.contacts.specs.Fates.{IsMade, gone_keys, moved_by};
 
 use crate::collide::Collide;
 use crate::fates::ShapesById;
 use crate::forbidden::ForbiddenPairs;
+use crate::noting::{note_ended, note_fresh, note_touches};
 use crate::pending_update::{PendingUpdate, Touches};
 use crate::rebuild::{Rebuilt, rebuild};
 use crate::stirring::{Stirring, is_one_flagged};
@@ -54,6 +55,7 @@ fn rebuild_if<S: ShapesById, F: ForbiddenPairs>(
     requires quiet { AreQuiet flags.now collide.now.marks.now (S.proxies collide.now.shapes.now) }
     requires fresh { AreKeysRising fresh.now }
     ensures rebuilt { IfOk result (λ rebuilt. IsRebuiltIf (moved_by collide.now.marks.now) (F.pairs collide.now.forbidden.now) (S.proxies collide.now.shapes.now) short.now fresh.now rebuilt) }
+    ensures gone { IfOk result (λ rebuilt. AreGoneIf (moved_by collide.now.marks.now) (F.pairs collide.now.forbidden.now) (S.proxies collide.now.shapes.now) short.now rebuilt) }
     ensures memory_only { IsOkUnless result Refusal.NoMemory }
 {
     if fresh.is_empty() && !may_one_stir(flags, short) {
@@ -98,12 +100,9 @@ fn join_touches(alloc: Global, long: Touches, short: Touches) -> Result<Touches,
     Ok(Touches { begin, end })
 }
 
-/// What a collide makes of the contacts `old`, of which it is known that a near pair of shapes that haven't moved has one: `fresh` are the
-/// contacts of the near pairs that have none yet.
-/// Answers which begin to touch and which end. Refused 1 where memory is wanting: what is pending then has to be cleared.
-///
-/// A contact goes if one of its shapes has moved and they are no longer near. Of those that stay the ones are evaluated anew of which a body stirs.
-pub(crate) fn update_known<S: ShapesById, F: ForbiddenPairs>(
+/// What a collide makes of both lists, and the keys of those of the short one that go. Answers which contacts begin to touch and which end. Refused 1 where
+/// memory is wanting: what is pending then has to be cleared.
+fn update_lists<S: ShapesById, F: ForbiddenPairs>(
     alloc: Global,
     pending: &mut PendingUpdate,
     collide: &Collide<'_, S, F>,
@@ -113,18 +112,19 @@ pub(crate) fn update_known<S: ShapesById, F: ForbiddenPairs>(
 ) -> Result<Touches, Refusal>
     requires shapes { IsProxyList (S.proxies collide.now.shapes.now) }
     requires known { IsKnown (moved_by collide.now.marks.now) (F.pairs collide.now.forbidden.now) (S.proxies collide.now.shapes.now) (contacts_in old.now) }
-    requires places { stirring.now.places.items ≡ stirring_places stirring.now.flags.items old.now.long }
+    requires places { AreStirring stirring.now.flags.items old.now stirring.now.places.items }
     requires quiet { AreQuiet stirring.now.flags.items collide.now.marks.now (S.proxies collide.now.shapes.now) }
     requires fresh { fresh.now ≡ contacts_of (contacts_in old.now) (S.proxies collide.now.shapes.now) (fresh_codes (moved_by collide.now.marks.now) (F.pairs collide.now.forbidden.now) (S.proxies collide.now.shapes.now) (contacts_in old.now)) }
-    ensures pending { OnOk result (IsPendingUpdate pending.new old.now) }
-    ensures made { IfOk result (λ touches. IsMade (F.pairs collide.now.forbidden.now) (S.proxies collide.now.shapes.now) (contacts_in old.now) (pending_contacts pending.new old.now) touches.begin.items touches.end.items) }
-    ensures begin_rising { IfOk result (λ touches. AreRising touches.begin.items) }
-    ensures end_rising { IfOk result (λ touches. AreRising touches.end.items) }
-    ensures memory_only { IsOkUnless result Refusal.NoMemory }
+    ensures done { IfOk result (λ touches. IsDone (F.pairs collide.now.forbidden.now) (S.proxies collide.now.shapes.now) old.now pending.new.notes.items pending.new.ends.items (option_map (λ es. es.items) pending.new.short) touches.begin.items touches.end.items) }
+    ensures gone { OnOk result (pending.new.gone.items ≡ gone_keys (moved_by collide.now.marks.now) (F.pairs collide.now.forbidden.now) (S.proxies collide.now.shapes.now) old.now.short) }
+    ensures ended { OnOk result (keys_at old.now.long pending.new.ends.items ≡ gone_keys (moved_by collide.now.marks.now) (F.pairs collide.now.forbidden.now) (S.proxies collide.now.shapes.now) (counting old.now.over old.now.long)) }
+    ensures whole { pending.new.whole ≡ None }
     ensures any { pending.new.any ≡ true }
+    ensures memory_only { IsOkUnless result Refusal.NoMemory }
 {
     pending.short = None;
     pending.whole = None;
+    pending.gone.clear();
     pending.any = true;
     old.know_ascending();
     let touches = look_over(
@@ -140,7 +140,41 @@ pub(crate) fn update_known<S: ShapesById, F: ForbiddenPairs>(
         None => Ok(touches),
         Some(rebuilt) => {
             pending.short = Some(rebuilt.all);
+            pending.gone = rebuilt.gone;
             join_touches(alloc, touches, rebuilt.touches)
         }
     }
+}
+
+/// What a collide makes of the contacts `old`, of which it is known that a near pair of shapes that haven't moved has one: `fresh` are the
+/// contacts of the near pairs that have none yet.
+/// Answers which begin to touch and which end. Refused 1 where memory is wanting: what is pending then has to be cleared.
+///
+/// A contact goes if one of its shapes has moved and they are no longer near. Of those that stay the ones are evaluated anew of which a body stirs.
+pub(crate) fn update_known<S: ShapesById, F: ForbiddenPairs>(
+    alloc: Global,
+    pending: &mut PendingUpdate,
+    collide: &Collide<'_, S, F>,
+    old: &SplitContacts,
+    stirring: &Stirring,
+    fresh: &[ContactEntry],
+) -> Result<Touches, Refusal>
+    requires shapes { IsProxyList (S.proxies collide.now.shapes.now) }
+    requires known { IsKnown (moved_by collide.now.marks.now) (F.pairs collide.now.forbidden.now) (S.proxies collide.now.shapes.now) (contacts_in old.now) }
+    requires places { AreStirring stirring.now.flags.items old.now stirring.now.places.items }
+    requires quiet { AreQuiet stirring.now.flags.items collide.now.marks.now (S.proxies collide.now.shapes.now) }
+    requires fresh { fresh.now ≡ contacts_of (contacts_in old.now) (S.proxies collide.now.shapes.now) (fresh_codes (moved_by collide.now.marks.now) (F.pairs collide.now.forbidden.now) (S.proxies collide.now.shapes.now) (contacts_in old.now)) }
+    ensures pending { OnOk result (IsPendingUpdate pending.new old.now) }
+    ensures made { IfOk result (λ touches. IsMade (F.pairs collide.now.forbidden.now) (S.proxies collide.now.shapes.now) (contacts_in old.now) (pending_contacts pending.new old.now) touches.begin.items touches.end.items) }
+    ensures begin_rising { IfOk result (λ touches. AreRising touches.begin.items) }
+    ensures end_rising { IfOk result (λ touches. AreRising touches.end.items) }
+    ensures memory_only { IsOkUnless result Refusal.NoMemory }
+    ensures any { pending.new.any ≡ true }
+{
+    old.know_ascending();
+    let touches = update_lists(alloc, pending, collide, old, stirring, fresh)?;
+    note_ended(&mut pending.gone, old.long(), &pending.ends)?;
+    note_fresh(&mut pending.made, fresh)?;
+    note_touches(pending, &touches)?;
+    Ok(touches)
 }

@@ -27,6 +27,12 @@ rise_from_pairs (e ∷ es) pairs k lt =
 pub keys_rise-filter : (p : ContactEntry → Bool) (es : List ContactEntry) → AreKeysRising es → AreKeysRising (filter p es)
 keys_rise-filter p es h = rise_from_pairs (filter p es) (AllPairs-filter Rises p es (λ i j d lt within. keys_later es h i j d lt within))
 
+pub contacts_left : (p : ContactEntry → Bool) (es : List ContactEntry) → AreContacts es → AreContacts (filter p es)
+contacts_left p es are = record {
+  rising = keys_rise-filter p es are.rising;
+  surfaces = All-filter p (λ e. IsSurface e.surface) es are.surfaces;
+}
+
 pub contacts_kept : (slot : ℕ) (es : List ContactEntry) → AreContacts es → AreContacts (contacts_without slot es)
 contacts_kept slot es are = record {
   rising = keys_rise-filter (λ e. not (has_slot slot e)) es are.rising;

@@ -1,10 +1,10 @@
 -- Those contacts of a list that count: by place those whose flag isn't set.
-use Rattle.std.proofs.Common.{◌≡◌, ℕ, zero, suc, ◌+◌, ◌<◌, ◌==◌, ◌||◌, Bool, true, false, cond, not, List, [], ◌∷◌, ◌++◌, length, get_or, drop, map, Option, Some, None, add-one, arith, refl, sym, ap, ◌∙◌, subst, inl, inr}
+use Rattle.std.proofs.Common.{◌≡◌, ℕ, zero, suc, ◌+◌, ◌<◌, ◌==◌, ◌||◌, Bool, true, false, cond, not, List, [], ◌∷◌, ◌++◌, length, get_or, drop, map, Option, Some, None, add-one, arith, refl, sym, ap, ◌∙◌, subst, inl, inr, true≢false}
 use Rattle.std.specs.Prelude.{filter, slice_get, slice_set}
 use Rattle.std.specs.List.{All}
 use Rattle.std.specs.Option.{is_some, option_map}
 use Rattle.std.proofs.lemmas.Bool.{cases_eq, cases_lt}
-use Rattle.std.proofs.lemmas.List.{get_or_default, length-set}
+use Rattle.std.proofs.lemmas.List.{get_or_default, get_or-set_other, get_or-set_same, length-set}
 use Rattle.std.proofs.lemmas.List.Elements.{All-cons, All-head, All-tail, All-map, All-weaker}
 use Rattle.std.proofs.lemmas.List.Kept.{AllPairs-cons}
 use Rattle.contacts_base.specs.declared.key.ContactKey.{ContactKey}
@@ -14,11 +14,10 @@ use Rattle.contacts_base.specs.declared.evaluation.Impulses.{Impulses}
 use Rattle.contacts_base.specs.declared.split.Renewal.{Renewal}
 use Rattle.contacts_base.specs.Keys.{key_number}
 use Rattle.contacts_base.specs.Surfaces.{IsSurface}
-use Rattle.contacts_base.specs.Contacts.{AreKeysRising, contacts_without, lookup, number_of}
-use Rattle.contacts_base.specs.ContactLists.{AreContacts, IsFirstFrom, contact_set, impulses_given, with_points}
+use Rattle.contacts_base.specs.Contacts.{AreKeysRising, lookup, number_of}
+use Rattle.contacts_base.specs.ContactLists.{AreContacts, IsFirstFrom, contact_set, impulses_given, keys_of, with_points}
 use Rattle.contacts_base.specs.Merge.{AreAscending, below_of, beyond_of, merged}
-use Rattle.contacts_base.specs.Split.{counting, is_first, is_over, is_second, over_at, places_from, places_of, renewed}
-use Rattle.contacts_base.specs.ByBody.{keys_of}
+use Rattle.contacts_base.specs.Split.{counting, is_over, over_at, renewed}
 use Rattle.contacts_base.proofs.ContactsLemmas.{contacts_put}
 use Rattle.contacts_base.proofs.LookupLemmas.{keys_later, lookup-at, lookup-beyond, lookup-here, lookup-later, lookup-missed, lookup-none}
 use Rattle.contacts_base.proofs.MergeLaws.{ascends_drop, drop_next, merged_more, tail_ascends}
@@ -144,61 +143,48 @@ map_counting f (o ∷ over) (e ∷ es) = by_flag f o e (counting over es) ∙ ap
     by_flag f true e es = refl
     by_flag f false e es = refl
 
--- ---- the contacts of a body that are flagged
-
-over_later : (test : ContactEntry → Bool) (n : ℕ) (o : Bool) (over : List Bool) (es : List ContactEntry) → over_at (places_from test (suc n) es) (o ∷ over) ≡ o ∷ over_at (places_from test n es) over
-over_later test n o over [] = refl
-over_later test n o over (e ∷ es) = by_test test n o over es (test e) (over_later test (suc n) o (slice_set over n true) es) (over_later test (suc n) o over es)
-  where
-    by_test : (test : ContactEntry → Bool) (n : ℕ) (o : Bool) (over : List Bool) (es : List ContactEntry) (t : Bool) → over_at (places_from test (suc (suc n)) es) (o ∷ slice_set over n true) ≡ o ∷ over_at (places_from test (suc n) es) (slice_set over n true)
-        → over_at (places_from test (suc (suc n)) es) (o ∷ over) ≡ o ∷ over_at (places_from test (suc n) es) over
-        → over_at (cond t (suc n ∷ places_from test (suc (suc n)) es) (places_from test (suc (suc n)) es)) (o ∷ over) ≡ o ∷ over_at (cond t (n ∷ places_from test (suc n) es) (places_from test (suc n) es)) over
-    by_test test n o over es true h k = h
-    by_test test n o over es false h k = k
-
--- those of the list that pass a test are over
-pub counting_flagged : (test : ContactEntry → Bool) (over : List Bool) (es : List ContactEntry) → length over ≡ length es → counting (over_at (places_from test 0 es) over) es ≡ filter (λ e. not (test e)) (counting over es)
-counting_flagged test over [] same = refl
-counting_flagged test [] (e ∷ es) same = absurd (omega (arith, same))
-counting_flagged test (o ∷ over) (e ∷ es) same = by_test test o over e es (test e) refl (counting_flagged test over es (omega (arith, same)))
-  where
-    by_flag : (test : ContactEntry → Bool) (o t : Bool) (e : ContactEntry) (es : List ContactEntry) → test e ≡ t → cond (cond t true o) (filter (λ e. not (test e)) es) (e ∷ filter (λ e. not (test e)) es) ≡ filter (λ e. not (test e)) (cond o es (e ∷ es))
-    by_flag test true true e es is = refl
-    by_flag test true false e es is = refl
-    by_flag test false true e es is = rw is refl
-    by_flag test false false e es is = rw is refl
-
-    by_test : (test : ContactEntry → Bool) (o : Bool) (over : List Bool) (e : ContactEntry) (es : List ContactEntry) (t : Bool) → test e ≡ t → counting (over_at (places_from test 0 es) over) es ≡ filter (λ e. not (test e)) (counting over es)
-        → counting (over_at (cond t (0 ∷ places_from test 1 es) (places_from test 1 es)) (o ∷ over)) (e ∷ es) ≡ filter (λ e. not (test e)) (cond o (counting over es) (e ∷ counting over es))
-    by_test test o over e es true is h =
-        ap (λ (flags : List Bool). counting flags (e ∷ es)) (over_later test 0 true over es) ∙ h ∙ by_flag test o true e (counting over es) is
-    by_test test o over e es false is h =
-        ap (λ (flags : List Bool). counting flags (e ∷ es)) (over_later test 0 o over es) ∙ ap (λ (l : List ContactEntry). cond o l (e ∷ l)) h ∙ by_flag test o false e (counting over es) is
+-- ---- contacts that are over
 
 pub length-over_at : (places : List ℕ) (over : List Bool) → length (over_at places over) ≡ length over
 length-over_at [] over = refl
 length-over_at (p ∷ places) over = length-over_at places (slice_set over p true) ∙ length-set over p true
 
-pub over_at-append : (ps qs : List ℕ) (over : List Bool) → over_at (ps ++ qs) over ≡ over_at qs (over_at ps over)
-over_at-append [] qs over = refl
-over_at-append (p ∷ ps) qs over = over_at-append ps qs (slice_set over p true)
+-- a place whose flag is set is one of them
+flag_within : (over : List Bool) (p : ℕ) → is_over over p ≡ true → p < length over
+flag_within [] p is = absurd (true≢false (sym is))
+flag_within (o ∷ over) zero is = omega arith
+flag_within (o ∷ over) (suc p) is = let lt : p < length over = flag_within over p is in omega (arith, lt)
 
-filter_twice : (slot : ℕ) (es : List ContactEntry) → filter (λ e. not (is_second slot e)) (filter (λ e. not (is_first slot e)) es) ≡ contacts_without slot es
-filter_twice slot [] = refl
-filter_twice slot (e ∷ es) = by_tests slot e (is_first slot e) (is_second slot e) (filter (λ e. not (is_first slot e)) es) (contacts_without slot es) refl (filter_twice slot es)
+-- what is over stays so
+pub set_stays : (over : List Bool) (q p : ℕ) → is_over over p ≡ true → is_over (slice_set over q true) p ≡ true
+set_stays over q p is = elim (cases_eq p q) [
+  | inl same ↦ ap (λ (k : ℕ). is_over (slice_set over q true) k) same ∙ get_or-set_same over q true false (let lt : p < length over = flag_within over p is in omega (arith, lt, same))
+  | inr off ↦ get_or-set_other over q p true false off ∙ is
+]
+
+-- setting a flag that is set, or that isn't there, changes none
+pub set_again : (over : List Bool) (p : ℕ) → (p < length over → is_over over p ≡ true) → slice_set over p true ≡ over
+set_again [] p is = refl
+set_again (o ∷ over) zero is = let on : o ≡ true = is (omega arith) in ap (λ (t : Bool). t ∷ over) (sym on)
+set_again (o ∷ over) (suc p) is = ap (λ (l : List Bool). o ∷ l) (set_again over p (λ lt. is (omega (arith, lt))))
+
+-- those that pass a test are over
+pub counting_by : (test : ContactEntry → Bool) (over later : List Bool) (es : List ContactEntry) → length over ≡ length es → length later ≡ length es → ((p : ℕ) → is_over over p ≡ true → is_over later p ≡ true)
+    → ((p : ℕ) (e : ContactEntry) → slice_get es p ≡ Some e → is_over over p ≡ false → is_over later p ≡ test e) → counting later es ≡ filter (λ e. not (test e)) (counting over es)
+counting_by test over later [] same also stays now = refl
+counting_by test [] later (e ∷ es) same also stays now = absurd (omega (arith, same))
+counting_by test (o ∷ over) [] (e ∷ es) same also stays now = absurd (omega (arith, also))
+counting_by test (o ∷ over) (l ∷ later) (e ∷ es) same also stays now =
+    by_flags test o l e (counting later es) (counting over es) (stays 0) (now 0 e refl)
+    (counting_by test over later es (omega (arith, same)) (omega (arith, also)) (λ p is. stays (suc p) is) (λ p f at is. now (suc p) f at is))
   where
-    by_tests : (slot : ℕ) (e : ContactEntry) (a b : Bool) (es fs : List ContactEntry) → is_second slot e ≡ b → filter (λ e. not (is_second slot e)) es ≡ fs → filter (λ e. not (is_second slot e)) (cond (not a) (e ∷ es) es) ≡ cond (not (a || b)) (e ∷ fs) fs
-    by_tests slot e true b es fs is h = h
-    by_tests slot e false true es fs is h = rw is h
-    by_tests slot e false false es fs is h = rw is (ap (λ (l : List ContactEntry). e ∷ l) h)
+    by_test : (e : ContactEntry) (t : Bool) (es fs : List ContactEntry) → es ≡ fs → cond t es (e ∷ es) ≡ cond (not t) (e ∷ fs) fs
+    by_test e true es fs h = h
+    by_test e false es fs h = ap (λ (l : List ContactEntry). e ∷ l) h
 
-pub counting_dropped : (slot : ℕ) (over : List Bool) (es : List ContactEntry) → length over ≡ length es → counting (over_at (places_of slot es) over) es ≡ contacts_without slot (counting over es)
-counting_dropped slot over es same =
-    let firsts : List ℕ = places_from (is_first slot) 0 es in
-    ap (λ (flags : List Bool). counting flags es) (over_at-append firsts (places_from (is_second slot) 0 es) over)
-    ∙ counting_flagged (is_second slot) (over_at firsts over) es (length-over_at firsts over ∙ same)
-    ∙ ap (filter (λ e. not (is_second slot e))) (counting_flagged (is_first slot) over es same)
-    ∙ filter_twice slot (counting over es)
+    by_flags : (test : ContactEntry → Bool) (o l : Bool) (e : ContactEntry) (es fs : List ContactEntry) → (o ≡ true → l ≡ true) → (o ≡ false → l ≡ test e) → es ≡ filter (λ f. not (test f)) fs → cond l es (e ∷ es) ≡ filter (λ f. not (test f)) (cond o fs (e ∷ fs))
+    by_flags test true l e es fs stays now h = ap (λ (b : Bool). cond b es (e ∷ es)) (stays refl) ∙ h
+    by_flags test false l e es fs stays now h = ap (λ (b : Bool). cond b es (e ∷ es)) (now refl) ∙ by_test e (test e) es (filter (λ f. not (test f)) fs) h
 
 -- ---- impulses that the contact with a key is given
 

@@ -7,4 +7,3 @@ pub mod MergeLaws
 pub mod MergedLaws
 pub mod CountingLaws
 pub mod SplitLaws
-mod BodyLaws

@@ -10,6 +10,9 @@ use Rattle.contacts_base.specs.Keys.{key_number}
 use Rattle.contacts_base.specs.Surfaces.{IsSurface}
 use Rattle.contacts_base.specs.Contacts.{number_of, AreKeysRising}
 
+abbrev pub keys_of : List ContactEntry → List ContactKey
+keys_of es = map (λ e. e.key) es
+
 -- what is kept of the contacts of near shapes
 pub record AreContacts (entries : List ContactEntry) : Type 0 where
   pub rising : AreKeysRising entries

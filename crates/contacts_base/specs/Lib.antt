@@ -11,6 +11,5 @@ pub mod PackedPoints
 pub mod Merge
 pub mod Split
 pub mod Flags
-pub mod ByBody
 pub mod IsSplit
 pub mod Orders

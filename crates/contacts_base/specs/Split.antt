@@ -1,8 +1,8 @@
 -- The contacts as a long list, which stands while contacts come and go, and a short one of those that have come since it was made.
-use Rattle.std.specs.Prelude.{ℕ, suc, ◌<◌, ◌==◌, ◌++◌, Bool, true, false, cond, List, [], ◌∷◌, Option, Some, None, slice_get, slice_index_or, slice_set, All}
+use Rattle.std.specs.Prelude.{ℕ, suc, Bool, true, false, cond, List, [], ◌∷◌, Option, Some, None, slice_get, slice_index_or, slice_set}
 use Rattle.contacts_base.specs.declared.contact.ContactEntry.{ContactEntry}
 use Rattle.contacts_base.specs.declared.split.Renewal.{Renewal}
-use Rattle.contacts_base.specs.Contacts.{number_of}
+use Rattle.contacts_base.specs.Contacts.{contacts_without, number_of}
 use Rattle.contacts_base.specs.ContactLists.{contact_set}
 use Rattle.contacts_base.specs.Merge.{merged}
 
@@ -42,23 +42,6 @@ abbrev pub places_from : (ContactEntry → Bool) → ℕ → List ContactEntry �
 places_from test n [] = []
 places_from test n (e ∷ es) = cond (test e) (n ∷ places_from test (suc n) es) (places_from test (suc n) es)
 
--- the contact's first body is in the slot
-abbrev pub is_first : ℕ → ContactEntry → Bool
-is_first slot e = e.key.first.slot == slot
-
--- its second body is
-abbrev pub is_second : ℕ → ContactEntry → Bool
-is_second slot e = e.key.second.slot == slot
-
--- the places of the contacts of the body in a slot: of those whose first body it is, and then of those whose second one it is
-abbrev pub places_of : ℕ → List ContactEntry → List ℕ
-places_of slot es = places_from (is_first slot) 0 es ++ places_from (is_second slot) 0 es
-
--- the bodies of all contacts are in slots below a number
-pub record AreSlotsBelow (count : ℕ) (es : List ContactEntry) : Type 0 where
-  pub first : All (λ e. e.key.first.slot < count) es
-  pub second : All (λ e. e.key.second.slot < count) es
-
 -- ---- what becomes of them
 
 -- the contacts with what was noted of them
@@ -79,3 +62,11 @@ or_kept (Some more) es = more
 -- what was noted of the long list is carried out: contacts at some places have new points, those at others are over, and the short list is another, if one is given
 abbrev pub carried : List Renewal → List ℕ → Option (List ContactEntry) → Split → Split
 carried notes ends short s = record { long = renewed notes s.long; over = over_at ends s.over; short = or_kept short s.short }
+
+-- the contact at a place of the long list is over
+abbrev pub ended_at : ℕ → Split → Split
+ended_at place s = record { long = s.long; over = slice_set s.over place true; short = s.short }
+
+-- the short list has no contacts of the body in a slot
+abbrev pub short_without : ℕ → Split → Split
+short_without slot s = record { long = s.long; over = s.over; short = contacts_without slot s.short }

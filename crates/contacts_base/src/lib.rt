@@ -3,7 +3,6 @@
 #![tactic(auto)]
 
 mod ascending;
-mod by_body;
 mod circles;
 mod contact;
 mod contacts;

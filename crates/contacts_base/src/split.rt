@@ -6,10 +6,9 @@ ghost use Rattle.std.specs.Result.{IsOkUnless};
 ghost use Rattle.contacts_base.specs.Contacts.{AreKeysRising, contacts_without, lookup, number_of};
 ghost use Rattle.contacts_base.specs.ContactLists.{AreContacts, impulses_given};
 ghost use Rattle.contacts_base.specs.Merge.{merged};
-ghost use Rattle.contacts_base.specs.Split.{AreSlotsBelow, carried, contacts_in, counting, counting_at, or_kept, places_of, renewed};
+ghost use Rattle.contacts_base.specs.Split.{carried, contacts_in, counting, counting_at, ended_at, or_kept, renewed, short_without};
 
 use crate::ascending::push_below;
-use crate::by_body::BodyIndex;
 use crate::contact::seek;
 use crate::contacts::{has_slot, put_contact, set_points};
 use crate::flags::CountedFlags;
@@ -43,8 +42,6 @@ pub struct SplitContacts {
     over: CountedFlags,
     // Ascending by key; none of them is one of the long list that counts.
     short: Vec<ContactEntry>,
-    // Of the long list.
-    index: BodyIndex,
     // Memory for the next long list: what an earlier one was, whatever is in it.
     spare: Vec<ContactEntry>,
 }
@@ -57,7 +54,7 @@ impl Model for SplitContacts {
 
     ghost view = { λ a. record { long = a.long.items; over = a.over; short = a.short.items } };
 
-    ghost invariant = { λ a. IsSplit (record { long = a.long.items; over = a.over; short = a.short.items }) a.index.is_made a.index.codes.items };
+    ghost invariant = { λ a. IsSplit (record { long = a.long.items; over = a.over; short = a.short.items }) };
 }
 
 /// The contact with this key. The search begins at the hint, which becomes where it ended.
@@ -194,7 +191,6 @@ impl SplitContacts {
             long: Vec::new(alloc),
             over: CountedFlags::new(alloc),
             short: Vec::new(alloc),
-            index: BodyIndex::new(alloc),
             spare: Vec::new(alloc),
         }
     }
@@ -211,7 +207,6 @@ impl SplitContacts {
             long: entries,
             over,
             short: Vec::new(alloc),
-            index: BodyIndex::new(alloc),
             spare: Vec::new(alloc),
         })
     }
@@ -290,6 +285,7 @@ impl SplitContacts {
     )
         ensures contacts { contacts_in self.new ≡ impulses_given key first second (contacts_in self.old) }
         ensures keys { map (λ e. e.key) self.new.long ≡ map (λ e. e.key) self.old.long }
+        ensures over { self.new.over ≡ self.old.over }
     {
         if !give_at(&mut self.long, &self.over, place, key, first, second) {
             self.set_found_impulses(key, first, second);
@@ -301,6 +297,7 @@ impl SplitContacts {
     fn set_found_impulses(&mut self, key: ContactKey, first: Impulses, second: Option<Impulses>)
         ensures contacts { contacts_in self.new ≡ impulses_given key first second (contacts_in self.old) }
         ensures keys { map (λ e. e.key) self.new.long ≡ map (λ e. e.key) self.old.long }
+        ensures over { self.new.over ≡ self.old.over }
     {
         give_by_key(&mut self.long, key, first, second);
         give_by_key(&mut self.short, key, first, second);
@@ -356,31 +353,6 @@ impl SplitContacts {
         self.spare = long;
     }
 
-    /// Makes the index of the long list by body, if it isn't made: `push_places_of` and `drop_of_body` then cost by the body's own contacts. Refused
-    /// 1 where memory is wanting. Changes no contact.
-    pub fn index_bodies(&mut self) -> Result<(), Refusal>
-        ensures value { self.new ≡ self.old }
-        ensures memory_only { IsOkUnless result Refusal.NoMemory }
-    {
-        self.index.make(&self.long)
-    }
-
-    /// Whether the bodies of all contacts of the long list are in slots below `count`. Where the index isn't made it isn't told.
-    pub fn are_slots_below(&self, count: usize) -> bool
-        ensures { IsTrue result → AreSlotsBelow count self.now.long }
-    {
-        self.index.are_slots_below(&self.long, count)
-    }
-
-    /// Adds the places in the long list of the contacts of the body in a slot: of those whose first body it is, and then of those whose second one it
-    /// is. Some may be over. Refused 1 where memory is wanting.
-    pub fn push_places_of(&self, places: &mut Vec<usize>, slot: u32) -> Result<(), Refusal>
-        ensures pushed { OnOk result (places.new.items ≡ places.old.items ++ places_of slot self.now.long) }
-        ensures memory_only { IsOkUnless result Refusal.NoMemory }
-    {
-        self.index.push_places(places, &self.long, slot)
-    }
-
     /// The contacts of the long list get the points that were noted of them, those at the places `ends` are over, and the short list becomes this
     /// one, if there is one. Takes no memory.
     pub fn carry_out(&mut self, notes: &[Renewal], ends: &[usize], short: Option<Vec<ContactEntry>>)
@@ -393,12 +365,18 @@ impl SplitContacts {
         replace(&mut self.short, short);
     }
 
-    /// Drops the contacts of the body in a slot: they are over, or leave the short list. Takes no memory.
-    pub fn drop_of_body(&mut self, slot: u32)
-        ensures contacts { contacts_in self.new ≡ contacts_without slot (contacts_in self.old) }
-        ensures long { self.new.long ≡ self.old.long }
+    /// The contact at a place of the long list, if one is there, is over. Takes no memory.
+    pub fn end_at(&mut self, place: usize)
+        ensures { self.new ≡ ended_at place self.old }
     {
-        self.index.flag_places(&mut self.over, &self.long, slot);
+        self.over.set(place);
+    }
+
+    /// Drops the contacts of the body in a slot that are in the short list. Takes no memory.
+    pub fn drop_short(&mut self, slot: u32)
+        requires { AreContacts (contacts_in (short_without slot self.old)) }
+        ensures { self.new ≡ short_without slot self.old }
+    {
         drop_in(&mut self.short, slot);
     }
 }

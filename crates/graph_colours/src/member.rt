@@ -52,7 +52,7 @@ pub(crate) fn with_number<C: Id>(members: &[Member<C>], wanted: u128) -> Option<
 }
 
 /// Adds a member, for which there is room.
-pub fn insert<C: Id>(members: &mut Vec<Member<C>>, member: Member<C>)
+pub(crate) fn insert<C: Id>(members: &mut Vec<Member<C>>, member: Member<C>)
     requires rising { AreRising C.number members.old.items }
     requires room { vec_len members.old < vec_capacity members.old }
     ensures items { members.new.items ≡ inserted C.number member members.old.items }
@@ -64,7 +64,7 @@ pub fn insert<C: Id>(members: &mut Vec<Member<C>>, member: Member<C>)
 }
 
 /// Takes out the member that has the id, and answers its movers.
-pub fn remove<C: Id>(members: &mut Vec<Member<C>>, id: C) -> Option<Movers>
+pub(crate) fn remove<C: Id>(members: &mut Vec<Member<C>>, id: C) -> Option<Movers>
     requires { AreRising C.number members.old.items }
     ensures value { result ≡ movers_of C.number id members.old.items }
     ensures items { members.new.items ≡ without_member C.number id members.old.items }

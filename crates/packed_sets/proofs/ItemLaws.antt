@@ -32,11 +32,11 @@ in_cases x xs y h = elim (cases_eq y x) [
 
 -- ---- the same items, each once
 
-record IsLeftOut (x : ℕ) (rest : List ℕ) : Type 0 where
-  once : AreOnce rest
-  absent : Contains rest x → ⊥
+pub record IsLeftOut (x : ℕ) (rest : List ℕ) : Type 0 where
+  pub once : AreOnce rest
+  pub absent : Contains rest x → ⊥
 
-left_out : (x : ℕ) (front back : List ℕ) → AreOnce (front ++ x ∷ back) → IsLeftOut x (front ++ back)
+pub left_out : (x : ℕ) (front back : List ℕ) → AreOnce (front ++ x ∷ back) → IsLeftOut x (front ++ back)
 left_out x [] back h = record { once = h.1; absent = h.0 }
 left_out x (f ∷ front) back h =
     let rest : IsLeftOut x (front ++ back) = left_out x front back h.1 in
@@ -51,12 +51,12 @@ left_out x (f ∷ front) back h =
     }
 
 -- a list with an item in it, split there
-record IsSplitAt (x : ℕ) (xs : List ℕ) : Type 0 where
-  front : List ℕ
-  back : List ℕ
-  is : xs ≡ front ++ x ∷ back
+pub record IsSplitAt (x : ℕ) (xs : List ℕ) : Type 0 where
+  pub front : List ℕ
+  pub back : List ℕ
+  pub is : xs ≡ front ++ x ∷ back
 
-split_at : (x : ℕ) (xs : List ℕ) → Contains xs x → IsSplitAt x xs
+pub split_at : (x : ℕ) (xs : List ℕ) → Contains xs x → IsSplitAt x xs
 split_at x [] h = absurd (none_in x h)
 split_at x (y ∷ ys) h = elim (cases_eq x y) [
   | inl same ↦ record { front = []; back = ys; is = ap (λ (z : ℕ). z ∷ ys) (sym same) }

@@ -12,3 +12,6 @@ pub mod ItemLaws
 pub mod StandLaws
 pub mod ThreadLaws
 pub mod SetListLaws
+pub mod LinkLaws
+pub mod SleeperLaws
+pub mod WalkLaws

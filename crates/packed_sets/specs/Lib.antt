@@ -3,3 +3,4 @@ pub mod Notes
 pub mod Marks
 pub mod Stands
 pub mod Threads
+pub mod Linked

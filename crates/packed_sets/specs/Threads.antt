@@ -1,5 +1,5 @@
 -- How the solver sets of one kind of item are kept: lists with the place of each item, and threads.
-use Rattle.std.specs.Prelude.{◌≡◌, ◌<◌, ◌≤◌, ℕ, List, [], ◌∷◌, length, Option, Some, None, Contains, slice_set}
+use Rattle.std.specs.Prelude.{◌≡◌, ◌<◌, ◌≤◌, ℕ, zero, suc, cond, nat_lt, List, [], ◌∷◌, length, map, Option, Some, None, Contains, slice_set}
 use Rattle.std.specs.List.{slice_index_or}
 use Rattle.packed_sets.specs.declared.spots.Spot.{Spot}
 use Rattle.packed_sets.specs.declared.stands.Stand.{Stand}
@@ -38,6 +38,15 @@ pub record AreListed (lists : List (List ℕ)) (capacities : List ℕ) (stands :
 abbrev pub IsThread : List ℕ → ℕ → List ℕ → Type 0
 IsThread places at [] = at ≡ NO_ITEM
 IsThread places at (id ∷ ids) = (at ≡ id) × IsThread places (place_at places id) ids
+
+-- the items from one on, one after the other, at most so many
+abbrev pub thread_from : ℕ → List ℕ → ℕ → List ℕ
+thread_from zero places at = []
+thread_from (suc n) places at = cond (nat_lt at (length places)) (at ∷ thread_from n places (place_at places at)) []
+
+-- by name the items of each sleeping set
+abbrev pub threads_of : List ℕ → List ℕ → List (List ℕ)
+threads_of places heads = map (thread_from (length places) places) heads
 
 -- a thread from this item on has all items of a sleeping set, each once, and no other
 pub record IsStrung (stands : List (Option Stand)) (places : List ℕ) (name at : ℕ) : Type 0 where

@@ -26,6 +26,11 @@
 //! set takes items and is emptied as a whole by [`SolverSets::wake`]: no item is taken out of it alone, since whatever changes a sleeping
 //! set wakes it first. Each list has room for all items that there are, so that only [`SolverSets::reserve`] and a copy take memory.
 //!
+//! # Linked sets
+//!
+//! [`LinkedSets`] are sets into which ids come, and out of which they go, in constant time and in any order. No set needs room of its own. A set is a
+//! thread: each id tells the one before it and the one behind it.
+//!
 //! # Marks
 //!
 //! [`Marks`] are one set of slots: a flag for each, and a list of those that are marked.
@@ -33,6 +38,7 @@
 
 mod copying;
 mod ids;
+mod linked_sets;
 mod marks;
 mod packing;
 mod set_items;
@@ -45,6 +51,7 @@ mod spots;
 mod stands;
 
 pub use ids::Id;
+pub use linked_sets::LinkedSets;
 pub use marks::{MAX_MARKS, Marks, limits_in_digits};
 pub use set_items::items_stand_there;
 pub use sets::{MAX_SETS, PackedSets};

@@ -2,12 +2,12 @@
 
 ghost use Rattle.std.specs.Prelude.{◌≡◌, ◌+◌, ◌-◌, ◌<◌, ◌≤◌, ◌++◌, ℕ, IfOk, OnOk, length, map, replicate, vec_capacity};
 ghost use Rattle.std.specs.Result.{IsOkUnless};
-ghost use Rattle.packed_sets.specs.declared.stands.TheConstants.{LISTS};
+ghost use Rattle.packed_sets.specs.declared.stands.TheConstants.{LISTS, NO_ITEM};
 ghost use Rattle.packed_sets.specs.Packs.{list_at, capacity_at, HaveAtLeast};
 
 use crate::copying::copies;
 use crate::packing::{push_lists, reserve_list};
-use crate::stands::{LISTS, Stand};
+use crate::stands::{LISTS, NO_ITEM, Stand};
 use fixed_geom::Refusal;
 use std::alloc::Global;
 
@@ -61,15 +61,15 @@ pub(crate) fn reserve_lists(lists: &mut Vec<Vec<u32>>, items: usize) -> Result<(
     Ok(())
 }
 
-/// Makes room for so many items and names. Refused 1 where memory is wanting.
+/// Makes room for so many items, if there are fewer. Refused 1 where memory is wanting.
 pub(crate) fn reserve_all(
     lists: &mut Vec<Vec<u32>>,
     stands: &mut Vec<Option<Stand>>,
     places: &mut Vec<u32>,
-    heads: &mut Vec<u32>,
     items: usize,
-    names: usize,
 ) -> Result<(), Refusal>
+    requires long { length places.old.items ≡ length stands.old.items }
+    requires room { (set : ℕ) → set < LISTS → length stands.old.items ≤ capacity_at (map vec_capacity lists.old.items) set }
     ensures made { OnOk result ((set : ℕ) → set < LISTS → items ≤ capacity_at (map vec_capacity lists.new.items) set) }
     ensures lists { (set : ℕ) → list_at (map (λ v. v.items) lists.new.items) set ≡ list_at (map (λ v. v.items) lists.old.items) set }
     ensures capacities { HaveAtLeast (map vec_capacity lists.old.items) (map vec_capacity lists.new.items) }
@@ -77,14 +77,38 @@ pub(crate) fn reserve_all(
     ensures stands_room { OnOk result (items ≤ vec_capacity stands.new) }
     ensures places { places.new.items ≡ places.old.items }
     ensures places_room { OnOk result (items ≤ vec_capacity places.new) }
-    ensures heads { heads.new.items ≡ heads.old.items }
-    ensures heads_room { OnOk result (names ≤ vec_capacity heads.new) }
     ensures memory_only { IsOkUnless result Refusal.NoMemory }
 {
+    if items <= stands.len() {
+        return Ok(());
+    }
     reserve_lists(lists, items)?;
     reserve_in_all(stands, items)?;
-    reserve_in_all(places, items)?;
+    reserve_in_all(places, items)
+}
+
+/// Makes room for so many names, if there are fewer. Refused 1 where memory is wanting.
+pub(crate) fn reserve_names(heads: &mut Vec<u32>, names: usize) -> Result<(), Refusal>
+    ensures made { OnOk result (names ≤ vec_capacity heads.new) }
+    ensures heads { heads.new.items ≡ heads.old.items }
+    ensures memory_only { IsOkUnless result Refusal.NoMemory }
+{
+    if names <= heads.len() {
+        return Ok(());
+    }
     reserve_in_all(heads, names)
+}
+
+/// Makes as many names as there is room for, if there are fewer than so many. So the next names take no call of memory and no pass.
+pub(crate) fn fill_names(heads: &mut Vec<u32>, names: usize)
+    requires { names ≤ vec_capacity heads.old }
+    ensures made { names ≤ length heads.new.items }
+    ensures heads { heads.new.items ≡ heads.old.items ++ replicate (length heads.new.items - length heads.old.items) NO_ITEM }
+{
+    if heads.len() < names {
+        let count = heads.capacity();
+        fill(heads, count, NO_ITEM);
+    }
 }
 
 /// A copy of each list, with room for so many items. Refused 1 where memory is wanting.

@@ -1,23 +1,42 @@
 //! The items of each sleeping set as a thread, whose head stands at the set's name.
 
-ghost use Rattle.std.specs.Prelude.{◌≡◌, ◌≢◌, ◌+◌, ◌<◌, ◌≤◌, None, Some, drop, length, map, slice_set, take, vec_capacity};
-ghost use Rattle.std.specs.List.Sorted.{IsPermutation};
+ghost use Rattle.std.specs.Prelude.{◌≡◌, ◌≢◌, ◌<◌, None, Some, cond, length, map, nat_lt, slice_set, vec_capacity};
 ghost use Rattle.packed_sets.specs.declared.stands.TheConstants.{NO_ITEM};
 ghost use Rattle.packed_sets.specs.declared.stands.Stand.TheVariants.{Sleeping as Asleep};
 ghost use Rattle.packed_sets.specs.Stands.{items_of, stand_at, woken};
-ghost use Rattle.packed_sets.specs.Threads.{AreHeld, AreSized, AreStrung, ListsStay, head_at};
+ghost use Rattle.packed_sets.specs.Threads.{AreHeld, AreSized, AreStrung, ListsStay, head_at, place_at};
 
-use crate::packing::push_reserved;
 use crate::set_lists::put_in_list;
 use crate::stands::{AWAKE, NO_ITEM, Stand};
 
-/// The first item of a sleeping set; [`NO_ITEM`] where it has none.
-fn first_of(heads: &[u32], name: u32) -> u32
+/// The first item of the set with this number; [`NO_ITEM`] where it has none.
+pub(crate) fn first_of(heads: &[u32], name: u32) -> u32
     ensures { result ≡ head_at heads.now name }
 {
     match heads.get(name as usize) {
         Some(first) => *first,
         None => NO_ITEM,
+    }
+}
+
+/// The item that follows this one in its sleeping set; [`NO_ITEM`] where none does.
+pub(crate) fn next_of(places: &[u32], id: u32) -> u32
+    ensures { result ≡ place_at places.now id }
+{
+    match places.get(id as usize) {
+        Some(next) => *next,
+        None => NO_ITEM,
+    }
+}
+
+/// An item, unless it is none.
+pub(crate) fn some_item(stands: &[Option<Stand>], id: u32) -> Option<u32>
+    ensures { result ≡ cond (nat_lt id (length stands.now)) (Some id) None }
+{
+    if (id as usize) < stands.len() {
+        Some(id)
+    } else {
+        None
     }
 }
 
@@ -102,27 +121,5 @@ pub(crate) fn wake_all(
 {
     while first_of(heads, name) != NO_ITEM {
         wake_first(lists, stands, places, heads, name);
-    }
-}
-
-/// Lists the items of a sleeping set behind others, where there is room for them.
-pub(crate) fn list_asleep(
-    stands: &[Option<Stand>],
-    places: &[u32],
-    heads: &[u32],
-    name: u32,
-    items: &mut Vec<u32>,
-)
-    requires sized { AreSized stands.now places.now }
-    requires strung { AreStrung stands.now places.now heads.now }
-    requires room { length items.old.items + length (items_of (Asleep name) stands.now) ≤ vec_capacity items.old }
-    ensures before { take (length items.old.items) items.new.items ≡ items.old.items }
-    ensures listed { IsPermutation (items_of (Asleep name) stands.now) (drop (length items.old.items) items.new.items) }
-    ensures capacity { vec_capacity items.old ≤ vec_capacity items.new }
-{
-    let mut id = first_of(heads, name);
-    while (id as usize) < stands.len() {
-        push_reserved(items, id);
-        id = places[id as usize];
     }
 }

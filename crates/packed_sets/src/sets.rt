@@ -49,8 +49,8 @@ impl<I: Id> PackedSets<I> {
         }
     }
 
-    /// Makes sets of all numbers below `sets`, and lets ids whose numbers are below `ids` be put in. Refused 1 where memory is wanting. Changes
-    /// what is in no set.
+    /// Makes sets of all numbers below `sets`, and lets ids whose numbers are below `ids` be put in. Refused 1 where memory is wanting. No set has
+    /// other ids than before.
     pub fn reserve(&mut self, sets: usize, ids: usize) -> Result<(), Refusal>
         ensures made { OnOk result (sets ≤ length self.new.sets) }
         ensures noted { OnOk result (ids ≤ self.new.ids) }
@@ -69,7 +69,7 @@ impl<I: Id> PackedSets<I> {
         Ok(())
     }
 
-    /// Makes room for that many more ids in a set. Refused 1 where memory is wanting. Changes what is in no set.
+    /// Makes room for that many more ids in a set. Refused 1 where memory is wanting. No set has other ids than before.
     pub fn reserve_in(&mut self, set: u32, more: usize) -> Result<(), Refusal>
         requires there { set < length self.old.sets }
         ensures made { OnOk result (length (list_at self.old.sets set) + more ≤ capacity_at self.new.capacities set) }

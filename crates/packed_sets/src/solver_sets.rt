@@ -1,21 +1,22 @@
 //! The solver sets of one kind of item: of bodies, joints or contacts.
 
-ghost use Rattle.std.specs.Prelude.{◌≡◌, ◌<◌, ◌≤◌, ◌+◌, [], true, IfOk, None, OnErr, OnOk, Some, drop, length, map, slice_set, take, vec_capacity};
+ghost use Rattle.std.specs.Prelude.{◌≡◌, ◌<◌, ◌≤◌, ◌∷◌, ◌++◌, ℕ, List, [], true, IfOk, None, OnErr, OnOk, Some, length, map, slice_get, slice_set};
 ghost use Rattle.std.specs.Result.{IsOkUnless};
 ghost use Rattle.std.specs.List.Sorted.{IsPermutation};
 ghost use Rattle.packed_sets.specs.declared.stands.Stand.TheVariants.{Sleeping};
+ghost use Rattle.packed_sets.specs.Packs.{list_at};
 ghost use Rattle.packed_sets.specs.Stands.{is_listed, is_named, items_of, stand_at, stand_of, with_items, woken};
 
 use crate::set_lists::{put, take_listed};
-use crate::set_room::{copies_with_room, fill, reserve_all};
-use crate::set_threads::{list_asleep, wake_all};
+use crate::set_room::{copies_with_room, fill, fill_names, reserve_all, reserve_names};
+use crate::set_threads::{first_of, next_of, some_item, wake_all};
 use crate::stands::{ListedSet, MAX_ITEMS, NO_ITEM, Stand};
 use fixed_geom::Refusal;
 use std::alloc::Global;
 use std::marker::Model;
 
-/// The solver sets of one kind of item. An item is known by its number. Contracts see where each item stands (`stands`), and below which
-/// number the names of sleeping sets have to be (`names`).
+/// The solver sets of one kind of item. An item is known by its number. Contracts see where each item stands (`stands`), below which number the
+/// names of sleeping sets have to be (`names`), and by name the items of each sleeping set in the order in which they are told (`sleepers`).
 #[derive(Drop)]
 pub struct SolverSets {
     // The sets that aren't sleeping ones, each with room for all items.
@@ -31,11 +32,11 @@ pub struct SolverSets {
 impl Model for SolverSets {
     ghost use Rattle.std.specs.Prelude.{length, map, vec_capacity};
     ghost use Rattle.packed_sets.specs.Stands.{Standings};
-    ghost use Rattle.packed_sets.specs.Threads.{AreHeld};
+    ghost use Rattle.packed_sets.specs.Threads.{AreHeld, threads_of};
 
     ghost Value = { Standings };
 
-    ghost view = { λ a. record { stands = a.stands.items; names = length a.heads.items } };
+    ghost view = { λ a. record { stands = a.stands.items; names = length a.heads.items; sleepers = threads_of a.places.items a.heads.items } };
 
     ghost invariant = { λ a. AreHeld (map (λ v. v.items) a.lists.items) (map vec_capacity a.lists.items) a.stands.items a.places.items a.heads.items };
 }
@@ -54,9 +55,9 @@ impl SolverSets {
         }
     }
 
-    /// Lets items whose numbers are below `items` be put in, and sleeping sets have names below `names`. Each list gets room for all items
-    /// that there can be then, so that nothing else takes memory. Refused 1 where memory is wanting, or there would be more than
-    /// [`MAX_ITEMS`].
+    /// Lets items whose numbers are below `items` be put in, and sleeping sets have names below `names`, or more. Each list gets room for all
+    /// items that there can be then, so that nothing else takes memory. Where there is room for all that it takes next to no time. Refused 1 where
+    /// memory is wanting, or there would be more than [`MAX_ITEMS`].
     pub fn reserve(&mut self, items: usize, names: usize) -> Result<(), Refusal>
         ensures stands { OnOk result (self.new.stands ≡ with_items items self.old.stands) }
         ensures named { OnOk result (names ≤ self.new.names) }
@@ -67,17 +68,11 @@ impl SolverSets {
         if items > MAX_ITEMS {
             return Err(Refusal::NoMemory);
         }
-        reserve_all(
-            &mut self.lists,
-            &mut self.stands,
-            &mut self.places,
-            &mut self.heads,
-            items,
-            names,
-        )?;
+        reserve_names(&mut self.heads, names)?;
+        reserve_all(&mut self.lists, &mut self.stands, &mut self.places, items)?;
         fill(&mut self.stands, items, None);
         fill(&mut self.places, items, NO_ITEM);
-        fill(&mut self.heads, names, NO_ITEM);
+        fill_names(&mut self.heads, names);
         Ok(())
     }
 
@@ -115,14 +110,19 @@ impl SolverSets {
         }
     }
 
-    /// Lists the items of a sleeping set, each once, behind others in a list that has room for them. In what order isn't promised.
-    pub fn sleepers(&self, name: u32, items: &mut Vec<u32>)
-        requires room { length items.old.items + length (items_of (Sleeping name) self.now.stands) ≤ vec_capacity items.old }
-        ensures before { take (length items.old.items) items.new.items ≡ items.old.items }
-        ensures listed { IsPermutation (items_of (Sleeping name) self.now.stands) (drop (length items.old.items) items.new.items) }
-        ensures capacity { vec_capacity items.old ≤ vec_capacity items.new }
+    /// The first item of a sleeping set, if it has one.
+    pub fn first_asleep(&self, name: u32) -> Option<u32>
+        ensures first { result ≡ slice_get (list_at self.now.sleepers name) 0 }
+        ensures items { IsPermutation (items_of (Sleeping name) self.now.stands) (list_at self.now.sleepers name) }
     {
-        list_asleep(&self.stands, &self.places, &self.heads, name, items);
+        some_item(&self.stands, first_of(&self.heads, name))
+    }
+
+    /// The item that follows this one, which is asleep, in its sleeping set, if one does. Of an item that isn't asleep nothing is promised.
+    pub fn asleep_behind(&self, id: u32) -> Option<u32>
+        ensures { (name : ℕ) (front back : List ℕ) → list_at self.now.sleepers name ≡ front ++ id ∷ back → result ≡ slice_get back 0 }
+    {
+        some_item(&self.stands, next_of(&self.places, id))
     }
 
     /// Puts an item that stands nowhere into a set. Takes no memory.

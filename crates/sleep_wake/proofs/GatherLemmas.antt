@@ -1,17 +1,16 @@
 -- The constraints of an island are those of which its movers are the first, put in order.
-use Rattle.std.proofs.Common.{◌≡◌, ◌≢◌, ◌↔◌, ℕ, ◌+◌, ◌<◌, ◌≤◌, ◌==◌, ◌||◌, ◌++◌, Bool, true, false, cond, List, [], ◌∷◌, Option, Some, None, option_map, get_or, length, inl, inr, refl, sym, ap, ◌∙◌, arith, subst, append_assoc, eq-eqb, eqb-true}
+use Rattle.std.proofs.Common.{◌≡◌, ◌≢◌, ◌↔◌, ℕ, ◌+◌, ◌<◌, ◌≤◌, ◌==◌, ◌||◌, ◌++◌, Bool, true, false, cond, List, [], ◌∷◌, Option, Some, None, option_map, drop, get_or, length, inl, inr, refl, sym, ap, ◌∙◌, arith, subst, append_assoc, eq-eqb, eqb-true}
 use Rattle.std.specs.Prelude.{filter, Contains, nat_eq}
 use Rattle.std.specs.List.{All, AllPairs, IsDistinct, cons_option}
 use Rattle.std.specs.List.Sorted.{IsPermutation, IsNonDecreasingBy}
 use Rattle.std.specs.Cmp.{nat_eq_equiv}
 use Rattle.std.proofs.lemmas.Bool.{cases_eq, ne_eqb, eqb-false, false≢true}
-use Rattle.std.proofs.lemmas.List.{length-append}
+use Rattle.std.proofs.lemmas.List.{append-nil, drop_all, drop_more, length-append}
 use Rattle.std.proofs.lemmas.List.Elements.{All-head, All-tail}
-use Rattle.std.proofs.lemmas.List.Sorted.{IsPermutation-refl, IsPermutation-sym, IsPermutation-trans, IsPermutation-cons, IsPermutation-middle, IsPermutation-append_right, Contains-permutation, length_permutation}
+use Rattle.std.proofs.lemmas.List.Sorted.{IsPermutation-refl, IsPermutation-sym, IsPermutation-trans, IsPermutation-cons, IsPermutation-middle, IsPermutation-append_left, IsPermutation-append_right, Contains-permutation, length_permutation}
 use Rattle.std.proofs.lemmas.List.Sums.{length-filter, count_by-le-length}
 use Rattle.std.proofs.lemmas.Map.Keys.{IsDistinct-from_apart, IsDistinct-IsPermutation, apart_from_distinct}
 use Rattle.graph_colours.specs.declared.member.Member.{Member}
-use Rattle.graph_colours.specs.Movers.{has_mover}
 use Rattle.graph_colours.specs.Members.{AreRising}
 use Rattle.graph_colours.proofs.Cases.{or_left}
 use Rattle.graph_colours.proofs.ListLemmas.{pairs_head, pairs_tail}
@@ -22,9 +21,9 @@ use Rattle.islands.proofs.JoinLemmas.{contains_cases, contains_head, contains_ta
 use Rattle.sleep_wake.specs.Acting.{Acting, acting, link_of, links_of}
 use Rattle.sleep_wake.specs.Waking.{second_in, has_mover_of, ties_of_mover, placed_all, released_all, set_woken, put_to_rest}
 use Rattle.sleep_wake.specs.SleepPhase.{edges_in}
-use Rattle.sleep_wake.specs.Indexed.{AreByMover}
-use Rattle.sleep_wake.specs.Gathered.{is_first, is_first_of, firsts_at, firsts_of}
-use Rattle.sleep_wake.proofs.ListLemmas.{none_in, above_head, rising_filter, in_links}
+use Rattle.sleep_wake.specs.Gathered.{is_first_of}
+use Rattle.sleep_wake.specs.Sources.{first_ties, is_first}
+use Rattle.sleep_wake.proofs.ListLemmas.{none_in, above_head, in_links}
 
 -- ---- filters
 
@@ -40,9 +39,9 @@ within_one p q x xs false true e h rest = rw e rest
 within_one p q x xs false false e h rest = rest
 
 -- a test that is passed only by those that pass another
-pub filter_within : {X : Type 0} (p q : X → Bool) (xs : List X) → ((x : X) → p x ≡ true → q x ≡ true) → filter p (filter q xs) ≡ filter p xs
+pub filter_within : {X : Type 0} (p q : X → Bool) (xs : List X) → ((x : X) → Contains xs x → p x ≡ true → q x ≡ true) → filter p (filter q xs) ≡ filter p xs
 filter_within p q [] h = refl
-filter_within p q (x ∷ xs) h = within_one p q x xs (p x) (q x) refl (h x) (filter_within p q xs h)
+filter_within p q (x ∷ xs) h = within_one p q x xs (p x) (q x) refl (h x (contains_head x xs)) (filter_within p q xs (λ y k. h y (contains_tail x xs y k)))
 
 -- a loop over a list: what is left shrinks by its front
 front_of : {X : Type 0} (x : X) (ps : List X) (a : Bool) → cond a (x ∷ ps) ps ≡ cond a (x ∷ []) [] ++ ps
@@ -51,9 +50,6 @@ front_of x ps false = refl
 
 pub passed_on : {X : Type 0} (p : X → Bool) (x : X) (rest old now all : List X) → now ≡ old ++ filter p (x ∷ []) → old ++ filter p (x ∷ rest) ≡ all → now ++ filter p rest ≡ all
 passed_on {X} p x rest old now all is h = ap (λ (l : List X). l ++ filter p rest) is ∙ append_assoc old (filter p (x ∷ [])) (filter p rest) ∙ ap (λ (l : List X). old ++ l) (sym (front_of x (filter p rest) (p x))) ∙ h
-
-pub front_size : {X : Type 0} (p : X → Bool) (x : X) (rest : List X) → length (filter p (x ∷ rest)) ≡ length (filter p (x ∷ [])) + length (filter p rest)
-front_size {X} p x rest = ap (λ (l : List X). length l) (front_of x (filter p rest) (p x)) ∙ length-append (filter p (x ∷ [])) (filter p rest)
 
 pub filter_few : {X : Type 0} (p : X → Bool) (xs : List X) → length (filter p xs) ≤ length xs
 filter_few p xs = let counted = length-filter p xs in let few = count_by-le-length p xs in omega (arith, counted, few)
@@ -75,11 +71,9 @@ parts p q (x ∷ xs) off = parts_one x (filter (λ x. p x || q x) xs) (filter p 
 
 -- ---- the constraints by their first movers
 
-first_is_mover : {C : Type 0} (slot : ℕ) (m : Member C) → is_first slot m ≡ true → has_mover m.movers slot ≡ true
-first_is_mover slot m h = rw h refl
-
-firsts_are : {C : Type 0} (ties : List (Member C)) (lists : List (List (Member C))) (slot : ℕ) → AreByMover ties lists → firsts_at lists slot ≡ filter (is_first slot) ties
-firsts_are {C} ties lists slot w = ap (λ (l : List (Member C)). filter (is_first slot) l) (w slot) ∙ filter_within (is_first slot) (λ m. has_mover m.movers slot) ties (first_is_mover slot)
+-- no two are the same
+abbrev pub AreApart : List ℕ → Type 0
+AreApart slots = AllPairs (λ s t. (s == t) ≡ false) slots
 
 -- the first mover is in one slot only
 first_once : {C : Type 0} (slot : ℕ) (slots : List ℕ) (m : Member C) → All (λ t. (slot == t) ≡ false) slots → is_first slot m ≡ true → is_first_of slots m ≡ false
@@ -89,29 +83,61 @@ first_once slot (t ∷ slots) m apart e =
     let off : is_first t m ≡ false = ap (λ (n : ℕ). n == t) is ∙ All-head (λ (u : ℕ). (slot == u) ≡ false) t slots apart in
     rw (off, first_once slot slots m (All-tail (λ (u : ℕ). (slot == u) ≡ false) t slots apart) e) refl
 
-firsts_by : {C : Type 0} (ties : List (Member C)) (lists : List (List (Member C))) (slots : List ℕ) → AreByMover ties lists → AllPairs (λ s t. (s == t) ≡ false) slots → IsPermutation (filter (is_first_of slots) ties) (firsts_of lists slots)
-firsts_by {C} ties lists [] w apart = rw (filter_none ties) (IsPermutation-refl [])
-firsts_by {C} ties lists (slot ∷ slots) w apart =
-    let both = parts (is_first slot) (is_first_of slots) ties (λ m e. first_once slot slots m (pairs_head (λ s t. (s == t) ≡ false) slot slots apart) e) in
-    let rest = firsts_by ties lists slots w (pairs_tail (λ s t. (s == t) ≡ false) slot slots apart) in
-    let P : List (Member C) → Type 0 = λ l. IsPermutation (filter (is_first_of (slot ∷ slots)) ties) (l ++ firsts_of lists slots) in
-    subst P (sym (firsts_are ties lists slot w)) (IsPermutation-trans (filter (is_first_of (slot ∷ slots)) ties) (filter (is_first slot) ties ++ filter (is_first_of slots) ties) (filter (is_first slot) ties ++ firsts_of lists slots) both
-    (IsPermutation-append_right (filter (is_first slot) ties) (filter (is_first_of slots) ties) (firsts_of lists slots) rest))
+-- the constraints of some movers are those of the first of them, and those of the others
+firsts_parted : {C : Type 0} (ties : List (Member C)) (slot : ℕ) (slots : List ℕ) → AreApart (slot ∷ slots) → IsPermutation (filter (is_first_of (slot ∷ slots)) ties) (first_ties slot ties ++ filter (is_first_of slots) ties)
+firsts_parted ties slot slots apart = parts (is_first slot) (is_first_of slots) ties (λ m e. first_once slot slots m (pairs_head (λ s t. (s == t) ≡ false) slot slots apart) e)
 
-slots_apart : (slots : List ℕ) → IsDistinct nat_eq slots → AllPairs (λ s t. (s == t) ≡ false) slots
+slots_apart : (slots : List ℕ) → IsDistinct nat_eq slots → AreApart slots
 slots_apart slots once i j d lt l = apart_from_distinct nat_eq slots i j d once lt l
 
-pub firsts_few : {C : Type 0} (ties : List (Member C)) (lists : List (List (Member C))) (slots : List ℕ) (capacity : ℕ) → AreByMover ties lists → IsDistinct nat_eq slots → length ties ≤ capacity → length (firsts_of lists slots) ≤ capacity
-firsts_few {C} ties lists slots capacity w once room =
-    let moved : length (firsts_of lists slots) ≡ length (filter (is_first_of slots) ties) = length_permutation (filter (is_first_of slots) ties) (firsts_of lists slots) (firsts_by ties lists slots w (slots_apart slots once)) in
-    let few = filter_few (is_first_of slots) ties in
-    omega (arith, moved, few, room)
+-- Once the constraints of some movers were added to a list: with those of the movers that are left, they are all that are to be added.
+pub record ArePushed {C : Type 0} (ties : List (Member C)) (left : List ℕ) (old all now : List (Member C)) : Type 0 where
+  pub apart : AreApart left
+  pub pushed : IsPermutation (old ++ all) (now ++ filter (is_first_of left) ties)
 
-pub firsts_passed : {C : Type 0} (lists : List (List (Member C))) (slot : ℕ) (slots : List ℕ) (old now all : List (Member C)) → now ≡ old ++ firsts_at lists slot → old ++ firsts_of lists (slot ∷ slots) ≡ all → now ++ firsts_of lists slots ≡ all
-firsts_passed {C} lists slot slots old now all is h = ap (λ (l : List (Member C)). l ++ firsts_of lists slots) is ∙ append_assoc old (firsts_at lists slot) (firsts_of lists slots) ∙ h
+pub pushed_first : {C : Type 0} (ties old : List (Member C)) (slots : List ℕ) → IsDistinct nat_eq slots → ArePushed ties slots old (filter (is_first_of slots) ties) old
+pushed_first ties old slots once = record { apart = slots_apart slots once; pushed = IsPermutation-refl (old ++ filter (is_first_of slots) ties) }
 
-pub firsts_size : {C : Type 0} (lists : List (List (Member C))) (slot : ℕ) (slots : List ℕ) → length (firsts_of lists (slot ∷ slots)) ≡ length (firsts_at lists slot) + length (firsts_of lists slots)
-firsts_size lists slot slots = length-append (firsts_at lists slot) (firsts_of lists slots)
+left_at : {C : Type 0} (ties old all now : List (Member C)) (slots : List ℕ) (place slot d : ℕ) → place < length slots → slot ≡ get_or slots place d → ArePushed ties (drop place slots) old all now → ArePushed ties (slot ∷ drop (place + 1) slots) old all now
+left_at ties old all now slots place slot d lt at h =
+    let front : drop place slots ≡ slot ∷ drop (place + 1) slots = drop_more slots place d lt ∙ ap (λ (s : ℕ). s ∷ drop (place + 1) slots) (sym at) in
+    subst (λ (l : List ℕ). ArePushed ties l old all now) front h
+
+-- there is room for those of the next mover
+pub pushed_room : {C : Type 0} (ties old all now : List (Member C)) (slots : List ℕ) (place slot d capacity : ℕ) → place < length slots → slot ≡ get_or slots place d → ArePushed ties (drop place slots) old all now → length old + length all ≤ capacity → length now + length (first_ties slot ties) ≤ capacity
+pushed_room {C} ties old all now slots place slot d capacity lt at h room =
+    let rest : List ℕ = drop (place + 1) slots in
+    let own : List (Member C) = first_ties slot ties in
+    let others : List (Member C) = filter (is_first_of rest) ties in
+    let both : List (Member C) = filter (is_first_of (slot ∷ rest)) ties in
+    let was = left_at ties old all now slots place slot d lt at h in
+    let whole : length (now ++ both) ≡ length (old ++ all) = length_permutation (old ++ all) (now ++ both) was.pushed in
+    let part : length (own ++ others) ≡ length both = length_permutation both (own ++ others) (firsts_parted ties slot rest was.apart) in
+    let a : length (old ++ all) ≡ length old + length all = length-append old all in
+    let b : length (now ++ both) ≡ length now + length both = length-append now both in
+    let c : length (own ++ others) ≡ length own + length others = length-append own others in
+    omega (arith, room, whole, part, a, b, c)
+
+pub pushed_more : {C : Type 0} (ties old all now next : List (Member C)) (slots : List ℕ) (place slot d : ℕ) → place < length slots → slot ≡ get_or slots place d → ArePushed ties (drop place slots) old all now → IsPermutation (now ++ first_ties slot ties) next → ArePushed ties (drop (place + 1) slots) old all next
+pushed_more {C} ties old all now next slots place slot d lt at h moved =
+    let rest : List ℕ = drop (place + 1) slots in
+    let own : List (Member C) = first_ties slot ties in
+    let others : List (Member C) = filter (is_first_of rest) ties in
+    let both : List (Member C) = filter (is_first_of (slot ∷ rest)) ties in
+    let was = left_at ties old all now slots place slot d lt at h in
+    let parted : IsPermutation (now ++ both) (now ++ (own ++ others)) = IsPermutation-append_right now both (own ++ others) (firsts_parted ties slot rest was.apart) in
+    let added : IsPermutation ((now ++ own) ++ others) (next ++ others) = IsPermutation-append_left others (now ++ own) next moved in
+    let after : IsPermutation (now ++ (own ++ others)) (next ++ others) = subst (λ (l : List (Member C)). IsPermutation l (next ++ others)) (append_assoc now own others) added in
+    record {
+      apart = pairs_tail (λ s t. (s == t) ≡ false) slot rest was.apart;
+      pushed = IsPermutation-trans (old ++ all) (now ++ both) (next ++ others) was.pushed (IsPermutation-trans (now ++ both) (now ++ (own ++ others)) (next ++ others) parted after);
+    }
+
+pub pushed_all : {C : Type 0} (ties old all now : List (Member C)) (slots : List ℕ) (place : ℕ) → length slots ≤ place → ArePushed ties (drop place slots) old all now → IsPermutation (old ++ all) now
+pushed_all {C} ties old all now slots place le h =
+    let done : IsPermutation (old ++ all) (now ++ filter (is_first_of []) ties) = subst (λ (l : List ℕ). IsPermutation (old ++ all) (now ++ filter (is_first_of l) ties)) (drop_all place slots le) h.pushed in
+    let none : filter (is_first_of []) ties ≡ [] = filter_none ties in
+    subst (λ (l : List (Member C)). IsPermutation (old ++ all) l) (ap (λ (l : List (Member C)). now ++ l) none ∙ append-nil now) done
 
 -- ---- lists that ascend
 
@@ -153,7 +179,7 @@ sorted_rises {C} number xs ys rising moved order i j d lt l =
     omega (arith, le, away)
 
 -- the members of a list that ascends, put in order
-sorted_is : {C : Type 0} (number : C → ℕ) (xs ys : List (Member C)) → AreRising number xs → IsPermutation xs ys → IsNonDecreasingBy (λ m. number m.id) ys → ys ≡ xs
+pub sorted_is : {C : Type 0} (number : C → ℕ) (xs ys : List (Member C)) → AreRising number xs → IsPermutation xs ys → IsNonDecreasingBy (λ m. number m.id) ys → ys ≡ xs
 sorted_is number xs ys rising moved order = same_rising number ys xs (sorted_rises number xs ys rising moved order) rising
     (λ m h. Contains-permutation ys xs m (IsPermutation-sym xs ys moved) h)
     (λ m h. Contains-permutation xs ys m moved h)
@@ -184,25 +210,21 @@ same_test true false f g = absurd (false≢true (f refl))
 same_test false true f g = absurd (false≢true (g refl))
 same_test false false f g = refl
 
-or_first : (a b : Bool) → (b ≡ true → a ≡ true) → a ≡ (a || b)
+pub or_first : (a b : Bool) → (b ≡ true → a ≡ true) → a ≡ (a || b)
 or_first true b f = refl
 or_first false true f = f refl
 or_first false false f = refl
 
 -- a constraint's second mover is in the island only if the first is
-second_with_first : {C : Type 0} (ties : List (Member C)) (labels : Labels) (name : ℕ) (m : Member C) (o : Option ℕ) → AreIslands (Linked (links_of ties)) labels → Contains ties m → m.movers.second ≡ o → second_in labels name o ≡ true → is_in (label_at labels m.movers.first) name ≡ true
+pub second_with_first : {C : Type 0} (ties : List (Member C)) (labels : Labels) (name : ℕ) (m : Member C) (o : Option ℕ) → AreIslands (Linked (links_of ties)) labels → Contains ties m → m.movers.second ≡ o → second_in labels name o ≡ true → is_in (label_at labels m.movers.first) name ≡ true
 second_with_first ties labels name m None w h e q = absurd (false≢true q)
 second_with_first ties labels name m (Some b) w h e q =
     let t = w.together m.movers.first b (inl (in_links ties m m.movers.first b h refl e)) in
     ap (λ v. is_in v name) (t.1 ∙ sym t.2) ∙ q
 
--- the list at hand, put in order, has the island's constraints
-pub gathered_are : {C : Type 0} (number : C → ℕ) (ties : List (Member C)) (lists : List (List (Member C))) (labels : Labels) (name : ℕ) (slots : List ℕ) (sorted : List (Member C)) → AreRising number ties → AreIslands (Linked (links_of ties)) labels → AreByMover ties lists
-    → ((s : ℕ) → Contains slots s ↔ IsIn labels name s) → IsDistinct nat_eq slots → IsPermutation (firsts_of lists slots) sorted → IsNonDecreasingBy (λ m. number m.id) sorted → sorted ≡ filter (has_mover_of labels name) ties
-gathered_are {C} number ties lists labels name slots sorted rising w by_mover all once moved order =
-    let firsts : List (Member C) = filter (is_first_of slots) ties in
-    let whole : IsPermutation firsts sorted = IsPermutation-trans firsts (firsts_of lists slots) sorted (firsts_by ties lists slots by_mover (slots_apart slots once)) moved in
-    sorted_is number firsts sorted (rising_filter number (is_first_of slots) ties rising) whole order ∙ filter_as (is_first_of slots) (has_mover_of labels name) ties (λ m h.
+-- those whose first mover is one of the island's are the island's
+pub firsts_own : {C : Type 0} (ties : List (Member C)) (labels : Labels) (name : ℕ) (slots : List ℕ) → AreIslands (Linked (links_of ties)) labels → ((s : ℕ) → Contains slots s ↔ IsIn labels name s) → filter (is_first_of slots) ties ≡ filter (has_mover_of labels name) ties
+firsts_own ties labels name slots w all = filter_as (is_first_of slots) (has_mover_of labels name) ties (λ m h.
     same_test (is_first_of slots m) (is_in (label_at labels m.movers.first) name) (λ q. (all m.movers.first).0 (among_first slots m q)) (λ q. first_among slots m ((all m.movers.first).1 q))
     ∙ or_first (is_in (label_at labels m.movers.first) name) (second_in labels name m.movers.second) (second_with_first ties labels name m m.movers.second w h refl))
 

@@ -18,8 +18,8 @@ pub mod RestingLaws
 pub mod ReleasingLaws
 pub mod LawLemmas
 pub mod NameLemmas
-pub mod IndexLemmas
 pub mod GivenLaws
 pub mod LengthLemmas
 pub mod ChangeOwn
 pub mod GatherLemmas
+pub mod SourceLaws

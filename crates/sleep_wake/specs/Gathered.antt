@@ -1,10 +1,10 @@
 -- The constraints of an island, from those of its movers.
-use Rattle.std.specs.Prelude.{ℕ, ◌==◌, ◌||◌, ◌++◌, Bool, false, List, [], ◌∷◌, filter, cond, Option, Some, None}
+use Rattle.std.specs.Prelude.{ℕ, ◌||◌, Bool, false, List, [], ◌∷◌, cond, Option, Some, None}
 use Rattle.graph_colours.specs.declared.member.Member.{Member}
-use Rattle.graph_colours.specs.Colours.{list_at}
 use Rattle.graph_colours.specs.declared.member.Movers.{Movers}
 use Rattle.islands.specs.Links.{Edges}
 use Rattle.islands.specs.Labels.{Labels, label_at, is_in}
+use Rattle.sleep_wake.specs.Sources.{is_first}
 
 -- the constraints that were gathered, and for how many constraints and slots there is room
 pub record Gathered (C : Type 0) : Type 0 where
@@ -12,23 +12,10 @@ pub record Gathered (C : Type 0) : Type 0 where
   pub ties : ℕ
   pub slots : ℕ
 
--- the mover in the slot is the constraint's first
-abbrev pub is_first : {C : Type 0} → ℕ → Member C → Bool
-is_first slot m = m.movers.first == slot
-
 -- the constraint's first mover is in one of the slots
 abbrev pub is_first_of : {C : Type 0} → List ℕ → Member C → Bool
 is_first_of [] m = false
 is_first_of (slot ∷ slots) m = is_first slot m || is_first_of slots m
-
--- those constraints in the slot's list of which the mover there is the first
-abbrev pub firsts_at : {C : Type 0} → List (List (Member C)) → ℕ → List (Member C)
-firsts_at lists slot = filter (is_first slot) (list_at lists slot)
-
--- the same for each of the slots, one after the other
-abbrev pub firsts_of : {C : Type 0} → List (List (Member C)) → List ℕ → List (Member C)
-firsts_of lists [] = []
-firsts_of lists (slot ∷ slots) = firsts_at lists slot ++ firsts_of lists slots
 
 -- the link of one constraint, if it has one and that is of the island
 abbrev pub second_edge : Labels → ℕ → ℕ → Option ℕ → Edges

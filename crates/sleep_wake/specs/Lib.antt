@@ -1,7 +1,6 @@
 pub mod Acting
 pub mod Waking
 pub mod Rooms
-pub mod Indexed
 pub mod Changes
 pub mod ChangeLists
 pub mod Bodies
@@ -10,6 +9,7 @@ pub mod SleepPhase
 pub mod AwakeSlots
 pub mod Resting
 pub mod Sleeping
+pub mod Sources
 pub mod Standing
 pub mod Laws
 pub mod Examples

@@ -1,18 +1,20 @@
-//! The constraints of an island, from those of its movers.
+//! The constraints of an island.
 
-ghost use Rattle.std.specs.Prelude.{◌≡◌, ℕ, ◌≤◌, ◌<◌, ◌+◌, ◌++◌, ◌∷◌, ◌↔◌, [], nat_eq, length, filter, Contains, vec_len, vec_capacity, OnOk};
+ghost use Rattle.std.specs.Prelude.{◌≡◌, ◌≤◌, ◌<◌, ◌+◌, ◌++◌, ◌∷◌, [], Some, true, nat_eq, List, length, filter, vec_len, vec_capacity, OnOk};
 ghost use Rattle.std.specs.Result.{IsOkUnless};
 ghost use Rattle.std.specs.List.{IsDistinct};
-ghost use Rattle.std.specs.List.Sorted.{IsPermutation, IsNonDecreasingBy};
-ghost use Rattle.graph_colours.specs.Given.{members_of};
+ghost use Rattle.std.specs.List.Sorted.{IsPermutation};
+ghost use Rattle.graph_colours.specs.declared.member.Member.{Member as TheMember};
 ghost use Rattle.graph_colours.specs.Members.{AreRising};
 ghost use Rattle.islands.specs.Links.{Linked};
 ghost use Rattle.islands.specs.Partition.{AreIslands};
 ghost use Rattle.sleep_wake.specs.Acting.{links_of};
+ghost use Rattle.sleep_wake.specs.Gathered.{is_first_of};
+ghost use Rattle.sleep_wake.specs.Sleeping.{name_at};
+ghost use Rattle.sleep_wake.specs.Sources.{TellsAsleep, asleep_ties};
 ghost use Rattle.sleep_wake.specs.Waking.{has_mover_of};
-ghost use Rattle.sleep_wake.specs.Indexed.{AreByMover};
-ghost use Rattle.sleep_wake.specs.Gathered.{is_first, firsts_at, firsts_of};
 
+use crate::tie_source::TieSource;
 use crate::ties::Ties;
 use crate::wake_and_sleep::are_in;
 use fixed_geom::Refusal;
@@ -21,8 +23,8 @@ use islands::Islands;
 use std::alloc::Global;
 use std::marker::Model;
 
-/// An island's constraints are found through its movers where there are more than this many constraints in all for each of them. Else a pass over all
-/// costs no more.
+/// An island's constraints are asked of the source where there are more than this many constraints in all for each of its movers, or where edits of them are
+/// put off. Else a pass over all costs no more.
 const TIES_A_MOVER: usize = 16;
 
 // ---- by a pass over all constraints
@@ -51,81 +53,76 @@ fn list_from_all<C: Id>(list: &mut Vec<Member<C>>, islands: &Islands, ties: &[Me
     }
 }
 
-// ---- through the movers of the island
+// ---- from a source
 
-/// Adds a constraint, if the mover in the slot is its first. There is room for it then.
-fn add_if_first<C: Id>(list: &mut Vec<Member<C>>, tie: Member<C>, slot: u32)
-    requires { vec_len list.old + length (filter (is_first slot) (tie ∷ [])) ≤ vec_capacity list.old }
-    ensures items { list.new.items ≡ list.old.items ++ filter (is_first slot) (tie ∷ []) }
-    ensures len { vec_len list.new ≡ vec_len list.old + length (filter (is_first slot) (tie ∷ [])) }
+/// Puts constraints in the order of their numbers.
+fn put_in_order<C: Id>(list: &mut Vec<Member<C>>)
+    ensures items { (rising : List (TheMember C)) → AreRising C.number rising → IsPermutation rising list.old.items → list.new.items ≡ rising }
     ensures capacity { vec_capacity list.old ≤ vec_capacity list.new }
 {
-    if tie.movers.first == slot {
-        let _ = list.push(tie);
-    }
-}
-
-/// Adds those of a mover's constraints of which it is the first mover. There is room for them.
-fn add_firsts<C: Id>(list: &mut Vec<Member<C>>, ties: &[Member<C>], slot: u32)
-    requires { vec_len list.old + length (filter (is_first slot) ties.now) ≤ vec_capacity list.old }
-    ensures items { list.new.items ≡ list.old.items ++ filter (is_first slot) ties.now }
-    ensures len { vec_len list.new ≡ vec_len list.old + length (filter (is_first slot) ties.now) }
-    ensures capacity { vec_capacity list.old ≤ vec_capacity list.new }
-{
-    for place in 0..ties.len() {
-        add_if_first(list, ties[place], slot);
-    }
-}
-
-/// Adds those constraints in a slot's list of which the mover there is the first. There is room for them.
-fn add_firsts_at<C: Id>(list: &mut Vec<Member<C>>, lists: &[Vec<Member<C>>], slot: u32)
-    requires { vec_len list.old + length (firsts_at (members_of lists.now) slot) ≤ vec_capacity list.old }
-    ensures items { list.new.items ≡ list.old.items ++ firsts_at (members_of lists.now) slot }
-    ensures len { vec_len list.new ≡ vec_len list.old + length (firsts_at (members_of lists.now) slot) }
-    ensures capacity { vec_capacity list.old ≤ vec_capacity list.new }
-{
-    if let Some(ties) = lists.get(slot as usize) {
-        add_firsts(list, ties, slot);
-    }
-}
-
-/// Lists the constraints whose first mover is one of these, mover by mover. There is room for them.
-fn list_firsts<C: Id>(list: &mut Vec<Member<C>>, lists: &[Vec<Member<C>>], members: &[u32])
-    requires { length (firsts_of (members_of lists.now) members.now) ≤ vec_capacity list.old }
-    ensures items { list.new.items ≡ firsts_of (members_of lists.now) members.now }
-    ensures capacity { vec_capacity list.old ≤ vec_capacity list.new }
-{
-    list.clear();
-    for place in 0..members.len() {
-        add_firsts_at(list, lists, members[place]);
-    }
-}
-
-/// Lists the same in the order of their numbers. There is room for them.
-fn list_firsts_in_order<C: Id>(list: &mut Vec<Member<C>>, lists: &[Vec<Member<C>>], members: &[u32])
-    requires { length (firsts_of (members_of lists.now) members.now) ≤ vec_capacity list.old }
-    ensures permutation { IsPermutation (firsts_of (members_of lists.now) members.now) list.new.items }
-    ensures order { IsNonDecreasingBy (λ m. C.number m.id) list.new.items }
-    ensures capacity { vec_capacity list.old ≤ vec_capacity list.new }
-{
-    list_firsts(list, lists, members);
     list.sort_unstable_by_key(|tie| tie.id.number());
 }
 
-/// Lists the constraints of an island, ascending, from those of its movers where these are few, and else by a pass over all, unless edits of all are put
-/// off. Both its movers are in the island, so that it is enough to take each constraint with its first one. There is room for all constraints and for the
-/// movers of all slots.
-fn list_from_movers<C: Id>(
+/// Lists the constraints whose first mover sleeps under this name, as the source knows it, ascending. There is room for them.
+fn list_asleep<C: Id, T: TieSource<C>>(list: &mut Vec<Member<C>>, source: &T, name: u32)
+    requires rising { AreRising C.number (asleep_ties (T.names source.now) name (T.ties source.now)) }
+    requires room { length (asleep_ties (T.names source.now) name (T.ties source.now)) ≤ vec_capacity list.old }
+    ensures items { list.new.items ≡ asleep_ties (T.names source.now) name (T.ties source.now) }
+    ensures capacity { vec_capacity list.old ≤ vec_capacity list.new }
+{
+    list.clear();
+    source.push_asleep(name, list);
+    put_in_order(list);
+}
+
+/// Adds the constraints whose first mover is one of these, mover by mover. There is room for them.
+fn push_each<C: Id, T: TieSource<C>>(list: &mut Vec<Member<C>>, source: &T, members: &[u32])
+    requires once { IsDistinct nat_eq members.now }
+    requires room { length list.old.items + length (filter (is_first_of members.now) (T.ties source.now)) ≤ vec_capacity list.old }
+    ensures pushed { IsPermutation (list.old.items ++ filter (is_first_of members.now) (T.ties source.now)) list.new.items }
+    ensures capacity { vec_capacity list.old ≤ vec_capacity list.new }
+{
+    for place in 0..members.len() {
+        source.push_firsts(members[place], list);
+    }
+}
+
+/// Lists the constraints whose first mover is one of these, ascending. There is room for all.
+fn list_firsts<C: Id, T: TieSource<C>>(list: &mut Vec<Member<C>>, source: &T, members: &[u32])
+    requires rising { AreRising C.number (T.ties source.now) }
+    requires once { IsDistinct nat_eq members.now }
+    requires room { length (T.ties source.now) ≤ vec_capacity list.old }
+    ensures items { list.new.items ≡ filter (is_first_of members.now) (T.ties source.now) }
+    ensures capacity { vec_capacity list.old ≤ vec_capacity list.new }
+{
+    list.clear();
+    push_each(list, source, members);
+    put_in_order(list);
+}
+
+// ---- of one island
+
+/// Whether a pass over all constraints lists those of an island with so many movers as quickly: where no edit of them is put off, so that they are at hand as
+/// one list, and there are no more than so many for each mover.
+fn is_pass_quick<C: Id>(ties: &Ties<C>, movers: usize) -> bool
+    ensures { result ≡ true → ties.now.pending ≡ 0 }
+{
+    ties.is_flushed() && ties.len() / TIES_A_MOVER <= movers
+}
+
+/// Lists the constraints of an island, ascending, by a pass over all where that is as quick, and else through its movers. Both movers of a constraint are in
+/// one island, so that it is enough to take each constraint with its first one. There is room for all constraints and for the movers of all slots.
+fn list_by_movers<C: Id, T: TieSource<C>>(
     list: &mut Vec<Member<C>>,
     members: &mut Vec<u32>,
     islands: &Islands,
     ties: &Ties<C>,
-    lists: &[Vec<Member<C>>],
+    source: &T,
     name: u32,
 )
     requires rising { AreRising C.number ties.now.items }
     requires islands { AreIslands (Linked (links_of ties.now.items)) islands.now.labels }
-    requires by_mover { AreByMover ties.now.items (members_of lists.now) }
+    requires source { T.ties source.now ≡ ties.now.items }
     requires room { length ties.now.items ≤ vec_capacity list.old }
     requires slots { length islands.now.labels ≤ vec_capacity members.old }
     ensures items { list.new.items ≡ filter (has_mover_of islands.now.labels name) ties.now.items }
@@ -133,10 +130,37 @@ fn list_from_movers<C: Id>(
     ensures members_capacity { vec_capacity members.old ≤ vec_capacity members.new }
 {
     islands.fill_members(name, members);
-    if members.len() < ties.len() / TIES_A_MOVER || !ties.is_flushed() {
-        list_firsts_in_order(list, lists, members);
-    } else {
+    if is_pass_quick(ties, members.len()) {
         list_from_all(list, islands, ties.as_slice(), name);
+    } else {
+        list_firsts(list, source, members);
+    }
+}
+
+/// Lists the constraints of an island that sleeps, ascending, by a pass over all where that is as quick, and else from its sleeping set. There is room for
+/// all constraints and for the movers of all slots.
+fn list_by_set<C: Id, T: TieSource<C>>(
+    list: &mut Vec<Member<C>>,
+    members: &mut Vec<u32>,
+    islands: &Islands,
+    ties: &Ties<C>,
+    source: &T,
+    name: u32,
+)
+    requires rising { AreRising C.number ties.now.items }
+    requires asleep { name_at islands.now.labels name ≡ Some name }
+    requires source { TellsAsleep (T.names source.now) (T.ties source.now) islands.now.labels ties.now.items }
+    requires room { length ties.now.items ≤ vec_capacity list.old }
+    requires slots { length islands.now.labels ≤ vec_capacity members.old }
+    ensures items { list.new.items ≡ filter (has_mover_of islands.now.labels name) ties.now.items }
+    ensures capacity { vec_capacity list.old ≤ vec_capacity list.new }
+    ensures members_capacity { vec_capacity members.old ≤ vec_capacity members.new }
+{
+    islands.fill_members(name, members);
+    if is_pass_quick(ties, members.len()) {
+        list_from_all(list, islands, ties.as_slice(), name);
+    } else {
+        list_asleep(list, source, name);
     }
 }
 
@@ -189,25 +213,59 @@ impl<C: Id> Gathering<C> {
         self.list.as_slice()
     }
 
-    /// Gathers the constraints of an island, ascending. Takes time by the island's size where the constraints of its movers are at hand, and no memory.
-    pub(crate) fn gather(&mut self, islands: &Islands, ties: &Ties<C>, name: u32)
+    /// Gathers the constraints of an island, ascending: by a pass over all where that is as quick, and else through its movers. Takes no memory. The source tells
+    /// all constraints as they are.
+    pub(crate) fn gather<T: TieSource<C>>(
+        &mut self,
+        islands: &Islands,
+        ties: &Ties<C>,
+        source: &T,
+        name: u32,
+    )
+        requires rising { AreRising C.number ties.now.items }
         requires islands { AreIslands (Linked (links_of ties.now.items)) islands.now.labels }
+        requires source { T.ties source.now ≡ ties.now.items }
         requires room { length ties.now.items ≤ self.old.ties }
         requires slots { length islands.now.labels ≤ self.old.slots }
         ensures list { self.new.list ≡ filter (has_mover_of islands.now.labels name) ties.now.items }
         ensures ties { self.old.ties ≤ self.new.ties }
         ensures slots { self.old.slots ≤ self.new.slots }
     {
-        match ties.by_mover() {
-            Some(lists) => list_from_movers(
-                &mut self.list,
-                &mut self.members,
-                islands,
-                ties,
-                lists,
-                name,
-            ),
-            None => list_from_all(&mut self.list, islands, ties.as_slice(), name),
-        }
+        list_by_movers(
+            &mut self.list,
+            &mut self.members,
+            islands,
+            ties,
+            source,
+            name,
+        );
+    }
+
+    /// Gathers the constraints of an island that sleeps, ascending: by a pass over all where that is as quick, and else from its sleeping set. Takes no
+    /// memory. The source may know others that have come or gone since, but none of a sleeping island.
+    pub(crate) fn gather_asleep<T: TieSource<C>>(
+        &mut self,
+        islands: &Islands,
+        ties: &Ties<C>,
+        source: &T,
+        name: u32,
+    )
+        requires rising { AreRising C.number ties.now.items }
+        requires asleep { name_at islands.now.labels name ≡ Some name }
+        requires source { TellsAsleep (T.names source.now) (T.ties source.now) islands.now.labels ties.now.items }
+        requires room { length ties.now.items ≤ self.old.ties }
+        requires slots { length islands.now.labels ≤ self.old.slots }
+        ensures list { self.new.list ≡ filter (has_mover_of islands.now.labels name) ties.now.items }
+        ensures ties { self.old.ties ≤ self.new.ties }
+        ensures slots { self.old.slots ≤ self.new.slots }
+    {
+        list_by_set(
+            &mut self.list,
+            &mut self.members,
+            islands,
+            ties,
+            source,
+            name,
+        );
     }
 }

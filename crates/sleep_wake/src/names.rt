@@ -1,6 +1,6 @@
 //! The names of islands that sleep.
 
-ghost use Rattle.std.specs.Prelude.{◌≡◌, ◌<◌, ◌≤◌, ◌+◌, ◌++◌, ℕ, Contains, IfOk, OnOk, vec_capacity, vec_len};
+ghost use Rattle.std.specs.Prelude.{◌≡◌, ◌<◌, ◌≤◌, ◌+◌, ◌++◌, ℕ, true, Contains, IfOk, OnOk, is_some, vec_capacity, vec_len};
 ghost use Rattle.std.specs.List.Sorted.{IsStrictlyIncreasing};
 ghost use Rattle.std.specs.Option.{option_to_list};
 ghost use Rattle.std.specs.Result.{IsOkUnless};
@@ -28,9 +28,9 @@ pub fn push_some<T: Copy + Drop>(items: &mut Vec<T>, item: Option<T>) -> Result<
     Ok(())
 }
 
-/// Adds an item, if there is one, for which there is room.
+/// Adds an item, if there is one. There is room for it then.
 pub fn put_some<T: Copy + Drop>(items: &mut Vec<T>, item: Option<T>)
-    requires { vec_len items.old < vec_capacity items.old }
+    requires { is_some item ≡ true → vec_len items.old < vec_capacity items.old }
     ensures items { items.new.items ≡ items.old.items ++ option_to_list item }
     ensures len { vec_len items.new ≤ vec_len items.old + 1 }
     ensures capacity { vec_capacity items.old ≤ vec_capacity items.new }

@@ -3,11 +3,12 @@
 mod changing;
 mod from_parts;
 
-ghost use Rattle.std.specs.Prelude.{◌≡◌, ◌<◌, ◌≤◌, ◌+◌, ℕ, List, true, false, length, filter, replicate, [], IfOk, OnOk, OnErr, Some, None, option_map};
+ghost use Rattle.std.specs.Prelude.{◌≡◌, ◌<◌, ◌≤◌, ◌+◌, ℕ, List, true, false, length, filter, replicate, [], Contains, IfOk, OnOk, OnErr, Some, None, option_map};
 ghost use Rattle.std.specs.Result.{IsOkUnless};
 ghost use Rattle.graph_colours.specs.declared.limits.TheConstants.{COLOURS};
+ghost use Rattle.graph_colours.specs.declared.member.Member.{Member as TheMember};
 ghost use Rattle.graph_colours.specs.Members.{AreRising};
-ghost use Rattle.graph_colours.specs.FoundMembers.{has_id, with_number};
+ghost use Rattle.graph_colours.specs.FoundMembers.{has_id};
 ghost use Rattle.graph_colours.specs.Movers.{has_mover};
 ghost use Rattle.islands.specs.Labels.{label_at, is_asleep};
 ghost use Rattle.sleep_wake.specs.Acting.{acting, is_mover_awake, are_awake, IsConsistent};
@@ -16,7 +17,8 @@ ghost use Rattle.sleep_wake.specs.Bodies.{mover_made, mover_gone};
 ghost use Rattle.sleep_wake.specs.Widened.{widened};
 ghost use Rattle.sleep_wake.specs.SleepPhase.{is_island, split_at, picked_to_split, split_picked, sleep_phase, ready_put_to_rest};
 ghost use Rattle.sleep_wake.specs.AwakeSlots.{AreAwakeSlots, AgreeAwake};
-ghost use Rattle.sleep_wake.specs.Sleeping.{sleeping_names, islands_woken, split_if_loose, rested_at, slept_at};
+ghost use Rattle.sleep_wake.specs.Sleeping.{name_at, sleeping_names, islands_woken, split_if_loose, rested_at, slept_at};
+ghost use Rattle.sleep_wake.specs.Sources.{TellsAsleep};
 ghost use Rattle.sleep_wake.specs.Resting.{is_whole};
 
 use crate::graph::Graph;
@@ -25,6 +27,7 @@ use crate::names::list_names;
 use crate::phase::{list_leasts, pick_split, rest_each};
 use crate::resting::release_resting;
 use crate::splits::list_edges;
+use crate::tie_source::TieSource;
 use crate::ties::Ties;
 use crate::wake_and_sleep::{are_awake, is_awake, place_each, release_each};
 use crate::work::Work;
@@ -35,11 +38,11 @@ use std::alloc::Global;
 use std::marker::Model;
 
 /// All constraints between movers, awake or asleep, with the islands of the movers and the colours of the constraints
-/// that act. What changes in lists of constraints may be put off, so that it doesn't cost by how many there are. Contracts see
-/// these three once all is done (`acting`), how many constraints may stand with no memory, those that do counted (`room`), the
-/// bound below which a mover's slot must be (`slots`), and whether edits of the colours may be put off until
-/// [`Sets::flush`] (`pending`): if it is 0, none is. Only `new`, `try_copy`, `reserve`, `names_of`, `ties_of`, `list_ties` and
-/// `awake_slots` can be refused memory.
+/// that act. Which constraints an island has is told by a source ([`TieSource`]). What changes in lists of constraints may be put
+/// off, so that it doesn't cost by how many there are. Contracts see these three once all is done (`acting`), how many constraints
+/// may stand with no memory, those that do counted (`room`), the bound below which a mover's slot must be (`slots`), and whether
+/// edits of the colours may be put off until [`Sets::flush`] (`pending`): if it is 0, none is. Only `new`, `try_copy`, `reserve`,
+/// `names_of`, `list_ties` and `awake_slots` can be refused memory.
 #[derive(Drop)]
 pub struct Sets<C: Id> {
     graph: Graph<C>,
@@ -117,7 +120,6 @@ impl<C: Id> Sets<C> {
         self.work.reserve(room, slots)?;
         self.room = self.room.max(room);
         self.slots = self.slots.max(slots);
-        self.graph.ties.index(self.slots);
         Ok(())
     }
 
@@ -132,13 +134,6 @@ impl<C: Id> Sets<C> {
         self.graph.ties.len()
     }
 
-    /// The constraint whose id has this number.
-    pub fn tie_with(&self, number: u128) -> Option<Member<C>>
-        ensures { result ≡ with_number C.number number self.now.acting.ties }
-    {
-        self.graph.ties.with_number(number)
-    }
-
     /// All constraints, ascending by number, in the memory of `room`, whatever is in it. Refused 1 where memory is wanting.
     pub fn list_ties(&self, room: Vec<Member<C>>) -> Result<Vec<Member<C>>, Refusal>
         ensures items { IfOk result (λ ties. ties.items ≡ self.now.acting.ties) }
@@ -148,19 +143,20 @@ impl<C: Id> Sets<C> {
         self.graph.ties.to_members(room)
     }
 
-    /// The constraints of the mover in the slot, ascending. Refused 1 where memory is wanting.
-    pub fn ties_of(&self, slot: u32) -> Result<Vec<Member<C>>, Refusal>
-        ensures ties { IfOk result (λ ties. ties.items ≡ filter (λ m. has_mover m.movers slot) self.now.acting.ties) }
-        ensures memory_only { IsOkUnless result Refusal.NoMemory }
-    {
-        self.graph.ties.ties_of(*self.work.spare.allocator(), slot)
-    }
-
     /// What holds of all sets: a law.
     pub fn know_consistent(&self)
         ensures { IsConsistent C.number self.now.acting }
     {
         let _ = self.tie_count();
+    }
+
+    /// A source that knows all constraints and who sleeps as they are tells what a wake asks for: a law.
+    pub fn know_told<T: TieSource<C>>(&self, source: &T)
+        requires ties { T.ties source.now ≡ self.now.acting.ties }
+        requires names { (tie : TheMember C) → Contains self.now.acting.ties tie → T.names source.now tie.movers.first ≡ name_at self.now.acting.labels tie.movers.first }
+        ensures { TellsAsleep (T.names source.now) (T.ties source.now) self.now.acting.labels self.now.acting.ties }
+    {
+        self.know_consistent();
     }
 
     /// The colours of the constraints that act.
@@ -279,9 +275,10 @@ impl<C: Id> Sets<C> {
     // ---- islands wake
 
     /// Wakes the island of the mover in the slot, if it sleeps: its constraints take colours in their order. Takes no memory: there is room for all
-    /// constraints that have no colour.
+    /// constraints that have no colour. The source tells the constraints of what sleeps.
     #[tactic(auto, unfolding(crate::specs::Waking::woken_at))]
-    pub fn wake(&mut self, slot: u32)
+    pub fn wake<T: TieSource<C>>(&mut self, slot: u32, source: &T)
+        requires source { TellsAsleep (T.names source.now) (T.ties source.now) self.old.acting.labels self.old.acting.ties }
         ensures acting { self.new.acting ≡ woken_at C.number slot self.old.acting }
         ensures room { self.new.room ≡ self.old.room }
         ensures slots { self.new.slots ≡ self.old.slots }
@@ -290,14 +287,15 @@ impl<C: Id> Sets<C> {
         if let Some(label) = self.label_of(slot)
             && label.state.is_asleep()
         {
-            self.wake_island(label);
+            self.wake_island(label, source);
         }
     }
 
     /// Wakes the island of this label, which sleeps: its movers are awake, and its constraints have colours.
-    fn wake_island(&mut self, label: Label)
+    fn wake_island<T: TieSource<C>>(&mut self, label: Label, source: &T)
         requires island { label_at self.old.acting.labels label.name ≡ Some label }
         requires asleep { is_asleep label.state ≡ true }
+        requires source { TellsAsleep (T.names source.now) (T.ties source.now) self.old.acting.labels self.old.acting.ties }
         ensures acting { self.new.acting ≡ set_woken C.number label.name self.old.acting }
         ensures room { self.new.room ≡ self.old.room }
         ensures slots { self.new.slots ≡ self.old.slots }
@@ -305,61 +303,67 @@ impl<C: Id> Sets<C> {
         let name = label.name;
         self.work
             .gathering
-            .gather(&self.graph.islands, &self.graph.ties, name);
+            .gather_asleep(&self.graph.islands, &self.graph.ties, source, name);
         place_each(&mut self.graph.colours, self.work.gathering.list());
         self.graph.islands.wake(name);
     }
 
     /// Wakes the islands of a constraint's movers, those that sleep, the first one's first.
-    pub fn wake_movers(&mut self, movers: Movers)
+    pub fn wake_movers<T: TieSource<C>>(&mut self, movers: Movers, source: &T)
+        requires source { TellsAsleep (T.names source.now) (T.ties source.now) self.old.acting.labels self.old.acting.ties }
         ensures acting { self.new.acting ≡ movers_woken C.number movers self.old.acting }
         ensures room { self.new.room ≡ self.old.room }
         ensures slots { self.new.slots ≡ self.old.slots }
     {
-        self.wake(movers.first);
+        self.know_consistent();
+        self.wake(movers.first, source);
         if let Some(second) = movers.second {
-            self.wake(second);
+            self.wake(second, source);
         }
     }
 
     /// Wakes the islands of these names, those that sleep, one after the other.
-    pub fn wake_named(&mut self, names: &[u32])
+    pub fn wake_named<T: TieSource<C>>(&mut self, names: &[u32], source: &T)
+        requires source { TellsAsleep (T.names source.now) (T.ties source.now) self.old.acting.labels self.old.acting.ties }
         ensures acting { self.new.acting ≡ islands_woken C.number names.now self.old.acting }
         ensures room { self.new.room ≡ self.old.room }
         ensures slots { self.new.slots ≡ self.old.slots }
     {
+        self.know_consistent();
         for place in 0..names.len() {
-            self.wake(names[place]);
+            self.wake(names[place], source);
         }
     }
 
     // ---- islands fall asleep
 
     /// Puts a whole island that is awake to rest, by its name: its constraints give up their colours.
-    pub fn put_to_rest(&mut self, name: u32)
-        requires { is_island false name (label_at self.old.acting.labels name) ≡ true }
+    pub fn put_to_rest<T: TieSource<C>>(&mut self, name: u32, source: &T)
+        requires island { is_island false name (label_at self.old.acting.labels name) ≡ true }
+        requires source { T.ties source.now ≡ self.old.acting.ties }
         ensures acting { self.new.acting ≡ put_to_rest C.number name self.old.acting }
         ensures room { self.new.room ≡ self.old.room }
         ensures slots { self.new.slots ≡ self.old.slots }
     {
         self.work
             .gathering
-            .gather(&self.graph.islands, &self.graph.ties, name);
+            .gather(&self.graph.islands, &self.graph.ties, source, name);
         release_each(&mut self.graph.colours, self.work.gathering.list());
         self.graph.islands.rest(name);
     }
 
     /// Replaces a loose island by its components, by its name. No constraint changes.
     #[tactic(auto, unfolding(crate::specs::SleepPhase::split_at))]
-    pub fn split(&mut self, name: u32)
-        requires { is_island true name (label_at self.old.acting.labels name) ≡ true }
+    pub fn split<T: TieSource<C>>(&mut self, name: u32, source: &T)
+        requires island { is_island true name (label_at self.old.acting.labels name) ≡ true }
+        requires source { T.ties source.now ≡ self.old.acting.ties }
         ensures acting { self.new.acting ≡ split_at name self.old.acting }
         ensures room { self.new.room ≡ self.old.room }
         ensures slots { self.new.slots ≡ self.old.slots }
     {
         self.work
             .gathering
-            .gather(&self.graph.islands, &self.graph.ties, name);
+            .gather(&self.graph.islands, &self.graph.ties, source, name);
         list_edges(
             &mut self.work.edges,
             &self.graph.islands,
@@ -373,7 +377,8 @@ impl<C: Id> Sets<C> {
 
     /// Puts a mover to sleep with its island, which is split first where it is loose. One that sleeps stays as it is.
     #[tactic(auto, unfolding(crate::specs::Sleeping::slept_at))]
-    pub fn sleep(&mut self, slot: u32)
+    pub fn sleep<T: TieSource<C>>(&mut self, slot: u32, source: &T)
+        requires source { T.ties source.now ≡ self.old.acting.ties }
         ensures acting { self.new.acting ≡ slept_at C.number slot self.old.acting }
         ensures room { self.new.room ≡ self.old.room }
         ensures slots { self.new.slots ≡ self.old.slots }
@@ -382,33 +387,35 @@ impl<C: Id> Sets<C> {
         if let Some(label) = self.label_of(slot)
             && !label.state.is_asleep()
         {
-            self.split_if_loose(label);
-            self.rest_at(slot);
+            self.split_if_loose(label, source);
+            self.rest_at(slot, source);
         }
     }
 
     /// Splits the island of this label, if it is loose.
-    fn split_if_loose(&mut self, label: Label)
-        requires { label_at self.old.acting.labels label.name ≡ Some label }
+    fn split_if_loose<T: TieSource<C>>(&mut self, label: Label, source: &T)
+        requires island { label_at self.old.acting.labels label.name ≡ Some label }
+        requires source { T.ties source.now ≡ self.old.acting.ties }
         ensures acting { self.new.acting ≡ split_if_loose label self.old.acting }
         ensures room { self.new.room ≡ self.old.room }
         ensures slots { self.new.slots ≡ self.old.slots }
     {
         if label.state.is_loose() {
-            self.split(label.name);
+            self.split(label.name, source);
         }
     }
 
     /// Puts the whole island of an awake mover to rest.
-    fn rest_at(&mut self, slot: u32)
-        requires { is_whole (label_at self.old.acting.labels slot) ≡ true }
+    fn rest_at<T: TieSource<C>>(&mut self, slot: u32, source: &T)
+        requires whole { is_whole (label_at self.old.acting.labels slot) ≡ true }
+        requires source { T.ties source.now ≡ self.old.acting.ties }
         ensures acting { self.new.acting ≡ rested_at C.number slot self.old.acting }
         ensures room { self.new.room ≡ self.old.room }
         ensures slots { self.new.slots ≡ self.old.slots }
     {
         self.know_consistent();
         if let Some(label) = self.label_of(slot) {
-            self.put_to_rest(label.name);
+            self.put_to_rest(label.name, source);
         }
     }
 
@@ -417,27 +424,29 @@ impl<C: Id> Sets<C> {
     /// ready where the timers of all its movers are at least `TICKS_TO_SLEEP`; one with a mover that may not sleep is kept
     /// awake by a timer of 0 there. The awake movers' slots are told, and of the timers only theirs matter, so that it takes time by the awake movers and
     /// by the constraints that act.
-    pub fn sleep_phase(&mut self, timers: &[u64], awake: &[u32])
+    pub fn sleep_phase<T: TieSource<C>>(&mut self, timers: &[u64], awake: &[u32], source: &T)
         requires awake { AreAwakeSlots self.old.acting.labels awake.now }
+        requires source { T.ties source.now ≡ self.old.acting.ties }
         ensures acting { (all : List ℕ) → AgreeAwake self.old.acting.labels timers.now all → self.new.acting ≡ sleep_phase C.number all self.old.acting }
         ensures room { self.new.room ≡ self.old.room }
         ensures slots { self.new.slots ≡ self.old.slots }
     {
         self.know_consistent();
-        self.split_ready(timers, awake);
+        self.split_ready(timers, awake, source);
         self.flush();
         self.rest_ready(timers, awake);
     }
 
     /// Splits the loose island that is ready, if there is one.
-    fn split_ready(&mut self, timers: &[u64], awake: &[u32])
+    fn split_ready<T: TieSource<C>>(&mut self, timers: &[u64], awake: &[u32], source: &T)
         requires awake { AreAwakeSlots self.old.acting.labels awake.now }
+        requires source { T.ties source.now ≡ self.old.acting.ties }
         ensures acting { self.new.acting ≡ split_picked (picked_to_split self.old.acting.labels timers.now) self.old.acting }
         ensures room { self.new.room ≡ self.old.room }
         ensures slots { self.new.slots ≡ self.old.slots }
     {
         if let Some(name) = self.pick_split(timers, awake) {
-            self.split(name);
+            self.split(name, source);
         }
     }
 

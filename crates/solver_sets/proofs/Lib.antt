@@ -17,7 +17,3 @@ pub mod CensusLaws
 pub mod ListedOnce
 pub mod EachOnceLaws
 pub mod AmongLaws
-pub mod CompleteAnchorLaws
-pub mod AnchorListLaws
-pub mod AnchoredAtLaws
-pub mod FewerAnchoredLaws

@@ -12,4 +12,3 @@ pub mod Laws
 pub mod Census
 pub mod CensusListing
 pub mod EachOnce
-pub mod Anchors

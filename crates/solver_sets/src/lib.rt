@@ -3,15 +3,8 @@
 //! The constraints of a world, its ties, are its joints by slot and then its touching contacts by key, each with those of its two bodies that are movers
 //! (`Ties.ties_of`). The crate says what each change of bodies, joints and contacts does to them ([`laws`]), so that what is known of ties, islands and colours
 //! in general applies to a world; which movers a change wakes (`Beside`); and which bodies have fallen asleep or woken (`Slept`).
-//!
-//! [`Anchors`] is an index from each static or kinematic body to its contacts with movers, so that a command on such a body costs by
-//! these alone.
 #![tactic(auto)]
 
-mod anchor;
-mod anchor_lists;
-mod anchored_at;
-mod anchors;
 mod begin_and_end;
 mod beside;
 mod census;
@@ -22,7 +15,6 @@ mod slept;
 mod ties;
 mod timers;
 
-pub use anchors::Anchors;
 pub use begin_and_end::{begin_with, end_with};
 pub use beside::list_joined;
 pub use census::{Census, Item, SleepingSet, standing_of_contact, standing_of_joint, take_census};

@@ -5,8 +5,8 @@ use Rattle.box_tree.specs.contracts.boxes.BoxTree as BoxTree
 use Rattle.world_core_base.specs.contracts.body_table.BodyTable as BodyTable
 use Rattle.body_handles.specs.contracts.handles.Handles as Handles
 use Rattle.world_core_base.specs.contracts.joint_table.JointTable as JointTable
-use Rattle.solver_sets.specs.contracts.anchors.Anchors as Anchors
 use Rattle.contacts_base.specs.contracts.split.SplitContacts as SplitContacts
+use Rattle.contacts.specs.contracts.number_book.NumberBook as NumberBook
 use Rattle.contacts.specs.contracts.pending_update.PendingUpdate as PendingUpdate
 use Rattle.contacts.specs.contracts.contact_table.ContactTable as ContactTable
 use Rattle.colour_solver.specs.contracts.colour_rows.Rows as Rows
@@ -41,11 +41,11 @@ split_send = search (crosses, sendable) depth 60 fits 60000
 pending_send : IsSend PendingUpdate.the_row
 pending_send = search (split_send, crosses, sendable) depth 60 fits 60000
 
-contacts_send : IsSend ContactTable.the_row
-contacts_send = search (split_send, pending_send, crosses, sendable) depth 60 fits 60000
+numbers_send : IsSend NumberBook.the_row
+numbers_send = search (crosses, sendable) depth 60 fits 60000
 
-anchors_send : IsSend Anchors.the_row
-anchors_send = search (crosses, sendable) depth 60 fits 60000
+contacts_send : IsSend ContactTable.the_row
+contacts_send = search (split_send, pending_send, numbers_send, crosses, sendable) depth 60 fits 60000
 
 rows_send : IsSend Rows.the_row
 rows_send = search (crosses, sendable) depth 60 fits 60000
@@ -76,4 +76,4 @@ module _ (C : RattleType) (g : Ghosts C.Denot) (s : IsSend C) where
   sets_send = search (list_send, colours_send, islands_send, splits_send, crosses, sendable) depth 60 fits 60000
 
 pub world_send : IsSend World.the_row
-world_send = search (sets_send, constraint_send, table_send, handles_send, joints_send, contacts_send, anchors_send, rows_send, ledger_send, events_send, crosses, sendable) depth 60 fits 60000
+world_send = search (sets_send, constraint_send, table_send, handles_send, joints_send, contacts_send, rows_send, ledger_send, events_send, crosses, sendable) depth 60 fits 60000

@@ -141,6 +141,3 @@ frame_booked f is =
     let w : World = is.world in
     let same : Total = total (book_of w) in
     ap (λ (v : View). v.momentum) is.frame ∙ same_total (record { x = (momentum w.plain.bodies).x; y = (momentum w.plain.bodies).y }) same is.sound.promises.total_x is.sound.promises.total_y ∙ sym (ap (λ (v : View). v.booked) is.frame)
-
-pub frame_shown : (f : View) → IsFrame f → f.booked ≡ f.momentum
-frame_shown f is = sym (frame_booked f is)

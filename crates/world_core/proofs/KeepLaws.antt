@@ -28,7 +28,7 @@ use Rattle.packed_sets.specs.declared.stands.Stand.TheVariants as standing
 use Rattle.plain_world.specs.declared.joint.BodyJoint.{BodyJoint}
 use Rattle.plain_world.specs.Kinds.{is_dynamic}
 use Rattle.solver_sets.specs.Census.{mover_set, set_with, standing_of_joint}
-use Rattle.world_core_base.specs.Stands.{AreNamedAsleep, body_stand, of_mover, set_of, stand_by, stand_in, stand_of, stand_of_joint, stand_with, takes_part}
+use Rattle.world_core_base.specs.Stands.{AreNamedAsleep, body_stand, of_mover, set_of, stand_between, stand_by, stand_in, stand_of, stand_of_joint, stand_with, takes_part}
 use Rattle.world_core_base.specs.Telling.{KeepTogether, asleep_in}
 use Rattle.world_core_base.proofs.StandLaws.{awake_listed, body_below, stand_asleep}
 use Rattle.packed_sets.specs.Stands.{is_listed}
@@ -295,12 +295,14 @@ between_sets : (t : Bool) (s : Stand) → set_of (cond t s standing.Disabled) �
 between_sets true s = refl
 between_sets false s = refl
 
-pub joint_set : (bodies : List (Option Body)) (j : BodyJoint) → set_of (stand_of_joint bodies j) ≡ standing_of_joint bodies j
-joint_set bodies j =
-    let a : Option Body = body_at bodies j.a in
-    let b : Option Body = body_at bodies j.b in
+-- what ties two bodies
+pub two_set : (a b : Option Body) → set_of (stand_between (stand_in a) (stand_in b)) ≡ cond (is_enabled_in a && is_enabled_in b) (set_with (mover_set a) (mover_set b)) sets.Disabled
+two_set a b =
     between_sets (takes_part (stand_in a) && takes_part (stand_in b)) (stand_with (of_mover (stand_in a)) (of_mover (stand_in b)))
     ∙ (λ i. cond (part_in a i && part_in b i) ((with_sets (of_mover (stand_in a)) (of_mover (stand_in b)) ∙ (λ k. set_with (mover_in a k) (mover_in b k))) i) sets.Disabled)
+
+pub joint_set : (bodies : List (Option Body)) (j : BodyJoint) → set_of (stand_of_joint bodies j) ≡ standing_of_joint bodies j
+joint_set bodies j = two_set (body_at bodies j.a) (body_at bodies j.b)
 
 pub joint_set_in : (bodies : List (Option Body)) (o : Option BodyJoint) → option_map set_of (option_map (stand_of_joint bodies) o) ≡ option_map (standing_of_joint bodies) o
 joint_set_in bodies None = refl

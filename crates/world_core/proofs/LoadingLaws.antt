@@ -5,6 +5,7 @@ use Rattle.std.proofs.lemmas.Int.{ints}
 use Rattle.std.proofs.lemmas.List.{length-map}
 use Rattle.std.proofs.lemmas.List.Elements.{All-weaker}
 use Rattle.body_handles.specs.declared.slot_table.SlotEntry.{SlotEntry}
+use Rattle.contacts.specs.declared.number_book.NumberedContact.{NumberedContact}
 use Rattle.contacts.specs.Constraints.{constraint_number}
 use Rattle.contacts.specs.declared.constraint.Constraint.{Constraint}
 use Rattle.contacts.proofs.SurfaceLemmas.{mixed_small}
@@ -38,9 +39,8 @@ use Rattle.world_rules.specs.Settled.{settled_world}
 use Rattle.world_rules.specs.Sets.{acting_of}
 use Rattle.world_rules.specs.Sound.{HasBodies, IsSound}
 use Rattle.world_rules.specs.World.{World, joints_in_slots}
-use Rattle.solver_sets.specs.Anchors.{Anchored, AreComplete}
 use Rattle.packed_sets.specs.Stands.{Standings}
-use Rattle.world_core_base.specs.Stands.{AreJointSets}
+use Rattle.world_core_base.specs.Stands.{AreContactSets, AreJointSets}
 use Rattle.world_core.specs.Inside.{IsWhole, IsWorldCore}
 use Rattle.world_core.proofs.CoreLaws.{core_all}
 
@@ -183,5 +183,6 @@ made_whole p t x sound e =
     subst (λ (w : World). IsWhole w x.acts) (sym (made_same p t x sound e)) acts
 
 -- with all its bodies marked
-pub made_core : (p : Plain) (t : Totals) (x : Parts) (marks : List Bool) → IsSound (settled_world p t) → ArePartsOf p t x → ((slot : ℕ) → slice_index_or marks slot true ≡ true) → (l : Anchored) → AreComplete l.holds l.lists x.acts.ties → (js : Standings) → AreJointSets x.bodies x.joints js → IsWorldCore (world_by x) x.acts marks l js
-made_core p t x marks sound e all l tell js stand = core_all (world_by x) x.acts marks (made_whole p t x sound e) all l tell js stand
+pub made_core : (p : Plain) (t : Totals) (x : Parts) (marks : List Bool) → IsSound (settled_world p t) → ArePartsOf p t x → ((slot : ℕ) → slice_index_or marks slot true ≡ true) → (js : Standings) → AreJointSets x.bodies x.joints js → (numbered : List (Option NumberedContact)) (cs : Standings) → AreContactSets x.bodies numbered cs
+    → IsWorldCore (world_by x) x.acts marks js numbered cs
+made_core p t x marks sound e all js stand numbered cs hold = core_all (world_by x) x.acts marks (made_whole p t x sound e) all js stand numbered cs hold

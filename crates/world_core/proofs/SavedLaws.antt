@@ -46,9 +46,6 @@ world_or w (Err clause) = w
 pub loaded_again : (d : Data) (p : Plain) (t : Totals) (made : World) → read_of d ≡ Ok (p, t) → made ≡ settled_world p t → ComesBack d (Ok made)
 loaded_again d p t made read is = λ w sound small saved. is ∙ ap (world_or w) (sym read ∙ (read_as w d sound small saved).read)
 
-pub none_comes_back : (d : Data) → ComesBack d (Err broken.NoMemory)
-none_comes_back d = λ w sound small saved. refl
-
 refused_for : (due : Result (Plain × Totals) Clause) (r : Plain × Totals) (e : Broken) → due ≡ Ok r → IsRefusedBy due e → e ≡ broken.NoMemory
 refused_for due r broken.NoMemory ok h = refl
 refused_for due r (broken.Clause clause) ok h = cc

@@ -1,12 +1,14 @@
 -- A step's calls, one after another: what each asks for, and that what they leave together is the world that is due.
-use Rattle.std.proofs.Common.{◌≡◌, ℕ, suc, ◌+◌, ◌<◌, ◌≤◌, ◌^◌, ◌++◌, Bool, true, false, cond, All, List, [], ◌∷◌, length, map, take, Option, Result, Ok, Err, ℤ, pos, unsigned_abs, refl, sym, ap, ◌∙◌, subst, arith}
+use Rattle.std.proofs.Common.{◌≡◌, ℕ, zero, suc, ◌+◌, ◌<◌, ◌≤◌, ◌^◌, ◌++◌, Bool, true, false, cond, is_some, All, List, [], ◌∷◌, length, map, take, Option, Some, None, Result, Ok, Err, ℤ, pos, unsigned_abs, refl, sym, ap, ◌∙◌, subst, arith}
 use Rattle.std.specs.Result.{IsErr, IsErrAnd}
+use Rattle.std.proofs.lemmas.List.Elements.{All-contains}
 use Rattle.fixed_geom.specs.Vectors.{plus}
 use Rattle.fixed_geom.specs.declared.vectors.Vec2.{Vec2}
 use Rattle.fixed_geom.specs.declared.refusal.Refusal.{Refusal}
 use Rattle.fixed_geom.specs.declared.refusal.Refusal.TheVariants.{NoMemory, OutOfRange}
 use Rattle.std.specs.List.Sorted.{IsStrictlyIncreasing}
 use Rattle.body_handles.specs.declared.handle.Handle.{Handle}
+use Rattle.body_handles.specs.declared.slot_table.SlotEntry.{SlotEntry}
 use Rattle.body_handles.specs.declared.slot_table.TheConstants.{MAX_SLOTS}
 use Rattle.colour_solver.specs.declared.ticks.StepSums.{StepSums}
 use Rattle.colour_solver.specs.Ticks.{AreSums, Run, added, ran, start}
@@ -29,7 +31,7 @@ use Rattle.plain_world.specs.Joints.{AreJoints}
 use Rattle.plain_world.specs.Sleep.{timed_bodies, told}
 use Rattle.plain_world.specs.InSlots.{AreTimersWithin, HaveSameSlots}
 use Rattle.plain_world.specs.Plain.{Plain}
-use Rattle.plain_world.specs.Slots.{AreMatched}
+use Rattle.plain_world.specs.Slots.{AreMatched, item_at}
 use Rattle.shapes.specs.Shapes.{is_between}
 use Rattle.sleep_wake.specs.Acting.{Acting, IsConsistent}
 use Rattle.sleep_wake.specs.Changes.{after_changes}
@@ -39,18 +41,19 @@ use Rattle.solver_sets.specs.BesideByTies.{ShowMoving}
 use Rattle.solver_sets.specs.Slept.{asleep_only_in}
 use Rattle.solver_sets.specs.SinceTold.{newly_asleep, newly_awake}
 use Rattle.solver_sets.specs.Tied.{AreTied}
-use Rattle.solver_sets.specs.Alike.{AreAlike, ends_in}
+use Rattle.solver_sets.specs.Alike.{AreAlike, HaveSameEnds, ends_in}
 use Rattle.solver_sets.specs.Ties.{JointSlots, key_changes, slots_of, ties_of}
 use Rattle.solver_sets.proofs.MovingLaws.{show_moving}
 use Rattle.solver_sets.proofs.SleptLaws.{told_bodies_tell}
 use Rattle.world_core_base.specs.ConstraintRows.{rows_of}
 use Rattle.world_core_base.specs.Gather.{states_of}
-use Rattle.world_core_base.specs.ContactBodies.{AreContactsOf}
+use Rattle.world_core_base.specs.ContactBodies.{AreContactsOf, IsContactOf}
 use Rattle.world_core_base.specs.Renewal.{renewed_bodies}
 use Rattle.world_core_base.specs.RowColours.{HasItsMovers}
 use Rattle.world_core_base.specs.Solving.{Solving, bodies_of, solve_order, solved}
 use Rattle.world_core_base.proofs.SolvingLaws.{arrays_are_solving}
 use Rattle.world_core.specs.Inside.{IsWhole}
+use Rattle.world_core.specs.WorldTies.{CanTell}
 use Rattle.world_core.proofs.PartLaws.{kept_of}
 use Rattle.world_core.proofs.RisingLaws.{contacts_after_rise}
 use Rattle.world_core.proofs.RowColourLaws.{acting_have_movers}
@@ -274,6 +277,61 @@ tell_solved w n s now before bodies joints found contacts sums is t h =
     let at_contacts : ShowMoving (timed_bodies n bodies) joints contacts (changed_in w).labels (changed_in w).lists =
     subst (λ (es : List ContactEntry). ShowMoving (timed_bodies n bodies) joints es (changed_in w).labels (changed_in w).lists) (sym h.contacts) at_joints in
     subst (λ (a : Acting Constraint). ShowMoving (timed_bodies n bodies) joints contacts a.labels a.lists) (sym t.acting) at_contacts
+
+-- ---- what a source tells once the ticks have passed
+
+-- the ticks change no constraint
+ticked_ties : (w : Plain) (left : List (Option Body)) (js : List (Option BodyJoint)) (es : List ContactEntry) (sums : StepSums) → IsTicked w left js es sums → ties_of left (slots_of w.joint_entries js) es ≡ ties_of w.bodies (joints_in_slots w) w.contacts
+ticked_ties w left js es sums t =
+    alike_bodies_keep_ties w.bodies left (slots_of w.joint_entries js) es t.alike
+    ∙ impulses_keep_ties w.bodies (joints_in_slots w) (slots_of w.joint_entries js) es refl t.ends
+    ∙ same_touching_keep_ties w.bodies (joints_in_slots w) w.contacts es t.touching
+
+collided_ties : (w : World) → (k : IsKept w) → (rises : AreKeysRising (collided_in w).now) → ties_of (collided_world w).plain.bodies (joints_in_slots (collided_world w).plain) (collided_world w).plain.contacts ≡ (changed_in w).ties
+unfolding acting_of
+collided_ties w k rises = ap (λ (a : Acting Constraint). a.ties) (collide_kept w k rises).acting
+
+pub ties_solved : (w : World) (n : ℕ) (s now : Acting Constraint) (before bodies : List (Option Body)) (joints : List (Option BodyJoint)) (found contacts : List ContactEntry) (sums : StepSums) → IsWhole w s → HasChanged w now before found → HasSolved w n bodies joints contacts sums
+    → ties_of bodies (slots_of w.plain.joint_entries joints) contacts ≡ now.ties
+ties_solved w n s now before bodies joints found contacts sums is t h =
+    let q : Solving = solved_in w n in
+    let left : List (Option Body) = renewed_bodies (bodies_of q) in
+    let ticked : ties_of left (slots_of w.plain.joint_entries q.joints) q.contacts ≡ (changed_in w).ties = ticked_ties (collided_world w).plain left q.joints q.contacts q.sums h.ticked ∙ collided_ties w (kept_of w s is) (rises_in w s is) in
+    (λ i. ties_of (h.bodies i) (slots_of w.plain.joint_entries (h.joints i)) (h.contacts i)) ∙ ticked ∙ sym (ap (λ (a : Acting Constraint). a.ties) t.acting)
+
+same_length : (slot_entries : List SlotEntry) (old new : List (Option BodyJoint)) → HaveSameEnds old new → length new ≡ length old
+same_length slot_entries old new same = sym (length-ends new) ∙ ap (λ (l : List (Option (ℕ × ℕ))). length l) same ∙ length-ends old
+
+ends_there : (o : Option BodyJoint) → is_some (ends_in o) ≡ is_some o
+ends_there None = refl
+ends_there (Some j) = refl
+
+ends_at : (joints : List (Option BodyJoint)) (slot : ℕ) → is_some (item_at (map ends_in joints) slot) ≡ is_some (item_at joints slot)
+ends_at [] slot = refl
+ends_at (o ∷ os) zero = ends_there o
+ends_at (o ∷ os) (suc slot) = ends_at os slot
+
+matched_ends : (slot_entries : List SlotEntry) (old new : List (Option BodyJoint)) → HaveSameEnds old new → AreMatched slot_entries old → AreMatched slot_entries new
+matched_ends slot_entries old new same m =
+    let long : length new ≡ length old = same_length slot_entries old new same in
+    record {
+      slots = m.slots ∙ sym long;
+      few = rw long m.few;
+      taken = λ slot. sym (ends_at new slot) ∙ ap (λ (l : List (Option (ℕ × ℕ))). is_some (item_at l slot)) same ∙ ends_at old slot ∙ m.taken slot;
+    }
+
+-- and joints and contacts are still of two bodies each
+pub can_tell_solved : (w : World) (n : ℕ) (s : Acting Constraint) (bodies : List (Option Body)) (joints : List (Option BodyJoint)) (contacts : List ContactEntry) (sums : StepSums) → IsWhole w s → HasSolved w n bodies joints contacts sums → CanTell (slots_of w.plain.joint_entries joints) contacts
+can_tell_solved w n s bodies joints contacts sums is h =
+    let q : Solving = solved_in w n in
+    let k = kept_of w s is in
+    let told : CanTell (slots_of w.plain.joint_entries q.joints) q.contacts = record {
+      slots = record { matched = matched_ends w.plain.joint_entries w.plain.joints q.joints h.ticked.ends k.joint_slots; slot_entries = k.joint_entries };
+      joined = λ slot j at. (h.ticked.joints slot j at).apart;
+      rising = h.ticked.rising;
+      two = λ e there. (All-contains (IsContactOf (collided_world w).plain.bodies) q.contacts e h.ticked.pairs there).apart;
+    } in
+    subst (λ (js : List (Option BodyJoint)). CanTell (slots_of w.plain.joint_entries js) contacts) (sym h.joints) (subst (λ (es : List ContactEntry). CanTell (slots_of w.plain.joint_entries q.joints) es) (sym h.contacts) told)
 
 slept_is : (w : World) (n : ℕ) (labels : Labels) (js : List (Option BodyJoint)) (es : List ContactEntry) (sums : StepSums) → IsKept w → AreKeysRising (collided_in w).now → IsTicked (collided_world w).plain (renewed_bodies (bodies_of (solved_in w n))) js es sums
     → newly_asleep w.plain.slot_entries (bodies_ticked n (solved_in w n)) labels ≡ asleep_only_in w.plain.slot_entries (changed_in w).labels labels

@@ -1,7 +1,7 @@
 -- The world that the fields of a `WorldCore` show, and what is kept of them.
 use Rattle.std.specs.Prelude.{◌≡◌, Bool, List, Option}
-use Rattle.solver_sets.specs.Anchors.{Anchored, AreComplete}
 use Rattle.contacts.specs.declared.constraint.Constraint.{Constraint}
+use Rattle.contacts.specs.declared.number_book.NumberedContact.{NumberedContact}
 use Rattle.contacts.specs.Known.{IsKnown}
 use Rattle.contacts.specs.Fates.{moved_by}
 use Rattle.contacts_base.specs.declared.contact.ContactEntry.{ContactEntry}
@@ -12,7 +12,7 @@ use Rattle.plain_world.specs.Joints.{forbidden_pairs}
 use Rattle.sleep_wake.specs.Acting.{Acting}
 use Rattle.world_core.specs.declared.world.WorldCore.TheInside.{Inside}
 use Rattle.packed_sets.specs.Stands.{Standings}
-use Rattle.world_core_base.specs.Stands.{AreJointSets}
+use Rattle.world_core_base.specs.Stands.{AreContactSets, AreJointSets}
 use Rattle.world_rules.specs.Collide.{proxies_of}
 use Rattle.world_rules.specs.Sets.{acting_of}
 use Rattle.world_rules.specs.Sound.{IsSound}
@@ -35,10 +35,10 @@ pub record IsWhole (w : World) (acting : Acting Constraint) : Type 0 where
 abbrev pub AreKnown : List Bool → List (Option Body) → List (Option BodyJoint) → List ContactEntry → Type 0
 AreKnown marks bodies joints contacts = IsKnown (moved_by marks) (forbidden_pairs joints) (proxies_of bodies) contacts
 
--- what the fields of a `WorldCore` hold: the world is whole, its contacts tell all that isn't marked, and the lists of the bodies that are no movers,
--- where they hold, have all of their contacts; and the sets of the joints have each where it stands by its bodies
-pub record IsWorldCore (w : World) (acting : Acting Constraint) (marks : List Bool) (anchors : Anchored) (stands : Standings) : Type 0 where
+-- what the fields of a `WorldCore` hold: the world is whole, and its contacts tell all that isn't marked; the sets of the joints have each where it stands by
+-- its bodies, by slot, and those of the contacts each by its number
+pub record IsWorldCore (w : World) (acting : Acting Constraint) (marks : List Bool) (stands : Standings) (numbered : List (Option NumberedContact)) (contact_stands : Standings) : Type 0 where
   pub whole : IsWhole w acting
   pub known : AreKnown marks w.plain.bodies w.plain.joints w.plain.contacts
-  pub anchored : AreComplete anchors.holds anchors.lists acting.ties
   pub standing : AreJointSets w.plain.bodies w.plain.joints stands
+  pub contacts_standing : AreContactSets w.plain.bodies numbered contact_stands

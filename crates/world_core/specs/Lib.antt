@@ -9,3 +9,4 @@ pub mod Stirring
 pub mod Trees
 pub mod SavedAgain
 pub mod Grown
+pub mod WorldTies

@@ -207,6 +207,7 @@ pub(crate) fn collide(
     requires flushed { bodies.now.pending ≡ 0 }
     requires known { AreKnown bodies.now.marks bodies.now.bodies joints.now.joints contacts.old.contacts }
     ensures contacts { contacts.new.contacts ≡ contacts.old.contacts }
+    ensures numbered { contacts.new.numbered ≡ contacts.old.numbered }
     ensures pending { OnOk result (contacts.new.pending ≡ contacts_after bodies.now.bodies joints.now.joints contacts.old.contacts) }
     ensures begin { IfOk result (λ touches. touches.begin.items ≡ keys_touching_only_in contacts.old.contacts (contacts_after bodies.now.bodies joints.now.joints contacts.old.contacts)) }
     ensures end { IfOk result (λ touches. touches.end.items ≡ keys_touching_only_in (contacts_after bodies.now.bodies joints.now.joints contacts.old.contacts) contacts.old.contacts) }

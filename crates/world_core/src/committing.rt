@@ -2,37 +2,42 @@
 
 ghost use Rattle.std.specs.Prelude.{◌≡◌, ◌≤◌, ◌+◌, false, length, replicate, vec_capacity};
 ghost use Rattle.std.specs.List.Sorted.{IsStrictlyIncreasing};
-ghost use Rattle.solver_sets.specs.Anchors.{AreComplete};
 ghost use Rattle.contacts.specs.Constraints.{constraint_number};
-ghost use Rattle.contacts.specs.declared.constraint.Constraint.{Constraint as TheConstraint};
 ghost use Rattle.plain_world.specs.Bodies.{AreBodies};
 ghost use Rattle.plain_world.specs.Sleep.{told};
-ghost use Rattle.sleep_wake.specs.Acting.{Acting, IsConsistent};
+ghost use Rattle.sleep_wake.specs.Acting.{IsConsistent};
 ghost use Rattle.sleep_wake.specs.Changes.{after_changes};
 ghost use Rattle.sleep_wake.specs.ChangeLists.{AreChanges, begin_count};
 ghost use Rattle.solver_sets.specs.SinceTold.{newly_awake};
 ghost use Rattle.world_core.specs.Waking.{HasSleepers, OfAll};
 ghost use Rattle.world_core_base.specs.Marked.{AreMarked, AreMarkedIn};
-ghost use Rattle.world_core_base.specs.Stands.{AreJointSets};
+ghost use Rattle.world_core_base.specs.Stands.{AreContactSets, AreJointSets};
+ghost use Rattle.world_core_base.specs.Turned.{AreTurned};
 ghost use Rattle.world_rules.specs.Sound.{AreTold};
+ghost use Rattle.solver_sets.specs.Ties.{slots_of, ties_of};
+ghost use Rattle.world_core.specs.WorldTies.{CanTell};
 
 use crate::preparing::Prepared;
 use crate::telling::tell_movers;
+use crate::world_ties::WorldTies;
 use body_handles::{Handle, MAX_SLOTS, SlotEntry};
 use contacts::{Constraint, ContactTable};
 use packed_sets::SolverSets;
 use sleep_wake::{Change, Sets};
-use solver_sets::{Anchors, fill_newly_awake};
-use world_core_base::{BodyTable, JointTable};
+use solver_sets::fill_newly_awake;
+use world_core_base::{BodyTable, JointTable, renew_contact_stands};
 
-/// Lets constraints begin and end, one after another, flushes the colours, lists who has woken by that, tells those, whose joints follow, and flushes
+/// Lets constraints begin and end, one after another, flushes the colours, lists who has woken by that, tells those, whose joints and contacts follow, and flushes
 /// the bodies. All bodies had been told before. Those who wake are among the slots `asleep`, so that it takes time by these and by what begins and
 /// ends. It takes no memory.
 fn apply_all_changes(
     sets: &mut Sets<Constraint>,
     bodies: &mut BodyTable,
+    joint_entries: &[SlotEntry],
     joints: &JointTable,
     stands: &mut SolverSets,
+    contacts: &ContactTable,
+    contact_stands: &mut SolverSets,
     woke: &mut Vec<Handle>,
     slot_entries: &[SlotEntry],
     changes: &[Change<Constraint>],
@@ -45,6 +50,9 @@ fn apply_all_changes(
     requires bodies { AreBodies bodies.old.bodies }
     requires told { AreTold bodies.old.bodies sets.old.acting.labels }
     requires standing { AreJointSets bodies.old.bodies joints.now.joints stands.old }
+    requires contacts_standing { AreContactSets bodies.old.bodies contacts.now.numbered contact_stands.old }
+    requires can_tell { CanTell (slots_of joint_entries.now joints.now.joints) contacts.now.contacts }
+    requires ties { ties_of bodies.old.bodies (slots_of joint_entries.now joints.now.joints) contacts.now.contacts ≡ sets.old.acting.ties }
     requires sleepers { OfAll (HasSleepers sets.old.acting.labels asleep.now) changes.now }
     requires rising { IsStrictlyIncreasing asleep.now }
     requires woke { length asleep.now ≤ vec_capacity woke.old }
@@ -55,20 +63,31 @@ fn apply_all_changes(
     ensures bodies_flushed { bodies.new.pending ≡ 0 }
     ensures marked { AreMarked bodies.old bodies.new }
     ensures standing { AreJointSets bodies.new.bodies joints.now.joints stands.new }
+    ensures contacts_standing { AreContactSets bodies.new.bodies contacts.now.numbered contact_stands.new }
+    ensures contact_items { length contact_stands.new.stands ≡ length contact_stands.old.stands }
 {
-    sets.apply_changes(changes);
+    let ties = WorldTies {
+        bodies: bodies.bodies(),
+        joint_entries,
+        joints,
+        joint_sets: stands,
+        contacts,
+        contact_sets: contact_stands,
+    };
+    sets.know_told(&ties);
+    sets.apply_changes(changes, &ties);
     sets.flush();
     fill_newly_awake(woke, slot_entries, bodies.bodies(), sets.islands(), asleep);
-    let _ = tell_movers(bodies, joints, stands, asleep, sets);
+    let _ = tell_movers(
+        bodies,
+        joints,
+        stands,
+        contacts,
+        contact_stands,
+        asleep,
+        sets,
+    );
     bodies.flush();
-}
-
-/// Lists what began at its anchor, now that the changes had their turn. It is refused no memory.
-fn renew_anchors(anchors: &mut Anchors, sets: &Sets<Constraint>, changes: &[Change<Constraint>])
-    ensures complete { (s : Acting TheConstraint) → sets.now.acting ≡ after_changes constraint_number changes.now s → AreComplete anchors.old.holds anchors.old.lists s.ties → AreComplete anchors.new.holds anchors.new.lists sets.now.acting.ties }
-{
-    anchors.add_each(changes);
-    anchors.renew(sets);
 }
 
 /// Carries out what the collide found: the contacts become what is pending, the constraints begin and end, and who wakes by that is told so. Nothing
@@ -76,10 +95,11 @@ fn renew_anchors(anchors: &mut Anchors, sets: &Sets<Constraint>, changes: &[Chan
 pub(crate) fn carry_out(
     contacts: &mut ContactTable,
     bodies: &mut BodyTable,
+    joint_entries: &[SlotEntry],
     joints: &JointTable,
     stands: &mut SolverSets,
+    contact_stands: &mut SolverSets,
     sets: &mut Sets<Constraint>,
-    anchors: &mut Anchors,
     woke: &mut Vec<Handle>,
     slot_entries: &[SlotEntry],
     prepared: &Prepared,
@@ -91,6 +111,11 @@ pub(crate) fn carry_out(
     requires bodies { AreBodies bodies.old.bodies }
     requires told { AreTold bodies.old.bodies sets.old.acting.labels }
     requires standing { AreJointSets bodies.old.bodies joints.now.joints stands.old }
+    requires contacts_standing { AreContactSets bodies.old.bodies contacts.old.numbered contact_stands.old }
+    requires can_tell { CanTell (slots_of joint_entries.now joints.now.joints) contacts.old.contacts }
+    requires ties { ties_of bodies.old.bodies (slots_of joint_entries.now joints.now.joints) contacts.old.contacts ≡ sets.old.acting.ties }
+    requires turned { AreTurned (told (after_changes constraint_number prepared.now.changes.items sets.old.acting).labels bodies.old.bodies) contacts.old.contacts contacts.old.pending }
+    requires numbers { contacts.old.bound ≤ length contact_stands.old.stands }
     requires sleepers { OfAll (HasSleepers sets.old.acting.labels prepared.now.asleep.items) prepared.now.changes.items }
     requires rising { IsStrictlyIncreasing prepared.now.asleep.items }
     requires woke { length prepared.now.asleep.items ≤ vec_capacity woke.old }
@@ -101,20 +126,26 @@ pub(crate) fn carry_out(
     ensures colours_flushed { sets.new.pending ≡ 0 }
     ensures bodies_flushed { bodies.new.pending ≡ 0 }
     ensures marked { AreMarkedIn bodies.old.bodies (replicate (length bodies.old.marks) false) bodies.new.bodies bodies.new.marks }
-    ensures anchored { AreComplete anchors.old.holds anchors.old.lists sets.old.acting.ties → AreComplete anchors.new.holds anchors.new.lists sets.new.acting.ties }
     ensures standing { AreJointSets bodies.new.bodies joints.now.joints stands.new }
+    ensures contacts_standing { AreContactSets bodies.new.bodies contacts.new.numbered contact_stands.new }
 {
-    contacts.carry_out();
     bodies.clear_marks();
     apply_all_changes(
         sets,
         bodies,
+        joint_entries,
         joints,
         stands,
+        contacts,
+        contact_stands,
         woke,
         slot_entries,
         &prepared.changes,
         &prepared.asleep,
     );
-    renew_anchors(anchors, sets, &prepared.changes);
+    sets.know_consistent();
+    contacts.know_numbered();
+    contacts.carry_out();
+    contacts.know_numbered();
+    renew_contact_stands(contact_stands, bodies, contacts);
 }

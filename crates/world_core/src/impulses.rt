@@ -58,7 +58,8 @@ fn place_at(contact_places: &[usize], index: usize) -> usize {
 
 /// Gives each contact the impulses that the step has left it. It is looked for at the place that is noted for its row first.
 fn put_contact_impulses(contacts: &mut ContactTable, rows: &[ContactRow], contact_places: &[usize])
-    ensures { contacts.new.contacts ≡ with_rows contacts.old.contacts rows.now }
+    ensures contacts { contacts.new.contacts ≡ with_rows contacts.old.contacts rows.now }
+    ensures numbered { contacts.new.numbered ≡ contacts.old.numbered }
 {
     for index in 0..rows.len() {
         let row = &rows[index];
@@ -83,6 +84,7 @@ pub(crate) fn put_impulses(
     ensures value { contacts.new.contacts ≡ with_rows contacts.old.contacts (contacts_among (all_rows rows.now)) }
     ensures all_joints { (bodies : List (Option Body)) (n : ℕ) → AreRowsBelow n (all_rows rows.now) → AreJoints bodies joints.old.joints → AreJoints bodies joints.new.joints }
     ensures contacts { (bodies : List (Option Body)) (n : ℕ) → AreRowsBelow n (all_rows rows.now) → AreContactsOf bodies contacts.old.contacts → AreContactsOf bodies contacts.new.contacts }
+    ensures numbered { contacts.new.numbered ≡ contacts.old.numbered }
 {
     put_joint_impulses(joints, rows.joints());
     put_contact_impulses(contacts, rows.contacts(), contact_places);

@@ -3,8 +3,8 @@
 
 mod booking;
 mod collide;
+mod colour_ids;
 mod committing;
-mod copied_parts;
 mod frame;
 mod impulses;
 mod joining;
@@ -12,8 +12,9 @@ mod kept_awake;
 mod laws;
 mod list_to_wake;
 mod membership;
+mod own_contacts;
 mod own_joints;
-mod plain_parts;
+mod parts;
 mod preparing;
 mod pushes;
 mod queries;
@@ -25,6 +26,7 @@ mod solving;
 mod telling;
 mod wake_and_sleep;
 mod world;
+mod world_ties;
 
 pub use body_handles::{Handle, SlotEntry};
 pub use colour_solver::{OneThread, StepSolver};

@@ -59,6 +59,7 @@ pub(crate) fn prepare(
     ensures bodies { bodies.new.bodies ≡ bodies.old.bodies }
     ensures marks { bodies.new.marks ≡ bodies.old.marks }
     ensures contacts { contacts.new.contacts ≡ contacts.old.contacts }
+    ensures numbered { contacts.new.numbered ≡ contacts.old.numbered }
     ensures acting { sets.new.acting ≡ sets.old.acting }
     ensures pending { OnOk result (contacts.new.pending ≡ contacts_after bodies.old.bodies joints.now.joints contacts.old.contacts) }
     ensures begin { IfOk result (λ prepared. prepared.touches.begin.items ≡ keys_touching_only_in contacts.old.contacts (contacts_after bodies.old.bodies joints.now.joints contacts.old.contacts)) }

@@ -2,7 +2,6 @@
 
 ghost use Rattle.std.specs.Prelude.{◌≡◌, ◌≤◌, ◌^◌, length, vec_capacity};
 ghost use Rattle.contacts.specs.Constraints.{constraint_number};
-ghost use Rattle.contacts_base.specs.Split.{contacts_in};
 ghost use Rattle.momenta.specs.Gains.{IsGain};
 ghost use Rattle.colour_solver.specs.States.{as_vector};
 ghost use Rattle.plain_world.specs.Bodies.{AreBodies};
@@ -13,16 +12,18 @@ ghost use Rattle.solver_sets.specs.BesideByTies.{ShowMoving};
 ghost use Rattle.solver_sets.specs.SinceTold.{newly_asleep};
 ghost use Rattle.solver_sets.specs.Tied.{AreTied};
 ghost use Rattle.world_core_base.specs.Marked.{AreMarked};
-ghost use Rattle.world_core_base.specs.Stands.{AreJointSets};
+ghost use Rattle.world_core_base.specs.Stands.{AreContactSets, AreJointSets};
 ghost use Rattle.world_rules.specs.Apply.{gained, rested_acting};
 ghost use Rattle.world_rules.specs.Sound.{AreTold};
+ghost use Rattle.solver_sets.specs.Ties.{slots_of, ties_of};
+ghost use Rattle.world_core.specs.WorldTies.{CanTell};
 
 use crate::scratch::{Scratch, fill_slots};
 use crate::sleep_test::are_kept_up;
 use crate::telling::tell_movers;
+use crate::world_ties::WorldTies;
 use body_handles::{MAX_SLOTS, SlotEntry};
-use contacts::Constraint;
-use contacts_base::SplitContacts;
+use contacts::{Constraint, ContactTable};
 use momenta::{Gain, NOTHING};
 use packed_sets::SolverSets;
 use sleep_wake::Sets;
@@ -30,16 +31,18 @@ use solver_sets::{fill_awake_timers, fill_newly_asleep};
 use world_core_base::{BodyTable, JointTable};
 
 /// Lets so many ticks pass for the timers, puts the islands to rest that are ready, lists who has fallen asleep by that, and tells
-/// those. Their joints follow. All bodies had been told before. Answers what the movers' momentum gains, since those that fall asleep
+/// those. Their joints and contacts follow. All bodies had been told before. Answers what the movers' momentum gains, since those that fall asleep
 /// lose theirs. Where few fall asleep, it takes time by the awake movers alone. Takes no memory.
 pub(crate) fn rest_ready(
     bodies: &mut BodyTable,
+    joint_entries: &[SlotEntry],
     joints: &JointTable,
     stands: &mut SolverSets,
+    contact_stands: &mut SolverSets,
     sets: &mut Sets<Constraint>,
     scratch: &mut Scratch,
     slot_entries: &[SlotEntry],
-    contacts: &SplitContacts,
+    contacts: &ContactTable,
     ticks: u64,
 ) -> Gain
     requires few_bodies { length bodies.old.bodies ≤ MAX_SLOTS }
@@ -48,17 +51,20 @@ pub(crate) fn rest_ready(
     requires tied { AreTied bodies.old.bodies sets.old.acting.labels }
     requires told { AreTold bodies.old.bodies sets.old.acting.labels }
     requires standing { AreJointSets bodies.old.bodies joints.now.joints stands.old }
+    requires contacts_standing { AreContactSets bodies.old.bodies contacts.now.numbered contact_stands.old }
+    requires can_tell { CanTell (slots_of joint_entries.now joints.now.joints) contacts.now.contacts }
+    requires ties { ties_of bodies.old.bodies (slots_of joint_entries.now joints.now.joints) contacts.now.contacts ≡ sets.old.acting.ties }
     requires consistent { IsConsistent constraint_number sets.old.acting }
     requires colours_flushed { sets.old.pending ≡ 0 }
     requires bodies_flushed { bodies.old.pending ≡ 0 }
-    requires tells { ShowMoving (timed_bodies ticks bodies.old.bodies) joints.now.joints (contacts_in contacts.now) sets.old.acting.labels sets.old.acting.lists }
+    requires tells { ShowMoving (timed_bodies ticks bodies.old.bodies) joints.now.joints contacts.now.contacts sets.old.acting.labels sets.old.acting.lists }
     requires slot_entries { length bodies.old.bodies ≤ length slot_entries.now }
     requires ticks { ticks ≤ 8 }
     requires timers { length bodies.old.bodies ≤ vec_capacity scratch.old.timers }
     requires awake_flags { length bodies.old.bodies ≤ vec_capacity scratch.old.awake_flags }
     requires slept { length bodies.old.bodies ≤ vec_capacity scratch.old.slept }
     requires slots { length slot_entries.now ≤ vec_capacity scratch.old.slots }
-    ensures acting { sets.new.acting ≡ rested_acting (timed_bodies ticks bodies.old.bodies) joints.now.joints (contacts_in contacts.now) sets.old.acting }
+    ensures acting { sets.new.acting ≡ rested_acting (timed_bodies ticks bodies.old.bodies) joints.now.joints contacts.now.contacts sets.old.acting }
     ensures bodies { bodies.new.bodies ≡ told sets.new.acting.labels (timed_bodies ticks bodies.old.bodies) }
     ensures slept { scratch.new.slept.items ≡ newly_asleep slot_entries.now (timed_bodies ticks bodies.old.bodies) sets.new.acting.labels }
     ensures woke { scratch.new.woke ≡ scratch.old.woke }
@@ -66,6 +72,7 @@ pub(crate) fn rest_ready(
     ensures small { IsGain (2 ^ 78) result }
     ensures marked { AreMarked bodies.old bodies.new }
     ensures standing { AreJointSets bodies.new.bodies joints.now.joints stands.new }
+    ensures contacts_standing { AreContactSets bodies.new.bodies contacts.now.numbered contact_stands.new }
 {
     bodies.time(ticks);
     let quiet = are_kept_up(
@@ -74,7 +81,7 @@ pub(crate) fn rest_ready(
         bodies.bodies(),
         bodies.awake(),
         joints.joints(),
-        contacts,
+        contacts.split(),
         sets.colours(),
     );
     if quiet {
@@ -88,7 +95,18 @@ pub(crate) fn rest_ready(
         joints.joints(),
         sets.colours(),
     );
-    sets.sleep_phase(&scratch.timers, bodies.awake());
+    sets.sleep_phase(
+        &scratch.timers,
+        bodies.awake(),
+        &WorldTies {
+            bodies: bodies.bodies(),
+            joint_entries,
+            joints,
+            joint_sets: stands,
+            contacts,
+            contact_sets: contact_stands,
+        },
+    );
     fill_newly_asleep(
         &mut scratch.slept,
         slot_entries,
@@ -97,5 +115,13 @@ pub(crate) fn rest_ready(
         bodies.awake(),
     );
     fill_slots(&mut scratch.slots, &scratch.slept);
-    tell_movers(bodies, joints, stands, &scratch.slots, sets)
+    tell_movers(
+        bodies,
+        joints,
+        stands,
+        contacts,
+        contact_stands,
+        &scratch.slots,
+        sets,
+    )
 }

@@ -76,6 +76,7 @@ pub(crate) fn solve<S: StepSolver>(
     ensures bodies { bodies.new.bodies ≡ renewed_bodies (bodies_of (solved ticks gravity (solve_order (ids_of colours.now.lists)) bodies.old.bodies joints.old.joints contacts.old.contacts)) }
     ensures joints { joints.new.joints ≡ (solved ticks gravity (solve_order (ids_of colours.now.lists)) bodies.old.bodies joints.old.joints contacts.old.contacts).joints }
     ensures contacts { contacts.new.contacts ≡ (solved ticks gravity (solve_order (ids_of colours.now.lists)) bodies.old.bodies joints.old.joints contacts.old.contacts).contacts }
+    ensures numbered { contacts.new.numbered ≡ contacts.old.numbered }
     ensures sums { result ≡ (solved ticks gravity (solve_order (ids_of colours.now.lists)) bodies.old.bodies joints.old.joints contacts.old.contacts).sums }
     ensures all_bodies { AreBodies bodies.new.bodies }
     ensures slots { HaveSameSlots bodies.old.bodies bodies.new.bodies }

@@ -13,11 +13,14 @@ ghost use Rattle.sleep_wake.specs.Acting.{IsConsistent, is_mover_awake};
 ghost use Rattle.sleep_wake.specs.Sleeping.{islands_woken, sleeping_names, slept_at};
 ghost use Rattle.world_core.specs.Waking.{HasIsland, HasIslands, IsExtended};
 ghost use Rattle.world_core_base.specs.Marked.{AreMarked};
-ghost use Rattle.world_core_base.specs.Stands.{AreJointSets};
+ghost use Rattle.world_core_base.specs.Stands.{AreContactSets, AreJointSets};
+ghost use Rattle.solver_sets.specs.Ties.{slots_of, ties_of};
+ghost use Rattle.world_core.specs.WorldTies.{CanTell};
 
 use crate::telling::tell_movers;
-use body_handles::MAX_SLOTS;
-use contacts::Constraint;
+use crate::world_ties::WorldTies;
+use body_handles::{MAX_SLOTS, SlotEntry};
+use contacts::{Constraint, ContactTable};
 use fixed_geom::Refusal;
 use momenta::Gain;
 use packed_sets::SolverSets;
@@ -95,13 +98,16 @@ pub(crate) fn plan_waking(
     Ok(Waking { names, movers })
 }
 
-/// Wakes the islands that are to wake, and tells their movers, whose joints follow. All bodies had been told before. Where there are
+/// Wakes the islands that are to wake, and tells their movers, whose joints and contacts follow. All bodies had been told before. Where there are
 /// none, it takes no time.
 pub(crate) fn wake_planned(
     sets: &mut Sets<Constraint>,
     bodies: &mut BodyTable,
+    joint_entries: &[SlotEntry],
     joints: &JointTable,
     stands: &mut SolverSets,
+    contacts: &ContactTable,
+    contact_stands: &mut SolverSets,
     waking: &Waking,
 )
     requires movers { HasIslands sets.old.acting.labels waking.now.names.items waking.now.movers.items }
@@ -109,6 +115,9 @@ pub(crate) fn wake_planned(
     requires bodies { AreBodies bodies.old.bodies }
     requires told { told sets.old.acting.labels bodies.old.bodies ≡ bodies.old.bodies }
     requires standing { AreJointSets bodies.old.bodies joints.now.joints stands.old }
+    requires contacts_standing { AreContactSets bodies.old.bodies contacts.now.numbered contact_stands.old }
+    requires can_tell { CanTell (slots_of joint_entries.now joints.now.joints) contacts.now.contacts }
+    requires ties { ties_of bodies.old.bodies (slots_of joint_entries.now joints.now.joints) contacts.now.contacts ≡ sets.old.acting.ties }
     ensures acting { sets.new.acting ≡ islands_woken constraint_number waking.now.names.items sets.old.acting }
     ensures told { bodies.new.bodies ≡ told sets.new.acting.labels bodies.old.bodies }
     ensures count { length bodies.new.bodies ≡ length bodies.old.bodies }
@@ -117,23 +126,45 @@ pub(crate) fn wake_planned(
     ensures slots { sets.new.slots ≡ sets.old.slots }
     ensures marked { AreMarked bodies.old bodies.new }
     ensures standing { AreJointSets bodies.new.bodies joints.now.joints stands.new }
+    ensures contacts_standing { AreContactSets bodies.new.bodies contacts.now.numbered contact_stands.new }
     ensures items { length stands.new.stands ≡ length stands.old.stands }
 {
     if waking.names.is_empty() {
         return;
     }
-    sets.wake_named(&waking.names);
-    let _ = tell_movers(bodies, joints, stands, &waking.movers, sets);
+    sets.know_consistent();
+    let ties = WorldTies {
+        bodies: bodies.bodies(),
+        joint_entries,
+        joints,
+        joint_sets: stands,
+        contacts,
+        contact_sets: contact_stands,
+    };
+    sets.know_told(&ties);
+    sets.wake_named(&waking.names, &ties);
+    let _ = tell_movers(
+        bodies,
+        joints,
+        stands,
+        contacts,
+        contact_stands,
+        &waking.movers,
+        sets,
+    );
 }
 
 /// Puts the mover in a slot to sleep with its island, and tells the movers of the island in which it was, which are listed where it is
-/// awake. Their joints follow. All bodies had been told before. Answers what the movers' momentum gains. Where the mover sleeps already,
+/// awake. Their joints and contacts follow. All bodies had been told before. Answers what the movers' momentum gains. Where the mover sleeps already,
 /// it takes no time.
 pub(crate) fn put_to_sleep(
     sets: &mut Sets<Constraint>,
     bodies: &mut BodyTable,
+    joint_entries: &[SlotEntry],
     joints: &JointTable,
     stands: &mut SolverSets,
+    contacts: &ContactTable,
+    contact_stands: &mut SolverSets,
     slot: u32,
     movers: &[u32],
 ) -> Gain
@@ -143,6 +174,9 @@ pub(crate) fn put_to_sleep(
     requires bodies { AreBodies bodies.old.bodies }
     requires told { told sets.old.acting.labels bodies.old.bodies ≡ bodies.old.bodies }
     requires standing { AreJointSets bodies.old.bodies joints.now.joints stands.old }
+    requires contacts_standing { AreContactSets bodies.old.bodies contacts.now.numbered contact_stands.old }
+    requires can_tell { CanTell (slots_of joint_entries.now joints.now.joints) contacts.now.contacts }
+    requires ties { ties_of bodies.old.bodies (slots_of joint_entries.now joints.now.joints) contacts.now.contacts ≡ sets.old.acting.ties }
     ensures acting { sets.new.acting ≡ slept_at constraint_number slot sets.old.acting }
     ensures told { bodies.new.bodies ≡ told sets.new.acting.labels bodies.old.bodies }
     ensures count { length bodies.new.bodies ≡ length bodies.old.bodies }
@@ -153,10 +187,29 @@ pub(crate) fn put_to_sleep(
     ensures slots { sets.new.slots ≡ sets.old.slots }
     ensures marked { AreMarked bodies.old bodies.new }
     ensures standing { AreJointSets bodies.new.bodies joints.now.joints stands.new }
+    ensures contacts_standing { AreContactSets bodies.new.bodies contacts.now.numbered contact_stands.new }
 {
     if !sets.is_awake(slot) {
         return Gain { x: 0, y: 0 };
     }
-    sets.sleep(slot);
-    tell_movers(bodies, joints, stands, movers, sets)
+    sets.sleep(
+        slot,
+        &WorldTies {
+            bodies: bodies.bodies(),
+            joint_entries,
+            joints,
+            joint_sets: stands,
+            contacts,
+            contact_sets: contact_stands,
+        },
+    );
+    tell_movers(
+        bodies,
+        joints,
+        stands,
+        contacts,
+        contact_stands,
+        movers,
+        sets,
+    )
 }

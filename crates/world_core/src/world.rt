@@ -24,9 +24,9 @@ ghost use Rattle.world_core.specs.Trees.{HoldsEnabled};
 ghost use Rattle.world_rules.specs.Sound.{IsSound};
 ghost use Rattle.world_rules.specs.Apply.{Answers, IsMade, empty_world, gravity_refusal, apply};
 
-use crate::copied_parts::{copy_body_parts, copy_constraint_parts, copy_joint_parts, copy_records};
+use crate::colour_ids::copy_ids;
 use crate::frame::{Frame, show_bodies};
-use crate::plain_parts::copy_ids;
+use crate::parts::{copy_body_parts, copy_constraint_parts, copy_joint_parts, copy_records};
 use crate::scratch::Scratch;
 use body_handles::{Handle, Handles, SlotEntry};
 use box_tree::BoxTree;
@@ -39,11 +39,11 @@ use impulse_ledger::Ledger;
 use packed_sets::SolverSets;
 use plain_world::{Body, BodyView, Plain, body_of, copy_bodies};
 use sleep_wake::Sets;
-use solver_sets::{Anchors, Census, take_census};
+use solver_sets::{Census, take_census};
 use std::alloc::Global;
 use std::marker::Model;
 pub use steps::is_tick_count;
-use world_core_base::{BodyTable, JointTable};
+use world_core_base::{BodyTable, JointTable, list_contact_stands};
 use world_rules::{Command, MAX_CALLS, Reply};
 
 /// The greatest size of a component of gravity, in u/tick².
@@ -60,8 +60,6 @@ pub struct WorldCore {
     contacts: ContactTable,
     // The constraints, the islands of their movers, and the colours of those that act.
     sets: Sets<Constraint>,
-    // Of the constraints the contacts of each body that is no mover.
-    anchors: Anchors,
     // The rows of a step by colour, and their memory, which is kept from step to step.
     rows: Rows,
     // Lists that a step fills, whose memory is kept from step to step.
@@ -73,6 +71,8 @@ pub struct WorldCore {
     events: Events,
     // Each joint where it stands by its bodies, by slot. The table of bodies has those of the bodies.
     joint_sets: SolverSets,
+    // Each contact where it stands by its bodies, by number.
+    contact_sets: SolverSets,
 }
 
 impl Model for WorldCore {
@@ -84,7 +84,7 @@ impl Model for WorldCore {
 
     ghost view = { λ a. world_of a };
 
-    ghost invariant = { λ a. IsWorldCore (world_of a) a.sets.acting a.bodies.marks a.anchors a.joint_sets };
+    ghost invariant = { λ a. IsWorldCore (world_of a) a.sets.acting a.bodies.marks a.joint_sets a.contacts.numbered a.contact_sets };
 }
 
 impl WorldCore {
@@ -104,7 +104,6 @@ impl WorldCore {
             joints: JointTable::new(alloc),
             contacts: ContactTable::new(alloc),
             sets: Sets::new(alloc)?,
-            anchors: Anchors::new(alloc),
             rows: Rows::new(alloc),
             scratch: Scratch::new(alloc),
             gravity,
@@ -113,6 +112,7 @@ impl WorldCore {
             ledger: Ledger::new(alloc),
             events: Events::new(alloc),
             joint_sets: SolverSets::new(alloc),
+            contact_sets: SolverSets::new(alloc),
         })
     }
 
@@ -126,6 +126,8 @@ impl WorldCore {
         let joints = copy_joint_parts(&self.joint_handles, &self.joints, &self.joint_sets)?;
         let bodies = copy_body_parts(&self.handles, &self.bodies)?;
         let constraints = copy_constraint_parts(&self.contacts, &self.sets, alloc)?;
+        // The copy numbers its contacts anew, so that their sets are listed and not copied.
+        let contact_sets = list_contact_stands(alloc, &self.bodies, &constraints.contacts)?;
         Ok(WorldCore {
             handles: bodies.handles,
             bodies: bodies.table,
@@ -133,7 +135,6 @@ impl WorldCore {
             joints: joints.table,
             contacts: constraints.contacts,
             sets: constraints.sets,
-            anchors: Anchors::new(alloc),
             rows: Rows::new(alloc),
             scratch: Scratch::new(alloc),
             gravity: self.gravity,
@@ -142,6 +143,7 @@ impl WorldCore {
             ledger: records.ledger,
             events: records.events,
             joint_sets: joints.sets,
+            contact_sets,
         })
     }
 

@@ -172,7 +172,7 @@ left_more now ids place id d names old mid new lt at can f is =
       | inr apart ↦ inl (λ h. elim (contains_cases id (drop (suc place) ids) k (subst (λ (l : List ℕ). Contains l k) split h)) [ inl e ↦ apart (sym e) | inr c ↦ off c ])
     ]) f one)
 
-none_contained : (s : ℕ) → Contains [] s → ⊥
+pub none_contained : (s : ℕ) → Contains [] s → ⊥
 none_contained s h = omega (arith, h.1)
 
 pub left_all : (now : ℕ → Option Stand) (ids : List ℕ) (place : ℕ) (old new : List (Option Stand)) → length ids ≤ place → HaveLeft now ids place old new → (id : ℕ) → stand_at new id ≡ now id

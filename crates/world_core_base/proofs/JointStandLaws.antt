@@ -120,6 +120,17 @@ between_sleeps a b name h = by_part (takes_part a && takes_part b) refl
     by_part true t = by_first t (of_mover a) refl
     by_part false t = let both : standing.Disabled ≡ standing.Sleeping name = sym (apart_is a b t) ∙ h in cc
 
+-- what ties two bodies that don't sleep stands in a list
+pub between_listed : (a b : Option Stand) → ((name : ℕ) → a ≡ Some (standing.Sleeping name) → ⊥) → ((name : ℕ) → b ≡ Some (standing.Sleeping name) → ⊥) → is_listed (Some (stand_between a b)) ≡ true
+between_listed a b first second = by (stand_between a b) refl
+  where
+    by : (s : Stand) → stand_between a b ≡ s → is_listed (Some (stand_between a b)) ≡ true
+    by standing.Static e = ap (λ (s : Stand). is_listed (Some s)) e
+    by standing.Disabled e = ap (λ (s : Stand). is_listed (Some s)) e
+    by standing.Awake e = ap (λ (s : Stand). is_listed (Some s)) e
+    by standing.Carried e = ap (λ (s : Stand). is_listed (Some s)) e
+    by (standing.Sleeping name) e = elim (between_sleeps a b name e) [ inl h ↦ absurd (first name h) | inr h ↦ absurd (second name h) ]
+
 -- ---- all joints, where bodies wake or fall asleep
 
 mover_again : (n : Option ℕ) (m : Option ℕ) → IsAsBefore (Some (mover_stand n)) (Some (mover_stand m))

@@ -12,8 +12,11 @@ pub mod TellLaws
 pub mod TellSomeLaws
 pub mod TimeLaws
 pub mod FollowLaws
+pub mod TurnLaws
+pub mod SideLaws
 pub mod StandLaws
 pub mod JointStandLaws
+pub mod ContactStandLaws
 pub mod StandingLaws
 mod ColourLists
 mod RowOrderLaws

@@ -1,16 +1,18 @@
 -- The joints of one body, by the ids of their ends and by their slots.
 use Rattle.std.proofs.Common.{◌≡◌, ◌≢◌, ℕ, zero, suc, ◌+◌, ◌*◌, ◌<◌, ◌≤◌, ◌==◌, ◌||◌, Bool, true, false, cond, List, [], ◌∷◌, length, drop, get_or, Option, Some, None, ◌⊎◌, inl, inr, slice_set, add-one, refl, sym, ap, ◌∙◌, subst, arith}
-use Rattle.std.specs.Prelude.{◌/◌, ◌↔◌, option_map}
+use Rattle.std.specs.Prelude.{◌/◌, ◌↔◌, count_by, option_map}
 use Rattle.std.specs.List.{Contains}
 use Rattle.std.specs.List.Sorted.{IsStrictlyIncreasing}
 use Rattle.std.proofs.lemmas.Bool.{cases_lt}
 use Rattle.std.proofs.lemmas.List.{drop_all, length-set}
+use Rattle.std.proofs.lemmas.List.Sums.{sum_by-cons}
 use Rattle.graph_colours.proofs.Cases.{not_true_then, true_or_false}
 use Rattle.graph_colours.proofs.PlaceLemmas.{is_same, same_from}
 use Rattle.contacts.proofs.Members.{Each, IsIn, contains_from_in, in_from_contains, in_new, in_passed}
 use Rattle.contacts_base.proofs.MergeLaws.{drop_next}
 use Rattle.contacts.proofs.Rising.{IsRising, rising_from_increasing, rising_passed, same_rising}
 use Rattle.packed_sets.specs.Packs.{list_at}
+use Rattle.packed_sets.specs.Stands.{AreOnce}
 use Rattle.plain_world.specs.declared.joint.BodyJoint.{BodyJoint}
 use Rattle.plain_world.specs.Joints.{idle_if, idle_joints, is_end_in, is_joint_of, joint_at}
 use Rattle.world_core_base.specs.JointEnds.{AreEnds, first_of, halves, second_of, stands_at}
@@ -101,6 +103,9 @@ ends_below joints sets body id e h = below_if body joints (id / 2) (halves_own j
 
 pub all_ends : (joints : List (Option BodyJoint)) (sets : List (List ℕ)) (body slot : ℕ) → AreEnds joints sets → is_end_in body (joint_at joints slot) ≡ true → Contains (halves (list_at sets body)) slot
 all_ends joints sets body slot e own = contains_from_in (halves (list_at sets body)) slot (own_in_halves joints sets body slot e own)
+
+pub only_ends : (joints : List (Option BodyJoint)) (sets : List (List ℕ)) (body slot : ℕ) → AreEnds joints sets → Contains (halves (list_at sets body)) slot → is_end_in body (joint_at joints slot) ≡ true
+only_ends joints sets body slot e h = halves_own joints sets body slot e (in_from_contains (halves (list_at sets body)) slot h)
 
 -- ---- their slots, ascending
 
@@ -223,3 +228,62 @@ idling_next body ids old now next place id d lt at below made is = rw made (reco
 
 pub idling_done : (body : ℕ) (ids : List ℕ) (old now : List (Option BodyJoint)) (place : ℕ) → length ids ≤ place → IsIdling body ids old now place → now ≡ idle_joints body old
 idling_done body ids old now place past is = sym (at_all body now (λ slot. is.beside slot (λ h. subst (λ (l : List ℕ). IsIn slot (halves l)) (drop_all place ids past) h))) ∙ is.same
+
+-- ---- the slots of a body's joints, each once
+
+more_times : (n x : ℕ) (xs : List ℕ) → count_by (λ m. m == n) (x ∷ xs) ≡ cond (x == n) 1 0 + count_by (λ m. m == n) xs
+more_times n x xs = sum_by-cons (λ m. cond (m == n) 1 0) x xs
+
+-- of the two ends of each joint one at most is in the list
+abbrev OneEnd : List ℕ → Type 0
+OneEnd ids = (slot : ℕ) → count_by (λ m. m == 2 * slot) ids + count_by (λ m. m == 2 * slot + 1) ids ≤ 1
+
+one_left : (x : ℕ) (ids : List ℕ) → OneEnd (x ∷ ids) → OneEnd ids
+one_left x ids one slot =
+    let even = more_times (2 * slot) x ids in
+    let odd = more_times (2 * slot + 1) x ids in
+    let few = one slot in
+    omega (arith, even, odd, few)
+
+abbrev unit_if : Bool → ℕ
+unit_if t = cond t 1 0
+
+once_in_halves : (ids : List ℕ) → OneEnd ids → AreOnce (halves ids)
+once_in_halves [] one = tt
+once_in_halves (x ∷ ids) one = (λ h. off (in_half (x / 2) ids (in_from_contains (halves ids) (x / 2) h)), once_in_halves ids (one_left x ids one))
+  where
+    few : count_by (λ m. m == 2 * (x / 2)) (x ∷ ids) + count_by (λ m. m == 2 * (x / 2) + 1) (x ∷ ids) ≤ 1
+    few = one (x / 2)
+
+    own : 1 ≤ cond (x == 2 * (x / 2)) 1 0 + cond (x == 2 * (x / 2) + 1) 1 0
+    own = elim (halved x) [
+      | inl e ↦ (let t : (x == 2 * (x / 2)) ≡ true = is_same x (2 * (x / 2)) e in let u = ap (λ (b : Bool). unit_if b) t in omega (arith, u))
+      | inr e ↦ (let t : (x == 2 * (x / 2) + 1) ≡ true = is_same x (2 * (x / 2) + 1) e in let u = ap (λ (b : Bool). unit_if b) t in omega (arith, u))
+    ]
+
+    off : (IsIn (2 * (x / 2)) ids) ⊎ (IsIn (2 * (x / 2) + 1) ids) → ⊥
+    off h =
+        let even = more_times (2 * (x / 2)) x ids in
+        let odd = more_times (2 * (x / 2) + 1) x ids in
+        elim h [
+          | inl k ↦ (let some : 1 ≤ count_by (λ m. m == 2 * (x / 2)) ids = times_from_in (2 * (x / 2)) ids k in omega (arith, few, own, even, odd, some))
+          | inr k ↦ (let some : 1 ≤ count_by (λ m. m == 2 * (x / 2) + 1) ids = times_from_in (2 * (x / 2) + 1) ids k in omega (arith, few, own, even, odd, some))
+        ]
+
+one_of_two : (body : ℕ) (o : Option BodyJoint) → ((j : BodyJoint) → o ≡ Some j → j.a ≢ j.b) → stands_at body (first_of o) + stands_at body (second_of o) ≤ 1
+one_of_two body None two = omega arith
+one_of_two body (Some j) two = by (j.a == body) (j.b == body) refl refl
+  where
+    by : (t u : Bool) → (j.a == body) ≡ t → (j.b == body) ≡ u → cond t 1 0 + cond u 1 0 ≤ 1
+    by true true e f = absurd (two j refl (same_from j.a body e ∙ sym (same_from j.b body f)))
+    by true false e f = omega arith
+    by false true e f = omega arith
+    by false false e f = omega arith
+
+-- the slots of the joints at a body, each once, where no joint has one body at both ends
+pub once_ends : (joints : List (Option BodyJoint)) (sets : List (List ℕ)) (body : ℕ) → AreEnds joints sets → ((slot : ℕ) (j : BodyJoint) → joint_at joints slot ≡ Some j → j.a ≢ j.b) → AreOnce (halves (list_at sets body))
+once_ends joints sets body e two = once_in_halves (list_at sets body) (λ slot.
+    let first = e.first body slot in
+    let second = e.second body slot in
+    let few = one_of_two body (joint_at joints slot) (λ j at. two slot j at) in
+    omega (arith, first, second, few))

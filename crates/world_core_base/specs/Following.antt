@@ -1,8 +1,8 @@
--- Items that go where they stand now, one after the other: one that slept wakes with all of its set.
-use Rattle.std.specs.Prelude.{◌≡◌, ◌⊎◌, ◌<◌, ℕ, true, List, length, map, Option, Some, None, is_some, slice_set}
+-- Items that go where they stand now, one after the other: one that slept wakes with all of its set; and items that come and go.
+use Rattle.std.specs.Prelude.{◌≡◌, ◌⊎◌, ◌<◌, ℕ, true, List, length, map, Contains, Option, Some, None, is_some, slice_set}
 use Rattle.packed_sets.specs.declared.stands.Stand.{Stand}
 use Rattle.packed_sets.specs.declared.stands.Stand.TheVariants.{Static, Disabled, Awake, Carried, Sleeping}
-use Rattle.packed_sets.specs.Stands.{is_named, stand_at, woken}
+use Rattle.packed_sets.specs.Stands.{is_listed, is_named, stand_at, woken}
 
 -- each item stands where it stood
 abbrev pub AreSameStands : List (Option Stand) → List (Option Stand) → Type 0
@@ -55,3 +55,18 @@ pub record HaveFollowed (now : ℕ → Option Stand) (Done : ℕ → Type 0) (ol
   pub each : (id : ℕ) → (stand_at new id ≡ stand_at old id) ⊎ (stand_at new id ≡ now id)
   pub done : (id : ℕ) → Done id → stand_at new id ≡ now id
   pub long : length new ≡ length old
+
+-- ---- items that come and go
+
+-- where an item stands, and where it is to stand if it stands nowhere
+abbrev pub stand_or : Option Stand → Option Stand → Option Stand
+stand_or None now = now
+stand_or (Some stand) now = Some stand
+
+-- Some items have gone, and others have come. Those that have gone are in lists, and are to stand nowhere; those that have come stand nowhere; and all others stand
+-- where they are to stand.
+pub record HaveTurned (old now : ℕ → Option Stand) (made gone : List ℕ) : Type 0 where
+  pub listed : (id : ℕ) → Contains gone id → is_listed (old id) ≡ true
+  pub over : (id : ℕ) → Contains gone id → now id ≡ None
+  pub absent : (id : ℕ) → Contains made id → old id ≡ None
+  pub stay : (id : ℕ) → (Contains made id → ⊥) → (Contains gone id → ⊥) → old id ≡ now id

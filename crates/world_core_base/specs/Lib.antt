@@ -7,6 +7,7 @@ pub mod Moved
 pub mod Listing
 pub mod Merging
 pub mod Stands
+pub mod Turned
 pub mod Following
 pub mod Awake
 pub mod Timing

@@ -1,8 +1,10 @@
--- Where bodies stand, and what ties two of them: by slot, as sets of items have it.
-use Rattle.std.specs.Prelude.{◌≡◌, ℕ, ◌<◌, ◌≤◌, ◌&&◌, Bool, true, false, cond, Contains, List, length, Option, Some, None, option_map}
+-- Where bodies stand, and what ties two of them, as sets of items have it: bodies and joints by slot, contacts by number.
+use Rattle.std.specs.Prelude.{◌≡◌, ℕ, ◌<◌, ◌≤◌, ◌==◌, ◌&&◌, ◌||◌, Bool, true, false, cond, Contains, List, length, Option, Some, None, option_map}
 use Rattle.packed_sets.specs.declared.stands.Stand.{Stand}
 use Rattle.packed_sets.specs.declared.stands.Stand.TheVariants as standing
 use Rattle.packed_sets.specs.Stands.{Standings, stand_at}
+use Rattle.contacts.specs.Numbered.{contact_at}
+use Rattle.contacts.specs.declared.number_book.NumberedContact.{NumberedContact}
 use Rattle.plain_world.specs.declared.body.Body.{Body}
 use Rattle.plain_world.specs.declared.body.SetName.{SetName}
 use Rattle.plain_world.specs.declared.body.SetName.TheVariants as sets
@@ -101,3 +103,39 @@ pub record AreJointSets (bodies : List (Option Body)) (joints : List (Option Bod
 -- no body in these slots is an end of the joint
 abbrev pub IsOfNone : List ℕ → Option BodyJoint → Type 0
 IsOfNone slots o = (slot : ℕ) → Contains slots slot → is_end_in slot o ≡ false
+
+-- ---- contacts
+
+-- what stands there is an awake mover
+abbrev pub is_awake_stand : Option Stand → Bool
+is_awake_stand None = false
+is_awake_stand (Some standing.Static) = false
+is_awake_stand (Some standing.Disabled) = false
+is_awake_stand (Some standing.Awake) = true
+is_awake_stand (Some standing.Carried) = false
+is_awake_stand (Some (standing.Sleeping name)) = false
+
+-- what doesn't touch is looked at while one of the two bodies is an awake mover
+abbrev pub stand_apart : Option Stand → Option Stand → Stand
+stand_apart a b = cond (is_awake_stand a || is_awake_stand b) standing.Awake standing.Disabled
+
+abbrev pub stand_of_contact : List (Option Body) → NumberedContact → Stand
+stand_of_contact bodies c = cond c.touching (stand_between (body_stand bodies c.key.first.slot) (body_stand bodies c.key.second.slot)) (stand_apart (body_stand bodies c.key.first.slot) (body_stand bodies c.key.second.slot))
+
+-- where the contact with a number stands
+abbrev pub contact_stand : List (Option Body) → List (Option NumberedContact) → ℕ → Option Stand
+contact_stand bodies numbered number = option_map (stand_of_contact bodies) (contact_at numbered number)
+
+-- the sets have each contact, by its number, where it stands by its bodies, and nothing else; a sleeping set may have the name of each body's slot
+pub record AreContactSets (bodies : List (Option Body)) (numbered : List (Option NumberedContact)) (sets : Standings) : Type 0 where
+  pub stands : (number : ℕ) → stand_at sets.stands number ≡ contact_stand bodies numbered number
+  pub names : length bodies ≤ sets.names
+
+-- the body in a slot is an end of the contact
+abbrev pub is_contact_end : ℕ → Option NumberedContact → Bool
+is_contact_end slot None = false
+is_contact_end slot (Some c) = (c.key.first.slot == slot) || (c.key.second.slot == slot)
+
+-- no body in these slots is an end of the contact
+abbrev pub IsContactOfNone : List ℕ → Option NumberedContact → Type 0
+IsContactOfNone slots o = (slot : ℕ) → Contains slots slot → is_contact_end slot o ≡ false

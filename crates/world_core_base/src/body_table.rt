@@ -261,12 +261,12 @@ impl BodyTable {
         ensures memory_only { IsOkUnless result Refusal.NoMemory }
     {
         self.room = 0;
+        self.bodies.reserve(1)?;
         reserve_stands(
             &mut self.stands,
-            self.bodies.len() + 1,
+            self.bodies.capacity(),
             self.bodies.len() + 1,
         )?;
-        self.bodies.reserve(1)?;
         self.states.reserve(1)?;
         self.awake.reserve(self.bodies.len() + 1)?;
         self.carried.reserve(self.bodies.len() + 1)?;

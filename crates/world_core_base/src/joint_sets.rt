@@ -1,13 +1,13 @@
 //! The sets of joints: each joint where it stands by its bodies.
 
-ghost use Rattle.std.specs.Prelude.{◌≡◌, ◌≢◌, ◌<◌, ◌≤◌, ℕ, Contains, IfOk, None, Some, is_some, length, slice_set, true};
+ghost use Rattle.std.specs.Prelude.{◌≡◌, ◌<◌, ◌≤◌, ℕ, Contains, IfOk, None, Some, length, slice_set, true};
 ghost use Rattle.std.specs.Result.{IsOkUnless};
 ghost use Rattle.body_handles.specs.declared.slot_table.TheConstants.{MAX_SLOTS};
 ghost use Rattle.packed_sets.specs.Stands.{is_listed, is_named, stand_at};
 ghost use Rattle.world_core_base.specs.Following.{IsNamedNow, placed};
 ghost use Rattle.world_core_base.specs.Stands.{AreJointSets, AreNamedAsleep, joint_stand, stand_of_joint};
 
-use crate::stands::{joint_stand, stand_of_joint};
+use crate::stands::{drop_stands, joint_stand, stand_of_joint};
 use fixed_geom::Refusal;
 use packed_sets::SolverSets;
 use plain_world::{Body, BodyJoint};
@@ -61,18 +61,6 @@ pub fn put_joint_stand(sets: &mut SolverSets, bodies: &[Option<Body>], joint: &B
     sets.insert(stand_of_joint(bodies, joint), slot);
 }
 
-/// Takes an item out of its list, if it is in one.
-fn drop_stand(sets: &mut SolverSets, slot: u32)
-    requires { is_some (stand_at sets.old.stands slot) ≡ true → is_listed (stand_at sets.old.stands slot) ≡ true }
-    ensures gone { stand_at sets.new.stands slot ≡ None }
-    ensures others { (other : ℕ) → other ≢ slot → stand_at sets.new.stands other ≡ stand_at sets.old.stands other }
-    ensures names { sets.new.names ≡ sets.old.names }
-{
-    if sets.stand_of(slot).is_some() {
-        sets.remove(slot);
-    }
-}
-
 /// Takes the joints in these slots out, which don't sleep.
 pub fn drop_joint_stands(sets: &mut SolverSets, slots: &[u32])
     requires { (slot : ℕ) → Contains slots.now slot → is_listed (stand_at sets.old.stands slot) ≡ true }
@@ -80,7 +68,5 @@ pub fn drop_joint_stands(sets: &mut SolverSets, slots: &[u32])
     ensures others { (slot : ℕ) → (Contains slots.now slot → ⊥) → stand_at sets.new.stands slot ≡ stand_at sets.old.stands slot }
     ensures names { sets.new.names ≡ sets.old.names }
 {
-    for place in 0..slots.len() {
-        drop_stand(sets, slots[place]);
-    }
+    drop_stands(sets, slots);
 }

@@ -2,12 +2,13 @@
 
 mod from_joints;
 
-ghost use Rattle.std.specs.Prelude.{◌≡◌, ◌≤◌, ◌<◌, ◌/◌, ℕ, [], true, Contains, IfOk, None, OnOk, Some, length, option_map, slice_index_or, slice_set, vec_len};
+ghost use Rattle.std.specs.Prelude.{◌≡◌, ◌≢◌, ◌≤◌, ◌<◌, ◌/◌, ℕ, [], true, Contains, IfOk, None, OnOk, Some, length, option_map, slice_index_or, slice_set, vec_len};
 ghost use Rattle.std.specs.Result.{IsOkUnless};
 ghost use Rattle.body_handles.specs.declared.slot_table.TheConstants.{MAX_SLOTS};
 ghost use Rattle.plain_world.specs.Joints.{forbidden_pairs, idle_if, idle_joints, is_end_in, joint_at};
 ghost use Rattle.plain_world.specs.InSlots.{impulse_set, with_impulse};
-ghost use Rattle.packed_sets.specs.Stands.{stand_at};
+ghost use Rattle.packed_sets.specs.Stands.{AreOnce, stand_at};
+ghost use Rattle.plain_world.specs.declared.joint.BodyJoint.{BodyJoint as TheBodyJoint};
 ghost use Rattle.world_core_base.specs.Following.{CanFollow};
 ghost use Rattle.world_core_base.specs.JointTables.{own_slots};
 ghost use Rattle.world_core_base.specs.JointEnds.{ends_of, halves};
@@ -126,6 +127,15 @@ impl JointTable {
     {
         let slots = list_slots(*self.joints.allocator(), self.ends.members(body))?;
         Ok(slots)
+    }
+
+    /// The ends of joints at the body in a slot, in no order: twice the slot of a joint for its first end, and one more for its second.
+    pub fn ends(&self, body: u32) -> &[u32]
+        ensures all { (slot : ℕ) → is_end_in body (joint_at self.now.joints slot) ≡ true → Contains (halves result.now) slot }
+        ensures only { (slot : ℕ) → Contains (halves result.now) slot → is_end_in body (joint_at self.now.joints slot) ≡ true }
+        ensures once { ((slot : ℕ) (joint : TheBodyJoint) → joint_at self.now.joints slot ≡ Some joint → joint.a ≢ joint.b) → AreOnce (halves result.now) }
+    {
+        self.ends.members(body)
     }
 
     /// Moves the joints of the bodies in these slots to where they stand now, in the sets of the joints. All others stand where they stood.

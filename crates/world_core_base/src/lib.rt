@@ -4,8 +4,8 @@
 //! carried along), and what a step gathers of joints and contacts (`gather_rows`).
 //!
 //! A [`BodyTable`] also has sets in which each body is where it stands (`stands.rt`). So where a body stands is told at once, and
-//! islands wake and fall asleep as sets. The sets of the joints are kept beside the tables (`joint_sets.rt`), since where a joint stands
-//! is told by its bodies.
+//! islands wake and fall asleep as sets. The sets of the joints and of the contacts are kept beside the tables (`joint_sets.rt`, `contact_sets.rt`), since
+//! where these stand is told by their bodies.
 //!
 //! The joints of a world by slot stand in [`JointTable`], with what a world asks of them at hand: beside them the ends of joints by
 //! body, so that what asks for the joints of one body costs by those alone. Whether joints keep two bodies from colliding is told
@@ -13,6 +13,7 @@
 #![tactic(auto)]
 
 mod body_table;
+mod contact_sets;
 mod covers;
 mod forbidden_pairs;
 mod gather;
@@ -30,6 +31,9 @@ mod telling;
 mod timing;
 
 pub use body_table::BodyTable;
+pub use contact_sets::{
+    drop_contact_stands, follow_contacts, list_contact_stands, renew_contact_stands,
+};
 pub use gather::gather_rows;
 pub use joint_ends::Ends;
 pub use joint_sets::{drop_joint_stands, list_joint_stands, put_joint_stand};

@@ -1,12 +1,12 @@
-//! Where bodies and joints stand, and items that go where they stand now.
+//! Where bodies and joints stand, and items that come, go, and go where they stand now.
 
-ghost use Rattle.std.specs.Prelude.{◌≡◌, ◌≤◌, ◌^◌, ℕ, Contains, List, OnOk, Option as TheOption, is_some, length, true};
+ghost use Rattle.std.specs.Prelude.{◌≡◌, ◌≢◌, ◌<◌, ◌≤◌, ◌^◌, ℕ, Contains, List, None, OnOk, Option as TheOption, is_some, length, true};
 ghost use Rattle.std.specs.Result.{IsOkUnless};
 ghost use Rattle.packed_sets.specs.Stands.{is_listed, stand_at};
 ghost use Rattle.plain_world.specs.declared.body.Body.{Body as TheBody};
 ghost use Rattle.plain_world.specs.Joints.{joint_at};
 ghost use Rattle.world_core_base.specs.JointEnds.{AreEnds, halves};
-ghost use Rattle.world_core_base.specs.Following.{AreSameStands, CanFollow, HaveFollowed, IsNamedNow, followed, placed, woken_if};
+ghost use Rattle.world_core_base.specs.Following.{AreSameStands, CanFollow, HaveFollowed, IsNamedNow, followed, placed, stand_or, woken_if};
 ghost use Rattle.world_core_base.specs.Stands.{AreStands, IsOfNone, body_stand, joint_stand, mover_stand, of_mover, set_of, stand_between, stand_of, stand_of_joint, stand_with, takes_part};
 
 use fixed_geom::Refusal;
@@ -104,7 +104,7 @@ fn stand_with(first: Option<Stand>, second: Option<Stand>) -> Stand
 }
 
 /// Where what ties two bodies stands, by where these stand.
-fn stand_between(a: Option<Stand>, b: Option<Stand>) -> Stand
+pub(crate) fn stand_between(a: Option<Stand>, b: Option<Stand>) -> Stand
     ensures { result ≡ stand_between a b }
 {
     if takes_part(a) && takes_part(b) {
@@ -166,6 +166,59 @@ pub(crate) fn shift_to(sets: &mut SolverSets, id: u32, now: Option<Stand>)
 {
     if let Some(stand) = now {
         sets.shift(stand, id);
+    }
+}
+
+/// Puts an item that stands nowhere where it is to stand, if it is to stand somewhere.
+pub(crate) fn put_to(sets: &mut SolverSets, id: u32, now: Option<Stand>)
+    requires below { is_some now ≡ true → id < length sets.old.stands }
+    requires absent { is_some now ≡ true → stand_at sets.old.stands id ≡ None }
+    requires named { IsNamedNow sets.old.names now }
+    ensures stands { sets.new.stands ≡ placed now id sets.old.stands }
+    ensures names { sets.new.names ≡ sets.old.names }
+{
+    if let Some(stand) = now {
+        sets.insert(stand, id);
+    }
+}
+
+/// Puts an item where it is to stand, if it stands nowhere.
+pub(crate) fn put_absent(sets: &mut SolverSets, id: u32, now: Option<Stand>)
+    requires below { is_some now ≡ true → id < length sets.old.stands }
+    requires named { IsNamedNow sets.old.names now }
+    ensures here { stand_at sets.new.stands id ≡ stand_or (stand_at sets.old.stands id) now }
+    ensures others { (other : ℕ) → other ≢ id → stand_at sets.new.stands other ≡ stand_at sets.old.stands other }
+    ensures names { sets.new.names ≡ sets.old.names }
+    ensures items { length sets.new.stands ≡ length sets.old.stands }
+{
+    if sets.stand_of(id).is_none() {
+        put_to(sets, id, now);
+    }
+}
+
+/// Takes an item out of its list, if it is in one.
+fn drop_stand(sets: &mut SolverSets, id: u32)
+    requires { is_some (stand_at sets.old.stands id) ≡ true → is_listed (stand_at sets.old.stands id) ≡ true }
+    ensures gone { stand_at sets.new.stands id ≡ None }
+    ensures others { (other : ℕ) → other ≢ id → stand_at sets.new.stands other ≡ stand_at sets.old.stands other }
+    ensures names { sets.new.names ≡ sets.old.names }
+    ensures items { length sets.new.stands ≡ length sets.old.stands }
+{
+    if sets.stand_of(id).is_some() {
+        sets.remove(id);
+    }
+}
+
+/// Takes these items out of their lists.
+pub(crate) fn drop_stands(sets: &mut SolverSets, ids: &[u32])
+    requires { (id : ℕ) → Contains ids.now id → is_listed (stand_at sets.old.stands id) ≡ true }
+    ensures gone { (id : ℕ) → Contains ids.now id → stand_at sets.new.stands id ≡ None }
+    ensures others { (id : ℕ) → (Contains ids.now id → ⊥) → stand_at sets.new.stands id ≡ stand_at sets.old.stands id }
+    ensures names { sets.new.names ≡ sets.old.names }
+    ensures items { length sets.new.stands ≡ length sets.old.stands }
+{
+    for place in 0..ids.len() {
+        drop_stand(sets, ids[place]);
     }
 }
 

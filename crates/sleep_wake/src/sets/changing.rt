@@ -6,9 +6,11 @@ ghost use Rattle.graph_colours.specs.FoundMembers.{has_id};
 ghost use Rattle.sleep_wake.specs.Acting.{are_awake, AreMovers};
 ghost use Rattle.sleep_wake.specs.Changes.{united, parted, begun, ended, each_begun, each_ended, after_change, after_changes};
 ghost use Rattle.sleep_wake.specs.ChangeLists.{CanBegin, CanEnd, begin_count, IsChange, AreChanges};
+ghost use Rattle.sleep_wake.specs.Sources.{TellsAsleep};
 
 use crate::change::Change;
 use crate::sets::Sets;
+use crate::tie_source::TieSource;
 use graph_colours::{Id, Member, Movers};
 use islands::Islands;
 
@@ -97,55 +99,60 @@ impl<C: Id> Sets<C> {
     // ---- whoever sleeps
 
     /// A constraint begins whose movers wake before, if they sleep.
-    fn begin_awake(&mut self, member: Member<C>)
+    fn begin_awake<T: TieSource<C>>(&mut self, member: Member<C>, source: &T)
         requires can { IsChange C.number self.old.acting.labels self.old.acting.ties (Begin member) }
         requires room { length self.old.acting.ties < self.old.room }
+        requires source { TellsAsleep (T.names source.now) (T.ties source.now) self.old.acting.labels self.old.acting.ties }
         ensures acting { self.new.acting ≡ after_change C.number (Begin member) self.old.acting }
         ensures room { self.new.room ≡ self.old.room }
         ensures slots { self.new.slots ≡ self.old.slots }
     {
         self.know_consistent();
-        self.wake_movers(member.movers);
+        self.wake_movers(member.movers, source);
         self.begin(member);
     }
 
     /// A constraint ends whose movers wake before, if they sleep.
-    fn end_awake(&mut self, member: Member<C>)
+    fn end_awake<T: TieSource<C>>(&mut self, member: Member<C>, source: &T)
         requires can { IsChange C.number self.old.acting.labels self.old.acting.ties (End member) }
+        requires source { TellsAsleep (T.names source.now) (T.ties source.now) self.old.acting.labels self.old.acting.ties }
         ensures acting { self.new.acting ≡ after_change C.number (End member) self.old.acting }
         ensures room { self.new.room ≡ self.old.room }
         ensures slots { self.new.slots ≡ self.old.slots }
     {
         self.know_consistent();
-        self.wake_movers(member.movers);
+        self.wake_movers(member.movers, source);
         self.end(member);
     }
 
     /// A constraint begins or ends, and its sleeping movers wake before.
-    fn change(&mut self, change: Change<C>)
+    fn change<T: TieSource<C>>(&mut self, change: Change<C>, source: &T)
         requires can { IsChange C.number self.old.acting.labels self.old.acting.ties change }
         requires room { length self.old.acting.ties + begin_count (change ∷ []) ≤ self.old.room }
+        requires source { TellsAsleep (T.names source.now) (T.ties source.now) self.old.acting.labels self.old.acting.ties }
         ensures acting { self.new.acting ≡ after_change C.number change self.old.acting }
         ensures room { self.new.room ≡ self.old.room }
         ensures slots { self.new.slots ≡ self.old.slots }
     {
         match change {
-            Change::Begin(member) => self.begin_awake(member),
-            Change::End(member) => self.end_awake(member),
+            Change::Begin(member) => self.begin_awake(member, source),
+            Change::End(member) => self.end_awake(member, source),
         }
     }
 
-    /// Constraints begin and end, each at its turn, as the contacts of a step do. The sleeping movers of each wake before it.
-    pub fn apply_changes(&mut self, changes: &[Change<C>])
+    /// Constraints begin and end, each at its turn, as the contacts of a step do. The sleeping movers of each wake before it. The source tells
+    /// the constraints as they were before all of these: what has begun or ended has awake movers, so that no sleeping island has gained or lost one.
+    pub fn apply_changes<T: TieSource<C>>(&mut self, changes: &[Change<C>], source: &T)
         requires can { AreChanges C.number self.old.acting.labels self.old.acting.ties changes.now }
         requires room { length self.old.acting.ties + begin_count changes.now ≤ self.old.room }
+        requires source { TellsAsleep (T.names source.now) (T.ties source.now) self.old.acting.labels self.old.acting.ties }
         ensures acting { self.new.acting ≡ after_changes C.number changes.now self.old.acting }
         ensures room { self.new.room ≡ self.old.room }
         ensures slots { self.new.slots ≡ self.old.slots }
     {
         self.know_consistent();
         for place in 0..changes.len() {
-            self.change(changes[place]);
+            self.change(changes[place], source);
         }
     }
 }

@@ -18,7 +18,7 @@ use fixed_geom::{Refusal, Vec2};
 use impulse_ledger::Cause;
 use plain_world::{BodyChange, BodyDef, Course, body_of, know_filters_fit};
 use shapes::Pose;
-use world_core_base::drop_joint_stands;
+use world_core_base::{drop_contact_stands, drop_joint_stands};
 use world_rules::Reply;
 
 impl WorldCore {
@@ -36,6 +36,9 @@ impl WorldCore {
         self.bodies.reserve_one(self.handles.next_slot(), &body)?;
         self.sets.reserve(0, self.bodies.bodies().len() + 1)?;
         self.joint_sets.reserve(0, self.bodies.bodies().len() + 1)?;
+        self.contact_sets
+            .reserve(0, self.bodies.bodies().len() + 1)?;
+        self.contacts.know_numbered();
         let handle = self.handles.insert()?;
         come(&mut self.sets, handle.slot, body.is_mover());
         self.sets.widen(handle.slot);
@@ -56,20 +59,25 @@ impl WorldCore {
         let ties = self.ties_at(handle.slot)?;
         let waking = self.plan_stir_by_ties(handle.slot, &ties)?;
         let own = self.joints.slots_of(handle.slot)?;
-        self.contacts.reserve_drop()?;
         self.ledger.reserve(1)?;
         wake_planned(
             &mut self.sets,
             &mut self.bodies,
+            self.joint_handles.slot_entries(),
             &self.joints,
             &mut self.joint_sets,
+            &self.contacts,
+            &mut self.contact_sets,
             &waking,
         );
         leave(&mut self.sets, handle.slot, mover, &ties);
         drop_joint_stands(&mut self.joint_sets, &own);
         drop_joints(&mut self.joint_handles, &mut self.joints, handle.slot, &own);
         self.bodies.clear(handle.slot);
+        self.contacts.know_numbered();
         self.contacts.drop_of_body(handle.slot);
+        self.contacts.know_numbered();
+        drop_contact_stands(&mut self.contact_sets, &self.contacts);
         self.handles.remove(handle);
         book(
             &mut self.ledger,
@@ -91,8 +99,11 @@ impl WorldCore {
         wake_planned(
             &mut self.sets,
             &mut self.bodies,
+            self.joint_handles.slot_entries(),
             &self.joints,
             &mut self.joint_sets,
+            &self.contacts,
+            &mut self.contact_sets,
             &waking,
         );
         self.bodies.change(handle.slot, &momenta);
@@ -138,12 +149,14 @@ impl WorldCore {
         wake_planned(
             &mut self.sets,
             &mut self.bodies,
+            self.joint_handles.slot_entries(),
             &self.joints,
             &mut self.joint_sets,
+            &self.contacts,
+            &mut self.contact_sets,
             &waking,
         );
         self.bodies.change(handle.slot, change);
-        self.anchors.tidy(&self.sets, handle.slot);
         self.calls += 1;
         Ok(Reply::Done)
     }

@@ -13,6 +13,7 @@ use body_handles::Handle;
 use fixed_geom::Refusal;
 use impulse_ledger::Cause;
 use plain_world::body_of;
+use world_core_base::drop_contact_stands;
 use world_rules::Reply;
 
 impl WorldCore {
@@ -30,19 +31,24 @@ impl WorldCore {
         let p = mover_momentum(body);
         let ties = self.ties_at(handle.slot)?;
         let waking = self.plan_stir_by_ties(handle.slot, &ties)?;
-        self.contacts.reserve_drop()?;
         self.ledger.reserve(1)?;
         wake_planned(
             &mut self.sets,
             &mut self.bodies,
+            self.joint_handles.slot_entries(),
             &self.joints,
             &mut self.joint_sets,
+            &self.contacts,
+            &mut self.contact_sets,
             &waking,
         );
         leave(&mut self.sets, handle.slot, mover, &ties);
         self.bodies.disable(handle.slot);
         self.joints.idle(handle.slot);
+        self.contacts.know_numbered();
         self.contacts.drop_of_body(handle.slot);
+        self.contacts.know_numbered();
+        drop_contact_stands(&mut self.contact_sets, &self.contacts);
         self.joints
             .follow(&mut self.joint_sets, self.bodies.bodies(), &[handle.slot]);
         book(
@@ -81,10 +87,14 @@ impl WorldCore {
         wake_planned(
             &mut self.sets,
             &mut self.bodies,
+            self.joint_handles.slot_entries(),
             &self.joints,
             &mut self.joint_sets,
+            &self.contacts,
+            &mut self.contact_sets,
             &waking,
         );
+        self.contacts.know_numbered();
         self.bodies.enable(handle.slot);
         fill_joint_ties(
             &mut ties,

@@ -32,8 +32,11 @@ impl WorldCore {
         wake_planned(
             &mut self.sets,
             &mut self.bodies,
+            self.joint_handles.slot_entries(),
             &self.joints,
             &mut self.joint_sets,
+            &self.contacts,
+            &mut self.contact_sets,
             &waking,
         );
         let handle = self.joint_handles.insert()?;
@@ -62,8 +65,11 @@ impl WorldCore {
         wake_planned(
             &mut self.sets,
             &mut self.bodies,
+            self.joint_handles.slot_entries(),
             &self.joints,
             &mut self.joint_sets,
+            &self.contacts,
+            &mut self.contact_sets,
             &waking,
         );
         let movers = joint_movers(self.bodies.bodies(), &joint);

@@ -17,7 +17,7 @@ ghost use Rattle.world_rules.specs.Sound.{IsSound};
 ghost use Rattle.world_rules.specs.Settled.{settled_world};
 
 use super::WorldCore;
-use crate::copied_parts::{BodyParts, ConstraintParts, JointParts};
+use crate::parts::{BodyParts, ConstraintParts, JointParts};
 use crate::scratch::Scratch;
 use body_handles::Handles;
 use colour_solver::Rows;
@@ -29,9 +29,9 @@ use impulse_ledger::{Ledger, Totals};
 use plain_world::Plain;
 use serde_json::Value;
 use sleep_wake::Sets;
-use solver_sets::{Anchors, count_members, list_all_ties, list_members};
+use solver_sets::{count_members, list_all_ties, list_members};
 use std::alloc::Global;
-use world_core_base::{BodyTable, JointTable, list_joint_stands};
+use world_core_base::{BodyTable, JointTable, list_contact_stands, list_joint_stands};
 use world_file::{Broken, read};
 
 /// The contacts of a plain world. Refused 1 where memory is wanting.
@@ -123,6 +123,7 @@ impl WorldCore {
         let bodies = load_bodies(alloc, plain)?;
         let joints = load_joints(alloc, plain)?;
         let constraints = load_constraints(alloc, plain)?;
+        let contact_sets = list_contact_stands(alloc, &bodies.table, &constraints.contacts)?;
         Ok(WorldCore {
             handles: bodies.handles,
             bodies: bodies.table,
@@ -130,7 +131,6 @@ impl WorldCore {
             joints: joints.table,
             contacts: constraints.contacts,
             sets: constraints.sets,
-            anchors: Anchors::new(alloc),
             rows: Rows::new(alloc),
             scratch: Scratch::new(alloc),
             gravity: plain.gravity(),
@@ -139,6 +139,7 @@ impl WorldCore {
             ledger: Ledger::from_totals(alloc, totals),
             events: Events::new(alloc),
             joint_sets: joints.sets,
+            contact_sets,
         })
     }
 

@@ -1,11 +1,10 @@
 //! Islands that are woken and put to rest, by commands and by what commands change.
 
-ghost use Rattle.std.specs.Prelude.{◌≡◌, ◌<◌, ◌^◌, false, IfOk};
+ghost use Rattle.std.specs.Prelude.{◌≡◌, ◌<◌, ◌^◌, IfOk};
 ghost use Rattle.std.specs.Result.{IsOkUnless};
 ghost use Rattle.sleep_wake.specs.Sleeping.{sleeping_names};
 ghost use Rattle.solver_sets.specs.Beside.{stirred_by};
 ghost use Rattle.solver_sets.specs.BesideByTies.{first_movers};
-ghost use Rattle.plain_world.specs.Bodies.{moves};
 ghost use Rattle.solver_sets.specs.Ties.{ties_at};
 ghost use Rattle.world_core.specs.Waking.{HasIslands};
 ghost use Rattle.world_rules.specs.World.{joints_in_slots};
@@ -13,6 +12,7 @@ ghost use Rattle.world_rules.specs.Apply.{Answers, apply_wake, apply_sleep};
 
 use super::WorldCore;
 use crate::booking::book;
+use crate::own_contacts::contact_ties;
 use crate::own_joints::joint_ties;
 use crate::pushes::check_mover;
 use crate::wake_and_sleep::{Waking, plan_rest, plan_waking, put_to_sleep, wake_planned};
@@ -66,21 +66,9 @@ impl WorldCore {
         self.plan_waking(&slots)
     }
 
-    /// The constraints of the body in a slot, ascending, which are at hand for a mover. Refused 1 where memory is wanting.
+    /// The constraints of the body in a slot, ascending: those of its joints, and then those of its contacts. Costs by how many joints and contacts it has.
+    /// Refused 1 where memory is wanting.
     pub(super) fn ties_at(&self, slot: u32) -> Result<Vec<Member<Constraint>>, Refusal>
-        ensures ties { IfOk result (λ ties. ties.items ≡ ties_at slot self.now.plain.bodies (joints_in_slots self.now.plain) self.now.plain.contacts) }
-        ensures memory_only { IsOkUnless result Refusal.NoMemory }
-    {
-        if is_mover_at(self.bodies.bodies(), slot) {
-            self.sets.ties_of(slot)
-        } else {
-            self.ties_beside(slot)
-        }
-    }
-
-    /// The constraints of a body that is no mover: those of its joints, and the contacts of which it is the anchor. Refused 1 where memory is wanting.
-    fn ties_beside(&self, slot: u32) -> Result<Vec<Member<Constraint>>, Refusal>
-        requires { moves self.now.plain.bodies slot ≡ false }
         ensures ties { IfOk result (λ ties. ties.items ≡ ties_at slot self.now.plain.bodies (joints_in_slots self.now.plain) self.now.plain.contacts) }
         ensures memory_only { IsOkUnless result Refusal.NoMemory }
     {
@@ -92,7 +80,7 @@ impl WorldCore {
             &self.joints,
             slot,
         )?;
-        let contacts = self.anchors.contact_ties_of(alloc, &self.sets, slot)?;
+        let contacts = contact_ties(alloc, self.bodies.bodies(), &self.contacts, slot)?;
         ties.extend_from_slice(&contacts)?;
         Ok(ties)
     }
@@ -106,8 +94,11 @@ impl WorldCore {
         wake_planned(
             &mut self.sets,
             &mut self.bodies,
+            self.joint_handles.slot_entries(),
             &self.joints,
             &mut self.joint_sets,
+            &self.contacts,
+            &mut self.contact_sets,
             &waking,
         );
         self.calls += 1;
@@ -124,8 +115,11 @@ impl WorldCore {
         let rest = put_to_sleep(
             &mut self.sets,
             &mut self.bodies,
+            self.joint_handles.slot_entries(),
             &self.joints,
             &mut self.joint_sets,
+            &self.contacts,
+            &mut self.contact_sets,
             handle.slot,
             &movers,
         );

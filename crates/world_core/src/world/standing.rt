@@ -11,10 +11,10 @@ ghost use Rattle.world_rules.specs.World.{joints_in_slots};
 
 use super::WorldCore;
 use body_handles::Handle;
-use contacts_base::{ContactKey, Hint};
+use contacts_base::ContactKey;
 use packed_sets::Stand;
 use plain_world::SetName;
-use solver_sets::{Item, standing_of_contact};
+use solver_sets::Item;
 use world_core_base::set_of;
 
 /// The solver set of what stands there, if its handle is live.
@@ -61,10 +61,9 @@ impl WorldCore {
     fn stand_of_contact(&self, key: ContactKey) -> Option<SetName>
         ensures { result ≡ option_map (standing_of_contact self.now.plain.bodies) (contact_of self.now.plain.contacts key) }
     {
-        let mut hint = Hint { long: 0, short: 0 };
-        match self.contacts.split().find(&mut hint, key) {
-            None => None,
-            Some(entry) => Some(standing_of_contact(self.bodies.bodies(), entry)),
-        }
+        self.contacts.know_numbered();
+        let number = self.contacts.number_of(key)?;
+        let stand = self.contact_sets.stand_of(number)?;
+        Some(set_of(stand))
     }
 }

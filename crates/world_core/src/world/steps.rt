@@ -63,13 +63,15 @@ impl WorldCore {
             &mut self.rows,
             &mut self.scratch,
         )?;
+        self.contact_sets.reserve(self.contacts.number_bound(), 0)?;
         carry_out(
             &mut self.contacts,
             &mut self.bodies,
+            self.joint_handles.slot_entries(),
             &self.joints,
             &mut self.joint_sets,
+            &mut self.contact_sets,
             &mut self.sets,
-            &mut self.anchors,
             &mut self.scratch.woke,
             self.handles.slot_entries(),
             &prepared,
@@ -87,12 +89,14 @@ impl WorldCore {
         );
         let rest = rest_ready(
             &mut self.bodies,
+            self.joint_handles.slot_entries(),
             &self.joints,
             &mut self.joint_sets,
+            &mut self.contact_sets,
             &mut self.sets,
             &mut self.scratch,
             self.handles.slot_entries(),
-            self.contacts.split(),
+            &self.contacts,
             ticks,
         );
         self.steps += 1;

@@ -7,7 +7,7 @@ use graph_colours::COLOURS;
 use impulse_ledger::Ledger;
 use plain_world::Body;
 use solver_sets::{Census, SleepingSet};
-use world_core::{Events, Frame, FrameBody, Plain};
+use world_core::{Events, Frame, FrameBody, Item, Plain, SetName};
 
 /// Stops where the two aren't equal.
 pub fn expect(moment: Moment, part: Part, is_same: bool) -> Result<(), Stop> {
@@ -124,6 +124,32 @@ pub fn are_same_censuses(first: &Census, second: &Census) -> bool {
         && first.disabled() == second.disabled()
         && first.awake() == second.awake()
         && are_same_sleepers(first.sleeping(), second.sleeping())
+}
+
+/// Whether each item of the world's census stands where the world says it does.
+pub fn stand_as_listed<W: WholeWorld>(world: &W, census: &Census) -> bool {
+    all_stand(world, census.static_set(), SetName::Static)
+        && all_stand(world, census.disabled(), SetName::Disabled)
+        && all_stand(world, census.awake(), SetName::Awake)
+        && all_sleep(world, census.sleeping())
+}
+
+fn all_sleep<W: WholeWorld>(world: &W, sets: &[SleepingSet]) -> bool {
+    for set in sets {
+        if !all_stand(world, set.items(), SetName::Sleeping(set.name())) {
+            return false;
+        }
+    }
+    true
+}
+
+fn all_stand<W: WholeWorld>(world: &W, items: &[Item], set: SetName) -> bool {
+    for item in items {
+        if world.stand(*item) != Some(set) {
+            return false;
+        }
+    }
+    true
 }
 
 /// Whether the two frames show the same.

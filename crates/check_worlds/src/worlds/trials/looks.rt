@@ -10,7 +10,7 @@ use fixed_geom::Vec2;
 use impulse_ledger::{Cause, Total};
 use plain_world::BodyView;
 use shapes::{Pose, Shape};
-use world_core::{Constraint, ShapeId};
+use world_core::{Constraint, Item, SetName, ShapeId};
 use world_queries::{Hit, QueryFilter};
 
 /// What is seen of a world without memory.
@@ -18,6 +18,8 @@ use world_queries::{Hit, QueryFilter};
 struct Sight {
     body: Option<BodyView>,
     colour: Option<u8>,
+    body_stand: Option<SetName>,
+    joint_stand: Option<SetName>,
     slots: u32,
     shape: Option<(Shape, Pose)>,
     begun: usize,
@@ -52,6 +54,8 @@ fn look<W: WholeWorld>(world: &W, slot: u32) -> Sight {
     Sight {
         body: world.body(handle),
         colour: world.colour(Constraint::Joint(handle)),
+        body_stand: world.stand(Item::Body(handle)),
+        joint_stand: world.stand(Item::Joint(handle)),
         slots: world.slots(),
         shape: world.shape(ShapeId { slot, index: 0 }),
         begun: world.events().begin().len(),

@@ -3,6 +3,7 @@
 use crate::whole_world::WholeWorld;
 use crate::worlds::trials::compare::{
     are_same_censuses, are_same_frames, expect, expect_same_lists, expect_same_worlds,
+    stand_as_listed,
 };
 use crate::worlds::trials::looks::{try_look, try_settle};
 use crate::worlds::trials::saved::{ask_twice, load_twice, save_twice};
@@ -166,7 +167,8 @@ fn is_counted<W: WholeWorld>(worlds: &mut TrialWorlds<W>, expected: &Census) -> 
     match counted {
         Ok(census) => {
             let is_same = are_same_censuses(&census, expected);
-            met(expect(Moment::Accepted, Part::Answer, is_same))
+            let is_told = stand_as_listed(&worlds.world, &census);
+            met(expect(Moment::Accepted, Part::Answer, is_same && is_told))
         }
         Err(_) => Ok(false),
     }

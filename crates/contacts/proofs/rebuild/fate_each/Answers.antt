@@ -2,7 +2,7 @@ use Rattle.std.proofs.Common.{subst, sym}
 use Rattle.contacts_base.specs.declared.contact.ContactEntry.{ContactEntry}
 use Rattle.contacts.specs.Known.{IsPairKey}
 use Rattle.contacts.specs.Fates.{moved_by}
-use Rattle.contacts.proofs.FateLemmas.{begun_step, ended_step}
+use Rattle.contacts.proofs.FateLemmas.{begun_step, ended_step, gone_step}
 use Rattle.contacts.proofs.UpdateLemmas.{fate_more}
 use Rattle.contacts.proofs.rebuild.fate_each.Goals as goal
 
@@ -21,6 +21,7 @@ loop-place-preserved g c =
       all = fate_more moved pairs ps old place entry _ fate c.args.fresh.now _ _ _ _ _ lt c.index-old-place.is c.fate_in-fate.ensures c.requires.old.rising c.requires.fresh c.in_ok-next.ensures.added c.loop-place.invariant.all;
       begin = begun_step moved pairs ps old place entry _ fate _ _ _ lt c.index-old-place.is c.fate_in-fate.ensures c.begun_key.ensures c.loop-place.invariant.begin c.in_ok-push_key.ensures.pushed;
       end = ended_step moved pairs ps old place entry _ fate _ _ _ lt c.index-old-place.is c.fate_in-fate.ensures c.ended_key.ensures c.loop-place.invariant.end c.in_ok-push_key-2.ensures.pushed;
+      gone = gone_step moved pairs ps old place entry _ fate _ _ _ lt c.index-old-place.is c.fate_in-fate.ensures c.gone_key.ensures c.loop-place.invariant.gone c.in_ok-push_key-3.ensures.pushed;
     }
 
 pub fate_in-fate-requires-clause-key : goal.fate_in-fate-requires-clause-key

@@ -5,6 +5,9 @@ use Rattle.solver_sets.proofs.ListingLaws.{listed_all, listed_more}
 use Rattle.solver_sets.proofs.SleptLaws.{listed_where}
 use Rattle.solver_sets.proofs.slept.fill_newly_asleep.Goals as goal
 
+pub put_some-requires : goal.put_some-requires
+put_some-requires c = λ there. let room = c.requires.room in omega (arith, c.loop-place.invariant.len, c.loop-place.invariant.capacity, c.loop-place-test.true, room)
+
 pub loop-place-preserved : goal.loop-place-preserved
 loop-place-preserved c = record {
   handles =

@@ -4,11 +4,13 @@ use Rattle.world_rules.proofs.ToldLaws.{told_stays}
 use Rattle.world_core.proofs.KeepLaws.{keep_woken, turned_alike}
 use Rattle.world_core.proofs.SleeperLaws.{woken_listed}
 use Rattle.world_core.proofs.TellingLaws.{awake_beside, after_changes_slept}
+use Rattle.solver_sets.specs.Ties.{slots_of}
+use Rattle.world_core.proofs.SourceLaws.{first_named}
 use Rattle.world_core.proofs.committing.apply_all_changes.Goals as goal
 
 pub fill_newly_awake-requires-clause-all : goal.fill_newly_awake-requires-clause-all
 fill_newly_awake-requires-clause-all c =
-    rw (c.bodies.ensures, c.islands.ensures, c.flush.ensures.acting, c.apply_changes.ensures.acting) (woken_listed c.args.asleep.now c.args.bodies.now.bodies c.args.changes.now c.args.sets.now.acting c.requires.consistent c.requires.told c.requires.can c.requires.sleepers)
+    rw (c.bodies-2.ensures, c.islands.ensures, c.flush.ensures.acting, c.apply_changes.ensures.acting) (woken_listed c.args.asleep.now c.args.bodies.now.bodies c.args.changes.now c.args.sets.now.acting c.requires.consistent c.requires.told c.requires.can c.requires.sleepers)
 
 pub tell_movers-requires-clause-others : goal.tell_movers-requires-clause-others
 tell_movers-requires-clause-others c =
@@ -27,5 +29,14 @@ tell_movers-requires-clause-together c =
 pub returns-clause-standing : goal.returns-clause-standing
 returns-clause-standing c = rw c.flush-2.ensures.bodies c.tell_movers.ensures.standing
 
+pub returns-clause-contacts_standing : goal.returns-clause-contacts_standing
+returns-clause-contacts_standing c = rw c.flush-2.ensures.bodies c.tell_movers.ensures.contacts_standing
+
 pub returns-clause-marked : goal.returns-clause-marked
 returns-clause-marked c = rw (c.flush-2.ensures.bodies, c.flush-2.ensures.marks) c.tell_movers.ensures.marked
+
+pub know_told-requires-clause-names : goal.know_told-requires-clause-names
+know_told-requires-clause-names c =
+    let bodies = c.args.bodies.now.bodies in
+    let s = c.args.sets.now.acting in
+    rw c.bodies.ensures (first_named bodies (slots_of c.args.joint_entries.now c.args.joints.now.joints) c.args.contacts.now.contacts s.labels s.ties (λ slot b at m. c.requires.told slot b at) c.requires.ties)

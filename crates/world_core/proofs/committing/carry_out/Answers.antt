@@ -1,8 +1,8 @@
-use Rattle.std.proofs.Common.{◌≡◌, ◌∙◌, List, ap, sym}
-use Rattle.contacts.specs.Constraints.{constraint_number}
-use Rattle.contacts.specs.declared.constraint.Constraint.{Constraint}
-use Rattle.sleep_wake.specs.Changes.{after_changes}
-use Rattle.sleep_wake.specs.declared.change.Change.{Change}
+use Rattle.std.proofs.Common.{arith}
+use Rattle.world_core_base.specs.Stands.{AreNamedAsleep}
+use Rattle.world_core_base.specs.Turned.{AreTurned}
+use Rattle.world_core_base.proofs.ContactStandLaws.{contacts_turned}
+use Rattle.world_core.proofs.ContactTurnLaws.{told_named}
 use Rattle.world_core.proofs.committing.carry_out.Goals as goal
 
 pub apply_all_changes-requires-clause-few_bodies : goal.apply_all_changes-requires-clause-few_bodies
@@ -32,6 +32,19 @@ apply_all_changes-requires-clause-woke c = rw c.deref-2.ensures.value c.requires
 pub returns-clause-marked : goal.returns-clause-marked
 returns-clause-marked c = rw (c.clear_marks.ensures.bodies, c.clear_marks.ensures.cleared) at c.apply_all_changes.ensures.marked
 
-pub returns-clause-anchored : goal.returns-clause-anchored
-returns-clause-anchored c = λ tell. c.renew_anchors.ensures.complete c.args.sets.now.acting
-    (c.apply_all_changes.ensures.acting ∙ ap (λ (cs : List (Change Constraint)). after_changes constraint_number cs c.args.sets.now.acting) (c.deref.ensures.value ∙ sym c.deref-3.ensures.value)) tell
+pub renew_contact_stands-requires-clause-turned : goal.renew_contact_stands-requires-clause-turned
+renew_contact_stands-requires-clause-turned c =
+    let turned : AreTurned c.apply_all_changes.new.bodies.bodies c.args.contacts.now.contacts c.carry_out.new.self.contacts = rw (c.apply_all_changes.ensures.bodies, c.apply_all_changes.ensures.acting, c.deref.ensures.value, c.clear_marks.ensures.bodies, c.carry_out.ensures.contacts) c.requires.turned in
+    contacts_turned c.apply_all_changes.new.bodies.bodies c.args.contacts.now.contacts c.carry_out.new.self.contacts c.args.contacts.now.numbered c.carry_out.new.self.numbered c.carry_out.new.self.made c.carry_out.new.self.gone c.apply_all_changes.new.contact_stands
+    c.know_numbered.ensures.numbered c.know_numbered-2.ensures.numbered c.carry_out.ensures.turnover turned c.apply_all_changes.ensures.contacts_standing
+
+pub renew_contact_stands-requires-clause-room : goal.renew_contact_stands-requires-clause-room
+renew_contact_stands-requires-clause-room c = omega (arith, c.carry_out.ensures.bound, c.apply_all_changes.ensures.contact_items, c.requires.numbers)
+
+pub renew_contact_stands-requires-clause-asleep : goal.renew_contact_stands-requires-clause-asleep
+renew_contact_stands-requires-clause-asleep c =
+    let named : AreNamedAsleep c.apply_all_changes.new.bodies.bodies = rw c.apply_all_changes.ensures.bodies (told_named c.clear_marks.new.self.bodies c.apply_all_changes.new.sets.acting c.know_consistent.ensures) in
+    named
+
+pub renew_contact_stands-requires-clause-names : goal.renew_contact_stands-requires-clause-names
+renew_contact_stands-requires-clause-names c = c.apply_all_changes.ensures.contacts_standing.names

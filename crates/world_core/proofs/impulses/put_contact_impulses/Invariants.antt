@@ -3,4 +3,7 @@ use Rattle.world_core_base.specs.Gather.{with_rows}
 use Rattle.world_core.proofs.impulses.put_contact_impulses.Given as goal
 
 abbrev pub invariant-loop-index : goal.invariant-loop-index
-invariant-loop-index l = with_rows l.contacts.contacts (drop l.index l.rows) ≡ with_rows l.initial.contacts.contacts l.rows
+invariant-loop-index l = record {
+  given : with_rows l.contacts.contacts (drop l.index l.rows) ≡ with_rows l.initial.contacts.contacts l.rows;
+  numbered : l.contacts.numbered ≡ l.initial.contacts.numbered;
+}

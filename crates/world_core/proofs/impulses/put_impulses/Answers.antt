@@ -11,7 +11,7 @@ pub returns-clause-joints : goal.returns-clause-joints
 returns-clause-joints c = rw c.joints.ensures at c.put_joint_impulses.ensures
 
 pub returns-clause-value : goal.returns-clause-value
-returns-clause-value c = rw c.contacts.ensures at c.put_contact_impulses.ensures
+returns-clause-value c = rw c.contacts.ensures at c.put_contact_impulses.ensures.contacts
 
 pub returns-clause-all_joints : goal.returns-clause-all_joints
 returns-clause-all_joints c = λ bodies n below all.

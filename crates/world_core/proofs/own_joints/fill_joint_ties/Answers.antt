@@ -9,6 +9,9 @@ tie_at-requires c =
     let slots = c.requires.matched.slots in
     omega (arith, below, slots)
 
+pub put_some-requires : goal.put_some-requires
+put_some-requires c = λ there. let room = c.requires.room in omega (arith, c.loop-place.invariant.len, c.loop-place.invariant.capacity, c.loop-place-test.true, c.loop-place.ties.ok.0, room)
+
 pub loop-place-preserved : goal.loop-place-preserved
 loop-place-preserved c = record {
   ties = listed_more (own_tie c.args.bodies.now c.args.body c.args.slot_entries.now c.args.joints.now) c.loop-place.ties.items c.put_some.new.items.items c.tie_at.result c.args.slots.now c.loop-place.place 0 c.loop-place-test.true c.put_some.ensures.items c.tie_at.ensures ∙ c.loop-place.invariant.ties;

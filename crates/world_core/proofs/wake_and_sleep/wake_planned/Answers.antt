@@ -3,6 +3,8 @@ use Rattle.contacts.specs.Constraints.{constraint_number}
 use Rattle.sleep_wake.specs.Sleeping.{islands_woken}
 use Rattle.world_core.proofs.KeepLaws.{islands_alike, islands_slept, keep_woken}
 use Rattle.world_core.proofs.TellingLaws.{woken_beside}
+use Rattle.solver_sets.specs.Ties.{slots_of}
+use Rattle.world_core.proofs.SourceLaws.{first_named, stay_told}
 use Rattle.world_core.proofs.wake_and_sleep.wake_planned.Goals as goal
 
 pub tell_movers-requires-clause-others : goal.tell_movers-requires-clause-others
@@ -17,3 +19,9 @@ tell_movers-requires-clause-together c =
 
 pub returns-then-is_empty-clause-marked : goal.returns-then-is_empty-clause-marked
 returns-then-is_empty-clause-marked c = marked_same c.args.bodies.now.bodies c.args.bodies.now.marks
+
+pub know_told-requires-clause-names : goal.know_told-requires-clause-names
+know_told-requires-clause-names c =
+    let bodies = c.args.bodies.now.bodies in
+    let s = c.args.sets.now.acting in
+    rw c.bodies.ensures (first_named bodies (slots_of c.args.joint_entries.now c.args.joints.now.joints) c.args.contacts.now.contacts s.labels s.ties (stay_told bodies s.labels c.requires.told) c.requires.ties)

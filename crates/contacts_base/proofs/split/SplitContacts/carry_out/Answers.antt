@@ -5,4 +5,4 @@ pub invariant_of-self : goal.invariant_of-self
 invariant_of-self c =
     let s = c.self.inside in
     let all = rw (← c.self.view_is) at c.requires.contacts in
-    carried_is_split (λ entries. entries.items) c.args.notes.now c.args.ends.now c.args.short (split_of s.long.items s.over s.short.items) c.renew_all.new.entries.items c.set_all.new.self c.replace.new.entries.items s.index.is_made s.index.codes.items c.renew_all.ensures c.set_all.ensures c.replace.ensures c.self.invariant c.requires.short all
+    carried_is_split (λ entries. entries.items) c.args.notes.now c.args.ends.now c.args.short (split_of s.long.items s.over s.short.items) c.renew_all.new.entries.items c.set_all.new.self c.replace.new.entries.items c.renew_all.ensures c.set_all.ensures c.replace.ensures c.self.invariant c.requires.short all

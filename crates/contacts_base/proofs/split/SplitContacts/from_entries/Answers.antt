@@ -6,7 +6,7 @@ use Rattle.contacts_base.proofs.split.SplitContacts.from_entries.Goals as goal
 pub invariant_of-result : goal.invariant_of-result
 invariant_of-result c =
     let len : c.len.result ≡ length c.args.entries.items = grind (arith, common_steps) in
-    made_split c.args.entries.items c.in_ok-over.over c.new.result.items c.len.result c.new-2.result.is_made c.new-2.result.codes.items c.requires len c.in_ok-over.ensures.value c.new.ensures.items c.new-2.ensures
+    made_split c.args.entries.items c.in_ok-over.over c.new.result.items c.len.result c.requires len c.in_ok-over.ensures.value c.new.ensures.items
 
 pub returns-clause-contacts : goal.returns-clause-contacts
 returns-clause-contacts c = made_contacts c.args.entries.items c.in_ok-over.over c.new.result.items c.len.result c.requires c.in_ok-over.ensures.value c.new.ensures.items

@@ -7,4 +7,4 @@ pub returns-then-are_none_set : goal.returns-then-are_none_set
 returns-then-are_none_set c = λ t.
     let s = c.self.inside in
     let len : s.short.len ≡ length s.short.items = grind (arith, common_steps) in
-    rw (← c.self.view_is) (one_is (split_of s.long.items s.over s.short.items) s.index.is_made s.index.codes.items c.self.invariant (c.if-are_none_set.ensures (search rules)) (empty_of s.short.items s.short.len c.is_empty.result len c.is_empty.ensures t))
+    rw (← c.self.view_is) (one_is (split_of s.long.items s.over s.short.items) c.self.invariant (c.if-are_none_set.ensures (search rules)) (empty_of s.short.items s.short.len c.is_empty.result len c.is_empty.ensures t))

@@ -2,8 +2,10 @@ use Rattle.std.proofs.Common.{◌≡◌, ◌+◌, ◌<◌, ◌≤◌, ◌∷◌,
 use Rattle.sleep_wake.specs.Acting.{Acting, IsConsistent}
 use Rattle.sleep_wake.specs.Changes.{after_changes, after_change}
 use Rattle.sleep_wake.specs.ChangeLists.{AreChanges, IsChange, begin_count}
+use Rattle.sleep_wake.specs.Sources.{TellsAsleep}
 use Rattle.sleep_wake.proofs.FoldLemmas.{Labelled, change_now, change_next, one_count, count_next, changed_labelled, first_is}
 use Rattle.sleep_wake.proofs.ChangeOwn.{change_keeps}
+use Rattle.sleep_wake.proofs.SourceLaws.{changed_keeps, tells_on}
 use Rattle.sleep_wake.proofs.sets.Sets.apply_changes.Goals as goal
 
 pub change-requires-clause-can : goal.change-requires-clause-can
@@ -43,10 +45,14 @@ loop-place-preserved g c =
     let P : Acting g.row.C.Denot → Type 0 = λ v. AreChanges n old v.ties rest in
     let Q : Acting g.row.C.Denot → Type 0 = λ v. Labelled old v.labels in
     let S : Acting g.row.C.Denot → Type 0 = λ v. IsConsistent n v in
+    let names = g.T.TieSource.names c.args.source.now in
+    let told = g.T.TieSource.ties c.args.source.now in
+    let T : Acting g.row.C.Denot → Type 0 = λ v. TellsAsleep names told v.labels v.ties in
     record {
       consistent = subst S (sym is) (change_keeps n m now c.loop-place.invariant.consistent one);
       can = subst P (sym is) can;
       labelled = subst Q (sym is) (λ t h. changed_labelled n m now t (c.loop-place.invariant.labelled t h));
+      tells = subst T (sym is) (tells_on names told now (after_change n m now) (changed_keeps n m now c.loop-place.invariant.consistent one) c.loop-place.invariant.tells);
       rest = ap (λ (v : Acting g.row.C.Denot). after_changes n rest v) is ∙ left;
       few = omega (arith, few, c.change.ensures.room);
       room = c.change.ensures.room ∙ c.loop-place.invariant.room;

@@ -10,8 +10,8 @@ begin_awake-requires-clause-room g c = let room : length c.args.self.now.acting.
 pub returns-in-Begin-clause-acting : goal.returns-in-Begin-clause-acting
 returns-in-Begin-clause-acting g c = rw c.in-Begin.is c.begin_awake.ensures.acting
 
-pub end_awake-requires : goal.end_awake-requires
-end_awake-requires g c = record { can = rw c.in-End.is at c.requires.can }
+pub end_awake-requires-clause-can : goal.end_awake-requires-clause-can
+end_awake-requires-clause-can g c = rw c.in-End.is at c.requires.can
 
 pub returns-in-End-clause-acting : goal.returns-in-End-clause-acting
 returns-in-End-clause-acting g c = rw c.in-End.is c.end_awake.ensures.acting

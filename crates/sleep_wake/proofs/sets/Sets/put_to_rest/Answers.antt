@@ -15,6 +15,12 @@ use Rattle.sleep_wake.proofs.PhaseLemmas.{names}
 use Rattle.sleep_wake.proofs.SizeLemmas.{rested_size, rested_ties}
 use Rattle.sleep_wake.proofs.sets.Sets.put_to_rest.Goals as goal
 
+pub gather-requires-clause-rising : goal.gather-requires-clause-rising
+gather-requires-clause-rising g c = c.self.invariant.consistent.rising
+
+pub gather-requires-clause-source : goal.gather-requires-clause-source
+gather-requires-clause-source g c = rw (← c.self.view_is) at c.requires.source
+
 pub gather-requires-clause-islands : goal.gather-requires-clause-islands
 gather-requires-clause-islands g c = c.self.invariant.consistent.islands
 
@@ -37,7 +43,7 @@ release_each-requires g c =
 pub rest-requires : goal.rest-requires
 rest-requires g c =
     let a = c.self.inside in
-    let o = names a.graph.islands.labels c.args.name false (rw (← c.self.view_is) at c.requires) in
+    let o = names a.graph.islands.labels c.args.name false (rw (← c.self.view_is) at c.requires.island) in
     record { island = in_of (label_at a.graph.islands.labels c.args.name) o.l c.args.name o.at o.named }
 
 pub invariant_of-self : goal.invariant_of-self
@@ -47,7 +53,7 @@ invariant_of-self g c =
     let s : Acting g.row.C.Denot = acting a.graph.ties.items a.graph.islands.labels a.graph.colours.lists in
     let new : Acting g.row.C.Denot = acting a.graph.ties.items c.rest.new.self.labels c.release_each.new.colours.lists in
     let is : new ≡ put_to_rest n c.args.name s = rested_by_list n c.args.name s c.list.result.now c.rest.new.self.labels c.release_each.new.colours.lists (c.list.ensures ∙ c.gather.ensures.list) c.rest.ensures.labels c.release_each.ensures.lists in
-    let o = names a.graph.islands.labels c.args.name false (rw (← c.self.view_is) at c.requires) in
+    let o = names a.graph.islands.labels c.args.name false (rw (← c.self.view_is) at c.requires.island) in
     let P : Acting g.row.C.Denot → Type 0 = λ v. IsConsistent n v in
     stands_on n s new a.room a.slots (record { ties = a.graph.ties.capacity; colours = a.graph.colours.room; colour_slots = a.graph.colours.slots; islands = a.graph.islands.room; edges = vec_capacity a.work.edges; scratch_slots = a.work.scratch.slots; links = a.work.scratch.links; gathering_ties = a.work.gathering.ties; gathering_slots = a.work.gathering.slots; leasts = vec_capacity a.work.leasts }) (record { ties = a.graph.ties.capacity; colours = c.release_each.new.colours.room; colour_slots = c.release_each.new.colours.slots; islands = c.rest.new.self.room; edges = vec_capacity a.work.edges; scratch_slots = a.work.scratch.slots; links = a.work.scratch.links; gathering_ties = c.gather.new.self.ties; gathering_slots = c.gather.new.self.slots; leasts = vec_capacity a.work.leasts }) c.self.invariant
     (subst P (sym is) (resting n s c.args.name o.l c.self.invariant.consistent o.at o.named o.loosely))

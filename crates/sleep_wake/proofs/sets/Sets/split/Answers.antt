@@ -13,6 +13,12 @@ use Rattle.sleep_wake.proofs.GatherLemmas.{filter_few, edges_listed}
 use Rattle.sleep_wake.proofs.SizeLemmas.{splits_is}
 use Rattle.sleep_wake.proofs.sets.Sets.split.Goals as goal
 
+pub gather-requires-clause-rising : goal.gather-requires-clause-rising
+gather-requires-clause-rising g c = c.self.invariant.consistent.rising
+
+pub gather-requires-clause-source : goal.gather-requires-clause-source
+gather-requires-clause-source g c = rw (← c.self.view_is) at c.requires.source
+
 pub gather-requires-clause-islands : goal.gather-requires-clause-islands
 gather-requires-clause-islands g c = c.self.invariant.consistent.islands
 
@@ -50,7 +56,7 @@ invariant_of-self g c =
     let n = g.C.Id.number in
     let s : Acting g.row.C.Denot = acting a.graph.ties.items a.graph.islands.labels a.graph.colours.lists in
     let new : Acting g.row.C.Denot = acting a.graph.ties.items c.split.new.self.labels a.graph.colours.lists in
-    let o = names a.graph.islands.labels c.args.name true (rw (← c.self.view_is) at c.requires) in
+    let o = names a.graph.islands.labels c.args.name true (rw (← c.self.view_is) at c.requires.island) in
     let own : c.list_edges.new.edges.items ≡ edges_in a.graph.islands.labels c.args.name a.graph.ties.items = edges_listed a.graph.islands.labels c.args.name a.graph.ties.items c.list.result.now c.list_edges.new.edges.items (c.list.ensures ∙ c.gather.ensures.list) c.list_edges.ensures.items in
     let labels : c.split.new.self.labels ≡ split_by a.graph.islands.labels c.args.name (edges_in a.graph.islands.labels c.args.name a.graph.ties.items) = c.split.ensures.labels ∙ ap (λ (l : Edges). split_by a.graph.islands.labels c.args.name l) (c.deref.ensures.value ∙ own) in
     let is : new ≡ split_at c.args.name s = splits_is c.args.name s c.split.new.self.labels labels in

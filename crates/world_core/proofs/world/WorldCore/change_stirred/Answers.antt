@@ -1,15 +1,13 @@
-use Rattle.std.proofs.Common.{◌≡◌, ◌<◌, ◌^◌, length, ap, sym, subst, refl, ◌∙◌, List, Option}
-use Rattle.plain_world.specs.declared.body.Body.{Body}
-use Rattle.plain_world.specs.Slots.{body_at}
+use Rattle.std.proofs.Common.{refl}
 use Rattle.solver_sets.specs.Beside.{stirred_by}
 use Rattle.world_rules.specs.World.{World}
 use Rattle.world_core.specs.contracts.world.WorldCore.{the_view}
 use Rattle.world_core.proofs.Whole.{HasWoken, changed_whole, has_woken, told_whole}
+use Rattle.world_core_base.proofs.ContactStandLaws.{contacts_alike}
 use Rattle.world_core_base.proofs.JointStandLaws.{joints_alike, same_long}
 use Rattle.world_core.proofs.CoreLaws.{core_bodies}
 use Rattle.world_core.proofs.KnownLaws.{marked_after}
-use Rattle.world_core.proofs.FewerTies.{fewer_woken}
-use Rattle.solver_sets.proofs.FewerAnchoredLaws.{complete_with_fewer}
+use Rattle.world_core.proofs.WorldSourceLaws.{world_can_tell, world_ties}
 use Rattle.world_core.proofs.world.WorldCore.change_stirred.Goals as goal
 
 pub wake_planned-requires-clause-movers : goal.wake_planned-requires-clause-movers
@@ -17,6 +15,12 @@ wake_planned-requires-clause-movers g c = rw (← c.self.view_is) at c.in_ok-wak
 
 pub wake_planned-requires-clause-told : goal.wake_planned-requires-clause-told
 wake_planned-requires-clause-told g c = told_whole (the_view c.self.inside) _ c.self.invariant.whole
+
+pub wake_planned-requires-clause-can_tell : goal.wake_planned-requires-clause-can_tell
+wake_planned-requires-clause-can_tell g c = rw c.slot_entries.ensures (world_can_tell (the_view c.self.inside) c.self.inside.sets.acting c.self.invariant.whole)
+
+pub wake_planned-requires-clause-ties : goal.wake_planned-requires-clause-ties
+wake_planned-requires-clause-ties g c = rw c.slot_entries.ensures (world_ties (the_view c.self.inside) c.self.inside.sets.acting c.self.invariant.whole)
 
 pub change-requires-clause-slot : goal.change-requires-clause-slot
 change-requires-clause-slot g c = rw c.wake_planned.ensures.count (rw (← c.self.view_is) at c.requires.present)
@@ -37,5 +41,5 @@ invariant_of-self g c =
     (rw c.change.ensures.bodies (changed_whole w c.args.handle (g.C.BodyChange.after c.args.change.now) c.self.inside.sets.acting _ _ c.self.invariant.whole woke (rw (← c.self.view_is) at c.requires.may)))
     refl refl refl refl
     (marked_after c.self.inside.bodies c.wake_planned.new.bodies c.change.new.self c.wake_planned.ensures.marked c.change.ensures.marked)
-    c.tidy.new.self (c.tidy.ensures.complete (complete_with_fewer c.self.inside.anchors.holds c.self.inside.anchors.lists c.self.inside.sets.acting.ties c.wake_planned.new.sets.acting.ties (fewer_woken c.in_ok-waking.waking.names.items c.self.inside.sets.acting c.wake_planned.new.sets.acting c.wake_planned.ensures.acting) c.self.invariant.anchored))
     c.wake_planned.new.stands (joints_alike c.wake_planned.new.bodies.bodies c.change.new.self.bodies c.self.inside.joints.joints c.wake_planned.new.stands (same_long c.wake_planned.new.bodies.bodies c.change.new.self.bodies c.args.handle.slot _ c.change.ensures.bodies) c.change.ensures.stands c.wake_planned.ensures.standing)
+    c.self.inside.contacts.numbered c.wake_planned.new.contact_stands (contacts_alike c.wake_planned.new.bodies.bodies c.change.new.self.bodies c.self.inside.contacts.numbered c.wake_planned.new.contact_stands (same_long c.wake_planned.new.bodies.bodies c.change.new.self.bodies c.args.handle.slot _ c.change.ensures.bodies) c.change.ensures.stands c.wake_planned.ensures.contacts_standing)

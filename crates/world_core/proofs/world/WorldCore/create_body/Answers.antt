@@ -1,4 +1,4 @@
-use Rattle.std.proofs.Common.{◌≡◌, ◌<◌, ◌≤◌, ◌^◌, length, arith, refl}
+use Rattle.std.proofs.Common.{◌≡◌, ◌<◌, ◌≤◌, ◌^◌, length, ap, arith, refl}
 use Rattle.body_handles.proofs.LowestLemmas.{lowest-le-length}
 use Rattle.body_handles.specs.SlotEntries.{lowest}
 use Rattle.body_handles.specs.declared.slot_table.TheConstants.{MAX_SLOTS}
@@ -15,8 +15,10 @@ use Rattle.world_core_base.proofs.StandLaws.{same_more}
 use Rattle.world_core_base.proofs.TableLaws.{length-with_body}
 use Rattle.world_core.proofs.CoreLaws.{core_bodies}
 use Rattle.world_core.proofs.KnownLaws.{marked_after}
-use Rattle.world_core.proofs.FewerTies.{fewer_made, fewer_reserved}
-use Rattle.solver_sets.proofs.FewerAnchoredLaws.{complete_with_fewer}
+use Rattle.plain_world.specs.Slots.{with_body}
+use Rattle.solver_sets.specs.Ties.{is_enabled_in}
+use Rattle.world_core.proofs.ComingLaws.{made_beside}
+use Rattle.world_core.proofs.ListedContactLaws.{contacts_stay}
 use Rattle.world_core.proofs.world.WorldCore.create_body.Goals as goal
 
 pub come-requires-clause-fresh : goal.come-requires-clause-fresh
@@ -72,8 +74,6 @@ invariant_of-self-2 c =
     (whole w _ _ _ (create_left w c.self.inside.sets.acting c.args.def.now (kept_of _ _ c.self.invariant.whole) c.self.invariant.whole.same calls free body filters)))
     refl refl refl refl
     (marked_after c.self.inside.bodies c.reserve_one-2.new.self c.put.new.self c.in_ok-reserve_one-2.ensures.marked c.put.ensures.marked)
-    c.self.inside.anchors (complete_with_fewer c.self.inside.anchors.holds c.self.inside.anchors.lists c.self.inside.sets.acting.ties _ (fewer_reserved c.self.inside.sets.acting c.reserve.new.self.acting c.widen.new.self.acting c.in_ok-reserve.ensures.acting
-    (fewer_made c.is_mover.result c.in_ok-handle.handle.slot _ c.reserve.new.self.acting c.come.new.sets.acting c.widen.new.self.acting c.come.ensures.acting c.widen.ensures.acting)) c.self.invariant.anchored)
     c.reserve-2.new.self
     (rw (c.put.ensures.bodies, c.in_ok-handle.ensures.slot, c.in_ok-reserve_one.ensures.kept, c.in_ok-body.ensures.made, c.in_ok-reserve_one-2.ensures.bodies)
     (joints_made w.plain.bodies w.plain.joints (lowest w.plain.slot_entries) (made c.args.def.now) c.self.inside.joint_sets c.reserve-2.new.self (kept_of _ _ c.self.invariant.whole).joints (free_slot w (kept_of _ _ c.self.invariant.whole))
@@ -82,6 +82,15 @@ invariant_of-self-2 c =
     (let least : lowest w.plain.slot_entries ≤ length w.plain.slot_entries = lowest-le-length w.plain.slot_entries in let slots : length w.plain.slot_entries ≡ length w.plain.bodies = (kept_of _ _ c.self.invariant.whole).matched.slots in
     let more = length-with_body w.plain.bodies (lowest w.plain.slot_entries) (made c.args.def.now) (omega (arith, least, slots)) in let room = rw (c.bodies-2.ensures, c.in_ok-reserve_one-2.ensures.bodies) at c.in_ok-reserve-2.ensures.named in omega (arith, more, room))
     c.self.invariant.standing))
+    c.self.inside.contacts.numbered c.reserve-3.new.self
+    (rw (c.put.ensures.bodies, c.in_ok-handle.ensures.slot, c.in_ok-reserve_one.ensures.kept, c.in_ok-body.ensures.made, c.in_ok-reserve_one-2.ensures.bodies)
+    (let slot = lowest w.plain.slot_entries in
+    let least : slot ≤ length w.plain.slot_entries = lowest-le-length w.plain.slot_entries in
+    let slots : length w.plain.slot_entries ≡ length w.plain.bodies = (kept_of _ _ c.self.invariant.whole).matched.slots in
+    let more = length-with_body w.plain.bodies slot (made c.args.def.now) (omega (arith, least, slots)) in
+    let room = rw (c.bodies-3.ensures, c.in_ok-reserve_one-2.ensures.bodies) at c.in_ok-reserve-3.ensures.named in
+    contacts_stay w.plain.bodies (with_body w.plain.bodies slot (made c.args.def.now)) slot w.plain.contacts c.self.inside.contacts.numbered c.self.inside.contact_sets c.reserve-3.new.self (kept_of _ _ c.self.invariant.whole).there (ap is_enabled_in (free_slot w (kept_of _ _ c.self.invariant.whole))) c.know_numbered.ensures.numbered
+    (λ other ne. made_beside w.plain.bodies slot (made c.args.def.now) other (omega (arith, least, slots)) ne) (rw c.in_ok-reserve-3.ensures.stands (same_more 0 c.self.inside.contact_sets.stands)) (omega (arith, more, room)) c.self.invariant.contacts_standing))
 
 pub returns : goal.returns
 returns c =

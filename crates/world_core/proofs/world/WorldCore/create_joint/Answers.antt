@@ -19,8 +19,7 @@ use Rattle.world_core.proofs.PartLaws.{can_join_from, free_joint, join_answers, 
 use Rattle.plain_world.specs.Slots.{with_item}
 use Rattle.world_core.proofs.CoreLaws.{core_joined}
 use Rattle.world_core.proofs.KnownLaws.{marked_after}
-use Rattle.world_core.proofs.FewerTies.{fewer_joined, fewer_reserved}
-use Rattle.solver_sets.proofs.FewerAnchoredLaws.{complete_with_fewer}
+use Rattle.world_core.proofs.WorldSourceLaws.{world_can_tell, world_ties}
 use Rattle.world_core.proofs.world.WorldCore.create_joint.Goals as goal
 
 pub wake_planned-requires-clause-movers : goal.wake_planned-requires-clause-movers
@@ -28,6 +27,12 @@ wake_planned-requires-clause-movers c = rw c.in_ok-reserve.ensures.acting (rw (â
 
 pub wake_planned-requires-clause-told : goal.wake_planned-requires-clause-told
 wake_planned-requires-clause-told c = rw c.in_ok-reserve.ensures.acting (told_whole (the_view c.self.inside) _ c.self.invariant.whole)
+
+pub wake_planned-requires-clause-can_tell : goal.wake_planned-requires-clause-can_tell
+wake_planned-requires-clause-can_tell c = rw (c.slot_entries.ensures, c.in_ok-reserve_one.ensures.kept, c.in_ok-reserve_for.ensures.joints) (world_can_tell (the_view c.self.inside) c.self.inside.sets.acting c.self.invariant.whole)
+
+pub wake_planned-requires-clause-ties : goal.wake_planned-requires-clause-ties
+wake_planned-requires-clause-ties c = rw (c.slot_entries.ensures, c.in_ok-reserve_one.ensures.kept, c.in_ok-reserve_for.ensures.joints, c.in_ok-reserve.ensures.acting) (world_ties (the_view c.self.inside) c.self.inside.sets.acting c.self.invariant.whole)
 
 pub wake_planned-requires-clause-standing : goal.wake_planned-requires-clause-standing
 wake_planned-requires-clause-standing c = rw c.in_ok-reserve_for.ensures.joints (record {
@@ -115,8 +120,6 @@ invariant_of-self-2 c =
     (whole w _ _ _ (join_left w c.self.inside.sets.acting c.args.def.now (kept_of _ _ c.self.invariant.whole) c.self.invariant.whole.same calls free is)))
     refl refl none le
     (marked_after c.self.inside.bodies c.wake_planned.new.bodies c.mark.new.self c.wake_planned.ensures.marked c.mark.ensures.marked) c.mark.ensures.there put refl
-    c.self.inside.anchors (complete_with_fewer c.self.inside.anchors.holds c.self.inside.anchors.lists c.self.inside.sets.acting.ties _ (fewer_reserved c.self.inside.sets.acting c.reserve.new.self.acting c.begin_with.new.sets.acting c.in_ok-reserve.ensures.acting
-    (fewer_joined c.in_ok-handle.handle c.joint_movers-movers.result c.in_ok-waking.waking.names.items c.reserve.new.self.acting c.wake_planned.new.sets.acting c.begin_with.new.sets.acting c.wake_planned.ensures.acting c.begin_with.ensures.acting)) c.self.invariant.anchored)
     c.put_joint_stand.new.sets
     (let room = long_more (length w.plain.joints + 1) c.self.inside.joint_sets.stands in
     let made = rw (c.joints.ensures, c.in_ok-reserve_for.ensures.joints) at c.in_ok-reserve-2.ensures.stands in
@@ -126,6 +129,7 @@ invariant_of-self-2 c =
     rw (c.mark.ensures.bodies, put)
     (joint_put c.wake_planned.new.bodies.bodies w.plain.joints c.in_ok-handle.handle.slot c.make-joint.result c.wake_planned.new.stands c.put_joint_stand.new.sets le (omega (arith, le, room, long, items))
     (rw (c.bodies-3.ensures, c.mark.ensures.bodies) at c.put_joint_stand.ensures.stands) c.put_joint_stand.ensures.names standing))
+    c.self.inside.contacts.numbered c.wake_planned.new.contact_stands (rw c.mark.ensures.bodies c.wake_planned.ensures.contacts_standing)
 
 pub returns : goal.returns
 returns c =

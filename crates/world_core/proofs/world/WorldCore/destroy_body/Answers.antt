@@ -1,5 +1,4 @@
-use Rattle.std.proofs.Common.{◌≡◌, ◌∙◌, ◌<◌, ◌^◌, true, Some, sym, ap, arith, refl, List, Option, None}
-use Rattle.contacts_base.specs.Contacts.{contacts_without}
+use Rattle.std.proofs.Common.{◌≡◌, ◌∙◌, ◌<◌, ◌^◌, true, Some, sym, ap, arith, refl, List, Option, None, length}
 use Rattle.solver_sets.specs.Ties.{JointSlots}
 use Rattle.world_rules.specs.World.{World, body_named, joints_in_slots}
 use Rattle.world_rules.proofs.KeptChanges.{named_at}
@@ -17,11 +16,13 @@ use Rattle.world_core.proofs.LeavingLaws.{destroyed_quietly}
 use Rattle.world_core.proofs.PartLaws.{destroy_answers, entry_fits, kept_of, whole}
 use Rattle.plain_world.specs.declared.body.Body.{Body}
 use Rattle.plain_world.specs.Slots.{body_at}
-use Rattle.solver_sets.proofs.SlotLemmas.{item_at-set_none}
+use Rattle.solver_sets.proofs.SlotLemmas.{item_at-set_none, item_at-set_other}
 use Rattle.world_core.proofs.CoreLaws.{core_destroyed}
 use Rattle.world_core.proofs.KnownLaws.{marked_after}
-use Rattle.world_core.proofs.FewerTies.{fewer_left}
-use Rattle.solver_sets.proofs.FewerAnchoredLaws.{complete_with_fewer}
+use Rattle.world_core.proofs.WorldSourceLaws.{world_can_tell, world_ties}
+use Rattle.std.proofs.lemmas.List.{length-set}
+use Rattle.world_core_base.specs.Stands.{stand_in}
+use Rattle.world_core.proofs.ListedContactLaws.{contacts_leave, own_contacts_listed}
 use Rattle.world_core.proofs.world.WorldCore.destroy_body.Goals as goal
 use Rattle.world_core.proofs.world.WorldCore.destroy_body.Goals.{After-deref-2}
 
@@ -30,6 +31,12 @@ wake_planned-requires-clause-movers c = rw (← c.self.view_is) at c.in_ok-wakin
 
 pub wake_planned-requires-clause-told : goal.wake_planned-requires-clause-told
 wake_planned-requires-clause-told c = (told_whole (the_view c.self.inside) _ c.self.invariant.whole)
+
+pub wake_planned-requires-clause-can_tell : goal.wake_planned-requires-clause-can_tell
+wake_planned-requires-clause-can_tell c = rw c.slot_entries.ensures (world_can_tell (the_view c.self.inside) c.self.inside.sets.acting c.self.invariant.whole)
+
+pub wake_planned-requires-clause-ties : goal.wake_planned-requires-clause-ties
+wake_planned-requires-clause-ties c = rw c.slot_entries.ensures (world_ties (the_view c.self.inside) c.self.inside.sets.acting c.self.invariant.whole)
 
 named : (c : After-deref-2) → body_named (the_view c.self.inside).plain c.args.handle ≡ Some c.in-Some.body.now
 named c = rw (← c.bodies.ensures) (sym c.in-Some.ensures)
@@ -66,6 +73,13 @@ drop_joint_stands-requires c k h =
     let listed : is_listed (joint_stand c.wake_planned.new.bodies.bodies w.plain.joints k) ≡ true = rw (c.wake_planned.ensures.told, (going left).bodies) (own_stirred_listed w c.self.inside.sets.acting slot k c.self.invariant.whole own) in
     ap is_listed (c.wake_planned.ensures.standing.stands k) ∙ listed
 
+pub drop_contact_stands-requires : goal.drop_contact_stands-requires
+drop_contact_stands-requires c number went =
+    let w : World = the_view c.self.inside in
+    let left = (goal.at.drop_contact_stands-requires c).After-deref-2 in
+    own_contacts_listed w c.self.inside.sets.acting c.args.handle.slot c.self.inside.contacts.numbered c.drop_of_body.new.self.numbered c.drop_of_body.new.self.made c.drop_of_body.new.self.gone c.wake_planned.new.contact_stands c.self.invariant.whole c.know_numbered.ensures.numbered (rw c.drop_of_body.ensures.contacts at c.know_numbered-2.ensures.numbered) c.drop_of_body.ensures.turnover
+    (rw (c.wake_planned.ensures.told, (going left).bodies) at c.wake_planned.ensures.contacts_standing) number went
+
 pub book-requires-clause-fits : goal.book-requires-clause-fits
 book-requires-clause-fits c =
     entry_fits (the_view c.self.inside) _ c.reserve.new.self _ c.self.invariant.whole c.in_ok-reserve.ensures.entries c.in_ok-reserve.ensures.settled (omega (arith, c.loss_of.ensures.small_x)) (omega (arith, c.loss_of.ensures.small_y))
@@ -81,16 +95,21 @@ invariant_of-self-2 c =
     let joints = ap (λ (s : JointSlots). s.joints) c.drop_joints.ensures.gone in
     let none : body_at c.clear.new.self.bodies c.args.handle.slot ≡ None = ap (λ (bs : List (Option Body)). body_at bs c.args.handle.slot) c.clear.ensures.bodies ∙ item_at-set_none c.wake_planned.new.bodies.bodies c.args.handle.slot in
     core_destroyed w _ _ _ c.self.inside.bodies c.clear.new.self c.args.handle.slot c.in-Some.body.now c.self.invariant
-    (rw (c.book.ensures.entries, c.book.ensures.settled, c.loss_of.ensures.x, c.loss_of.ensures.y, c.mover_momentum-p.ensures, c.in_ok-reserve.ensures.entries, c.in_ok-reserve.ensures.settled, c.clear.ensures.bodies, slot_entries, joints, c.drop_of_body.ensures, c.in_ok-reserve_drop.ensures.contacts, c.remove.ensures.taken_back, c.wake_planned.ensures.told, leaving.bodies, c.leave.ensures.acting, leaving.gone)
+    (rw (c.book.ensures.entries, c.book.ensures.settled, c.loss_of.ensures.x, c.loss_of.ensures.y, c.mover_momentum-p.ensures, c.in_ok-reserve.ensures.entries, c.in_ok-reserve.ensures.settled, c.clear.ensures.bodies, slot_entries, joints, c.drop_of_body.ensures.contacts, c.remove.ensures.taken_back, c.wake_planned.ensures.told, leaving.bodies, c.leave.ensures.acting, leaving.gone)
     (whole w _ _ _ (destroyed_quietly w c.self.inside.sets.acting c.args.handle c.in-Some.body.now (kept_of _ _ c.self.invariant.whole) c.self.invariant.whole.same calls is_named)))
     refl refl (named_at w.plain c.args.handle c.in-Some.body.now is_named) none
-    (marked_after c.self.inside.bodies c.wake_planned.new.bodies c.clear.new.self c.wake_planned.ensures.marked c.clear.ensures.marked) joints (c.drop_of_body.ensures ∙ ap (contacts_without c.args.handle.slot) c.in_ok-reserve_drop.ensures.contacts)
-    c.self.inside.anchors (complete_with_fewer c.self.inside.anchors.holds c.self.inside.anchors.lists c.self.inside.sets.acting.ties _ (fewer_left c.is_mover-mover.result c.args.handle.slot c.in_ok-waking.waking.names.items c.deref-2.result.now c.self.inside.sets.acting c.wake_planned.new.sets.acting c.leave.new.sets.acting c.wake_planned.ensures.acting c.leave.ensures.acting) c.self.invariant.anchored)
+    (marked_after c.self.inside.bodies c.wake_planned.new.bodies c.clear.new.self c.wake_planned.ensures.marked c.clear.ensures.marked) joints c.drop_of_body.ensures.contacts
     c.drop_joint_stands.new.sets
     (rw (c.clear.ensures.bodies, joints)
     (body_leaves c.wake_planned.new.bodies.bodies c.args.handle.slot (joints_in_slots w.plain) c.drop_joint_stands.new.sets
     (joints_leave c.wake_planned.new.bodies.bodies c.args.handle.slot (joints_in_slots w.plain) c.deref-3.result.now c.wake_planned.new.stands c.drop_joint_stands.new.sets (c.deref-3.ensures.value ∙ c.in_ok-own.ensures.slots) c.drop_joint_stands.ensures.gone c.drop_joint_stands.ensures.others c.drop_joint_stands.ensures.names
     c.wake_planned.ensures.standing)))
+    c.drop_of_body.new.self.numbered c.drop_contact_stands.new.sets
+    (contacts_leave c.wake_planned.new.bodies.bodies c.clear.new.self.bodies c.args.handle.slot w.plain.contacts c.self.inside.contacts.numbered c.drop_of_body.new.self.numbered c.drop_of_body.new.self.made c.drop_of_body.new.self.gone c.wake_planned.new.contact_stands c.drop_contact_stands.new.sets c.know_numbered.ensures.numbered (rw c.drop_of_body.ensures.contacts at c.know_numbered-2.ensures.numbered)
+    c.drop_of_body.ensures.turnover c.drop_of_body.ensures.none c.drop_contact_stands.ensures.gone c.drop_contact_stands.ensures.others c.drop_contact_stands.ensures.names
+    (λ other ne. rw c.clear.ensures.bodies (ap stand_in (item_at-set_other c.wake_planned.new.bodies.bodies c.args.handle.slot None other ne)))
+    (let long = ap (λ (os : List (Option Body)). length os) c.clear.ensures.bodies ∙ length-set c.wake_planned.new.bodies.bodies c.args.handle.slot None in omega (arith, long))
+    c.wake_planned.ensures.contacts_standing)
 
 pub returns : goal.returns
 returns c =
@@ -103,5 +122,5 @@ returns c =
     let joints = ap (λ (s : JointSlots). s.joints) c.drop_joints.ensures.gone in
     rw (← c.self.view_is)
     (destroy_answers w c.args.handle c.in-Some.body.now _ c.leave.new.sets.acting is_named
-    (rw (c.book.ensures.entries, c.book.ensures.settled, c.loss_of.ensures.x, c.loss_of.ensures.y, c.mover_momentum-p.ensures, c.in_ok-reserve.ensures.entries, c.in_ok-reserve.ensures.settled, c.clear.ensures.bodies, slot_entries, joints, c.drop_of_body.ensures, c.in_ok-reserve_drop.ensures.contacts, c.remove.ensures.taken_back, c.wake_planned.ensures.told, leaving.bodies, c.leave.ensures.acting, leaving.gone)
+    (rw (c.book.ensures.entries, c.book.ensures.settled, c.loss_of.ensures.x, c.loss_of.ensures.y, c.mover_momentum-p.ensures, c.in_ok-reserve.ensures.entries, c.in_ok-reserve.ensures.settled, c.clear.ensures.bodies, slot_entries, joints, c.drop_of_body.ensures.contacts, c.remove.ensures.taken_back, c.wake_planned.ensures.told, leaving.bodies, c.leave.ensures.acting, leaving.gone)
     (destroyed_quietly w c.self.inside.sets.acting c.args.handle c.in-Some.body.now (kept_of _ _ c.self.invariant.whole) c.self.invariant.whole.same calls is_named)))

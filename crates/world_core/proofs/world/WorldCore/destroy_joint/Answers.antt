@@ -14,8 +14,7 @@ use Rattle.world_core.proofs.PartLaws.{can_unjoin_from, joint_below, kept_of, un
 use Rattle.world_rules.proofs.KeptJoints.{live_joint}
 use Rattle.world_core.proofs.CoreLaws.{core_unjoined}
 use Rattle.world_core.proofs.KnownLaws.{marked_after}
-use Rattle.world_core.proofs.FewerTies.{fewer_unjoined}
-use Rattle.solver_sets.proofs.FewerAnchoredLaws.{complete_with_fewer}
+use Rattle.world_core.proofs.WorldSourceLaws.{world_can_tell, world_ties}
 use Rattle.world_core.proofs.world.WorldCore.destroy_joint.Goals as goal
 
 pub wake_planned-requires-clause-movers : goal.wake_planned-requires-clause-movers
@@ -23,6 +22,12 @@ wake_planned-requires-clause-movers c = rw (← c.self.view_is) at c.in_ok-wakin
 
 pub wake_planned-requires-clause-told : goal.wake_planned-requires-clause-told
 wake_planned-requires-clause-told c = (told_whole (the_view c.self.inside) _ c.self.invariant.whole)
+
+pub wake_planned-requires-clause-can_tell : goal.wake_planned-requires-clause-can_tell
+wake_planned-requires-clause-can_tell c = rw c.slot_entries.ensures (world_can_tell (the_view c.self.inside) c.self.inside.sets.acting c.self.invariant.whole)
+
+pub wake_planned-requires-clause-ties : goal.wake_planned-requires-clause-ties
+wake_planned-requires-clause-ties c = rw c.slot_entries.ensures (world_ties (the_view c.self.inside) c.self.inside.sets.acting c.self.invariant.whole)
 
 pub end_with-requires-clause-there : goal.end_with-requires-clause-there
 end_with-requires-clause-there c =
@@ -56,10 +61,10 @@ invariant_of-self c =
     (whole w _ _ _ (unjoin_left w c.self.inside.sets.acting c.args.handle c.in-Some.joint (kept_of _ _ c.self.invariant.whole) c.self.invariant.whole.same calls (sym c.in-Some.ensures))))
     refl refl (live_joint w c.args.handle c.in-Some.joint (sym c.in-Some.ensures)).1
     (marked_after c.self.inside.bodies c.wake_planned.new.bodies c.mark.new.self c.wake_planned.ensures.marked c.mark.ensures.marked) c.mark.ensures.there c.clear.ensures refl
-    c.self.inside.anchors (complete_with_fewer c.self.inside.anchors.holds c.self.inside.anchors.lists c.self.inside.sets.acting.ties _ (fewer_unjoined c.args.handle c.joint_movers-movers.result c.in_ok-waking.waking.names.items c.self.inside.sets.acting c.wake_planned.new.sets.acting c.end_with.new.sets.acting c.wake_planned.ensures.acting c.end_with.ensures.acting) c.self.invariant.anchored)
     c.remove-2.new.self
     (rw (c.mark.ensures.bodies, c.clear.ensures)
     (joint_leaves c.wake_planned.new.bodies.bodies w.plain.joints c.args.handle.slot c.wake_planned.new.stands c.remove-2.new.self c.remove-2.ensures.stands c.remove-2.ensures.names c.wake_planned.ensures.standing))
+    c.self.inside.contacts.numbered c.wake_planned.new.contact_stands (rw c.mark.ensures.bodies c.wake_planned.ensures.contacts_standing)
 
 pub returns : goal.returns
 returns c =

@@ -11,7 +11,6 @@ use Rattle.world_core_base.specs.Stands.{AreNamedAsleep, joint_stand}
 use Rattle.world_rules.proofs.PartsLeft.{stirred_slots}
 use Rattle.world_core.proofs.ChangedJointLaws.{disabled_named, idle_ends, idle_own, others_stand}
 use Rattle.world_core.proofs.ListedJointLaws.{own_stirred_listed, woken_named}
-use Rattle.contacts_base.specs.Contacts.{contacts_without}
 use Rattle.world_rules.specs.World.{World, body_named}
 use Rattle.world_rules.proofs.KeptChanges.{named_at}
 use Rattle.world_core.specs.contracts.world.WorldCore.{the_view}
@@ -22,8 +21,8 @@ use Rattle.world_core.proofs.LeavingLaws.{disabled_quietly}
 use Rattle.world_core.proofs.PartLaws.{disable_answers, entry_fits, kept_of, whole}
 use Rattle.world_core.proofs.CoreLaws.{core_disabled}
 use Rattle.world_core.proofs.KnownLaws.{marked_after}
-use Rattle.world_core.proofs.FewerTies.{fewer_left}
-use Rattle.solver_sets.proofs.FewerAnchoredLaws.{complete_with_fewer}
+use Rattle.world_core.proofs.WorldSourceLaws.{world_can_tell, world_ties}
+use Rattle.world_core.proofs.ListedContactLaws.{contacts_leave, own_contacts_listed}
 use Rattle.world_core.proofs.world.WorldCore.disable.Goals as goal
 use Rattle.world_core.proofs.world.WorldCore.disable.Goals.{After-deref-2}
 
@@ -32,6 +31,12 @@ wake_planned-requires-clause-movers c = rw (← c.self.view_is) at c.in_ok-wakin
 
 pub wake_planned-requires-clause-told : goal.wake_planned-requires-clause-told
 wake_planned-requires-clause-told c = (told_whole (the_view c.self.inside) _ c.self.invariant.whole)
+
+pub wake_planned-requires-clause-can_tell : goal.wake_planned-requires-clause-can_tell
+wake_planned-requires-clause-can_tell c = rw c.slot_entries.ensures (world_can_tell (the_view c.self.inside) c.self.inside.sets.acting c.self.invariant.whole)
+
+pub wake_planned-requires-clause-ties : goal.wake_planned-requires-clause-ties
+wake_planned-requires-clause-ties c = rw c.slot_entries.ensures (world_ties (the_view c.self.inside) c.self.inside.sets.acting c.self.invariant.whole)
 
 named : (c : After-deref-2) → body_named (the_view c.self.inside).plain c.args.handle ≡ Some c.in-Some.body.now
 named c = rw (← c.bodies.ensures) (sym c.in-Some.ensures)
@@ -93,6 +98,13 @@ follow-requires-clause-others c k =
     rw (c.bodies-2.ensures, c.disable.ensures.bodies, c.idle.ensures)
     (changed_beside woke (changed_at disabled_body woke slot) (idle_joints slot c.self.inside.joints.joints) slot (stand_at c.wake_planned.new.stands.stands) (idle_standing left) (others_stand disabled_body woke slot) k)
 
+pub drop_contact_stands-requires : goal.drop_contact_stands-requires
+drop_contact_stands-requires c number went =
+    let w : World = the_view c.self.inside in
+    let left = (goal.at.drop_contact_stands-requires c).After-deref-2 in
+    own_contacts_listed w c.self.inside.sets.acting c.args.handle.slot c.self.inside.contacts.numbered c.drop_of_body.new.self.numbered c.drop_of_body.new.self.made c.drop_of_body.new.self.gone c.wake_planned.new.contact_stands c.self.invariant.whole c.know_numbered.ensures.numbered (rw c.drop_of_body.ensures.contacts at c.know_numbered-2.ensures.numbered) c.drop_of_body.ensures.turnover
+    (rw (c.wake_planned.ensures.told, (going left).bodies) at c.wake_planned.ensures.contacts_standing) number went
+
 pub book-requires-clause-fits : goal.book-requires-clause-fits
 book-requires-clause-fits c =
     entry_fits (the_view c.self.inside) _ c.reserve.new.self _ c.self.invariant.whole c.in_ok-reserve.ensures.entries c.in_ok-reserve.ensures.settled (omega (arith, c.loss_of.ensures.small_x)) (omega (arith, c.loss_of.ensures.small_y))
@@ -105,11 +117,10 @@ invariant_of-self-2 c =
     let leaving : IsGoing w c.self.inside.sets.acting c.wake_planned.new.sets.acting c.args.handle c.in-Some.body.now c.is_mover-mover.result c.deref-2.result.now = going left in
     let calls : c.self.inside.calls < 2 ^ 40 = rw (← c.self.view_is) at c.requires in
     core_disabled w _ _ _ c.self.inside.bodies c.disable.new.self c.args.handle.slot c.in-Some.body.now c.wake_planned.new.bodies.bodies c.self.invariant
-    (rw (c.book.ensures.entries, c.book.ensures.settled, c.loss_of.ensures.x, c.loss_of.ensures.y, c.mover_momentum-p.ensures, c.in_ok-reserve.ensures.entries, c.in_ok-reserve.ensures.settled, c.disable.ensures.bodies, c.idle.ensures, c.drop_of_body.ensures, c.in_ok-reserve_drop.ensures.contacts, c.wake_planned.ensures.told, leaving.bodies, c.leave.ensures.acting, leaving.gone)
+    (rw (c.book.ensures.entries, c.book.ensures.settled, c.loss_of.ensures.x, c.loss_of.ensures.y, c.mover_momentum-p.ensures, c.in_ok-reserve.ensures.entries, c.in_ok-reserve.ensures.settled, c.disable.ensures.bodies, c.idle.ensures, c.drop_of_body.ensures.contacts, c.wake_planned.ensures.told, leaving.bodies, c.leave.ensures.acting, leaving.gone)
     (whole w _ _ _ (disabled_quietly w c.self.inside.sets.acting c.args.handle c.in-Some.body.now (kept_of _ _ c.self.invariant.whole) c.self.invariant.whole.same calls is_named)))
     refl refl (named_at w.plain c.args.handle c.in-Some.body.now is_named) c.if-not-body.false c.disable.ensures.bodies
-    (marked_after c.self.inside.bodies c.wake_planned.new.bodies c.disable.new.self c.wake_planned.ensures.marked c.disable.ensures.marked) c.idle.ensures (c.drop_of_body.ensures ∙ ap (contacts_without c.args.handle.slot) c.in_ok-reserve_drop.ensures.contacts)
-    c.self.inside.anchors (complete_with_fewer c.self.inside.anchors.holds c.self.inside.anchors.lists c.self.inside.sets.acting.ties _ (fewer_left c.is_mover-mover.result c.args.handle.slot c.in_ok-waking.waking.names.items c.deref-2.result.now c.self.inside.sets.acting c.wake_planned.new.sets.acting c.leave.new.sets.acting c.wake_planned.ensures.acting c.leave.ensures.acting) c.self.invariant.anchored)
+    (marked_after c.self.inside.bodies c.wake_planned.new.bodies c.disable.new.self c.wake_planned.ensures.marked c.disable.ensures.marked) c.idle.ensures c.drop_of_body.ensures.contacts
     c.follow.new.sets (record {
       stands = rw c.bodies-2.ensures at c.follow.ensures.stands;
       names =
@@ -119,6 +130,12 @@ invariant_of-self-2 c =
           let names = c.follow.ensures.names in
           omega (arith, long, room, names);
     })
+    c.drop_of_body.new.self.numbered c.drop_contact_stands.new.sets
+    (contacts_leave c.wake_planned.new.bodies.bodies c.disable.new.self.bodies c.args.handle.slot w.plain.contacts c.self.inside.contacts.numbered c.drop_of_body.new.self.numbered c.drop_of_body.new.self.made c.drop_of_body.new.self.gone c.wake_planned.new.contact_stands c.drop_contact_stands.new.sets c.know_numbered.ensures.numbered (rw c.drop_of_body.ensures.contacts at c.know_numbered-2.ensures.numbered)
+    c.drop_of_body.ensures.turnover c.drop_of_body.ensures.none c.drop_contact_stands.ensures.gone c.drop_contact_stands.ensures.others c.drop_contact_stands.ensures.names
+    (rw c.disable.ensures.bodies (others_stand disabled_body c.wake_planned.new.bodies.bodies c.args.handle.slot))
+    (let woke = c.wake_planned.new.bodies.bodies in let long = ap (λ (os : List (Option Body)). length os) c.disable.ensures.bodies ∙ length-set woke c.args.handle.slot (option_map disabled_body (body_at woke c.args.handle.slot)) in omega (arith, long))
+    c.wake_planned.ensures.contacts_standing)
 
 pub returns : goal.returns
 returns c =
@@ -129,5 +146,5 @@ returns c =
     let calls : c.self.inside.calls < 2 ^ 40 = rw (← c.self.view_is) at c.requires in
     rw (← c.self.view_is)
     (disable_answers w c.args.handle c.in-Some.body.now _ c.leave.new.sets.acting is_named c.if-not-body.false
-    (rw (c.book.ensures.entries, c.book.ensures.settled, c.loss_of.ensures.x, c.loss_of.ensures.y, c.mover_momentum-p.ensures, c.in_ok-reserve.ensures.entries, c.in_ok-reserve.ensures.settled, c.disable.ensures.bodies, c.idle.ensures, c.drop_of_body.ensures, c.in_ok-reserve_drop.ensures.contacts, c.wake_planned.ensures.told, leaving.bodies, c.leave.ensures.acting, leaving.gone)
+    (rw (c.book.ensures.entries, c.book.ensures.settled, c.loss_of.ensures.x, c.loss_of.ensures.y, c.mover_momentum-p.ensures, c.in_ok-reserve.ensures.entries, c.in_ok-reserve.ensures.settled, c.disable.ensures.bodies, c.idle.ensures, c.drop_of_body.ensures.contacts, c.wake_planned.ensures.told, leaving.bodies, c.leave.ensures.acting, leaving.gone)
     (disabled_quietly w c.self.inside.sets.acting c.args.handle c.in-Some.body.now (kept_of _ _ c.self.invariant.whole) c.self.invariant.whole.same calls is_named)))

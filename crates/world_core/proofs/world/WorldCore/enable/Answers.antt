@@ -1,4 +1,4 @@
-use Rattle.std.proofs.Common.{◌≡◌, ◌∙◌, ℕ, ◌<◌, ◌^◌, length, List, Option, Some, ap, sym, arith, refl}
+use Rattle.std.proofs.Common.{◌≡◌, ◌∙◌, ℕ, ◌<◌, ◌^◌, false, All, length, List, Option, Some, ap, sym, arith, refl}
 use Rattle.std.specs.Prelude.{option_map}
 use Rattle.std.proofs.lemmas.List.{length-set}
 use Rattle.body_handles.specs.declared.handle.Handle.{Handle}
@@ -23,8 +23,12 @@ use Rattle.world_core.proofs.EnableLaws.{body_below, can_enable_from}
 use Rattle.world_core.proofs.PartLaws.{enable_answers, kept_of, whole, woken_room}
 use Rattle.world_core.proofs.CoreLaws.{core_bodies}
 use Rattle.world_core.proofs.KnownLaws.{marked_after}
-use Rattle.world_core.proofs.FewerTies.{fewer_enabled, fewer_reserved, joints_have_none}
-use Rattle.solver_sets.proofs.FewerAnchoredLaws.{complete_with_fewer}
+use Rattle.world_core.proofs.WorldSourceLaws.{world_can_tell, world_ties}
+use Rattle.solver_sets.specs.Ties.{is_enabled, is_enabled_in}
+use Rattle.world_core.proofs.ListedContactLaws.{contacts_stay}
+use Rattle.world_core.proofs.Whole.{HasWoken, has_woken}
+use Rattle.world_rules.proofs.ActingLaws.{waking_kept}
+use Rattle.world_rules.specs.Sound.{HasBodies}
 use Rattle.world_core.proofs.world.WorldCore.enable.Goals as goal
 
 pub wake_planned-requires-clause-movers : goal.wake_planned-requires-clause-movers
@@ -33,11 +37,17 @@ wake_planned-requires-clause-movers c = rw c.in_ok-reserve.ensures.acting (rw (�
 pub wake_planned-requires-clause-told : goal.wake_planned-requires-clause-told
 wake_planned-requires-clause-told c = rw c.in_ok-reserve.ensures.acting (told_whole (the_view c.self.inside) _ c.self.invariant.whole)
 
+pub wake_planned-requires-clause-can_tell : goal.wake_planned-requires-clause-can_tell
+wake_planned-requires-clause-can_tell c = rw c.slot_entries.ensures (world_can_tell (the_view c.self.inside) c.self.inside.sets.acting c.self.invariant.whole)
+
+pub wake_planned-requires-clause-ties : goal.wake_planned-requires-clause-ties
+wake_planned-requires-clause-ties c = rw c.slot_entries.ensures (rw c.in_ok-reserve.ensures.acting (world_ties (the_view c.self.inside) c.self.inside.sets.acting c.self.invariant.whole))
+
 pub invariant_of-self : goal.invariant_of-self
 invariant_of-self c =
     let w : World = the_view c.self.inside in
     let calls : c.self.inside.calls < 2 ^ 40 = rw (← c.self.view_is) at c.requires in
-    record { whole = whole w _ _ _ (enabled_left w c.self.inside.sets.acting c.args.handle c.in-Some.body.now (kept_of _ _ c.self.invariant.whole) c.self.invariant.whole.same calls c.if-body.true); known = c.self.invariant.known; anchored = c.self.invariant.anchored; standing = c.self.invariant.standing }
+    record { whole = whole w _ _ _ (enabled_left w c.self.inside.sets.acting c.args.handle c.in-Some.body.now (kept_of _ _ c.self.invariant.whole) c.self.invariant.whole.same calls c.if-body.true); known = c.self.invariant.known; standing = c.self.invariant.standing; contacts_standing = c.self.invariant.contacts_standing }
 
 pub enable-requires-clause-slot : goal.enable-requires-clause-slot
 enable-requires-clause-slot c =
@@ -100,7 +110,7 @@ pub begin_each-requires-clause-can : goal.begin_each-requires-clause-can
 begin_each-requires-clause-can c =
     let w : World = the_view c.self.inside in
     let named : body_named w.plain c.args.handle ≡ Some c.in-Some.body.now = rw (← c.bodies.ensures) (sym c.in-Some.ensures) in
-    rw (c.deref-4.ensures.value, c.fill_joint_ties.ensures.ties, c.bodies-4.ensures, c.slot_entries.ensures, c.joints-2.ensures, c.enable.ensures.bodies, c.come.ensures.acting, c.is_dynamic-mover.ensures, c.wake_planned.ensures.told, c.wake_planned.ensures.acting, c.in_ok-reserve.ensures.acting, (rw (← c.self.view_is) at c.in_ok-waking.ensures.names), c.deref-2.ensures.value, c.in_ok-joined.ensures.slots, c.bodies-2.ensures, c.joints.ensures)
+    rw (c.deref-4.ensures.value, c.fill_joint_ties.ensures.ties, c.bodies-4.ensures, c.slot_entries-2.ensures, c.joints-2.ensures, c.enable.ensures.bodies, c.come.ensures.acting, c.is_dynamic-mover.ensures, c.wake_planned.ensures.told, c.wake_planned.ensures.acting, c.in_ok-reserve.ensures.acting, (rw (← c.self.view_is) at c.in_ok-waking.ensures.names), c.deref-2.ensures.value, c.in_ok-joined.ensures.slots, c.bodies-2.ensures, c.joints.ensures)
     (can_enable_from w c.self.inside.sets.acting c.args.handle c.in-Some.body.now c.self.invariant.whole named c.if-body.false).can
 
 pub begin_each-requires-clause-room : goal.begin_each-requires-clause-room
@@ -116,13 +126,10 @@ invariant_of-self-2 c =
     let named : body_named w.plain c.args.handle ≡ Some c.in-Some.body.now = rw (← c.bodies.ensures) (sym c.in-Some.ensures) in
     let calls : c.self.inside.calls < 2 ^ 40 = rw (← c.self.view_is) at c.requires in
     core_bodies (the_view c.self.inside) _ _ _ c.self.inside.bodies c.enable.new.self c.self.invariant
-    (rw (c.begin_each.ensures.acting, c.deref-4.ensures.value, c.fill_joint_ties.ensures.ties, c.bodies-4.ensures, c.slot_entries.ensures, c.joints-2.ensures, c.enable.ensures.bodies, c.come.ensures.acting, c.is_dynamic-mover.ensures, c.wake_planned.ensures.told, c.wake_planned.ensures.acting, c.in_ok-reserve.ensures.acting, (rw (← c.self.view_is) at c.in_ok-waking.ensures.names), c.deref-2.ensures.value, c.in_ok-joined.ensures.slots, c.bodies-2.ensures, c.joints.ensures)
+    (rw (c.begin_each.ensures.acting, c.deref-4.ensures.value, c.fill_joint_ties.ensures.ties, c.bodies-4.ensures, c.slot_entries-2.ensures, c.joints-2.ensures, c.enable.ensures.bodies, c.come.ensures.acting, c.is_dynamic-mover.ensures, c.wake_planned.ensures.told, c.wake_planned.ensures.acting, c.in_ok-reserve.ensures.acting, (rw (← c.self.view_is) at c.in_ok-waking.ensures.names), c.deref-2.ensures.value, c.in_ok-joined.ensures.slots, c.bodies-2.ensures, c.joints.ensures)
     (whole w _ _ _ (enable_left w c.self.inside.sets.acting c.args.handle c.in-Some.body.now (kept_of _ _ c.self.invariant.whole) c.self.invariant.whole.same calls named c.if-body.false)))
     refl refl refl refl
     (marked_after c.self.inside.bodies c.wake_planned.new.bodies c.enable.new.self c.wake_planned.ensures.marked c.enable.ensures.marked)
-    c.self.inside.anchors (complete_with_fewer c.self.inside.anchors.holds c.self.inside.anchors.lists c.self.inside.sets.acting.ties _ (fewer_reserved c.self.inside.sets.acting c.reserve.new.self.acting c.begin_each.new.self.acting c.in_ok-reserve.ensures.acting
-    (fewer_enabled c.is_dynamic-mover.result c.args.handle.slot c.in_ok-waking.waking.names.items c.deref-4.result.now c.reserve.new.self.acting c.wake_planned.new.sets.acting c.come.new.sets.acting c.begin_each.new.self.acting
-    (joints_have_none c.deref-4.result.now c.args.handle.slot _ _ (c.deref-4.ensures.value ∙ c.fill_joint_ties.ensures.ties)) c.wake_planned.ensures.acting c.come.ensures.acting c.begin_each.ensures.acting)) c.self.invariant.anchored)
     c.follow.new.sets (record {
       stands = rw c.bodies-5.ensures at c.follow.ensures.stands;
       names =
@@ -132,6 +139,18 @@ invariant_of-self-2 c =
           let names = c.follow.ensures.names in
           omega (arith, long, room, names);
     })
+    c.self.inside.contacts.numbered c.wake_planned.new.contact_stands
+    (let slot = c.args.handle.slot in
+    let woke = c.wake_planned.new.bodies.bodies in
+    let slots = joined_to w.plain.bodies w.plain.joints slot in
+    let kept = waking_kept w slots (kept_of _ _ c.self.invariant.whole) in
+    let names = rw (← c.self.view_is, c.deref-2.ensures.value, c.in_ok-joined.ensures.slots, c.bodies-2.ensures, c.joints.ensures) at c.in_ok-waking.ensures.names in
+    let has : HasWoken w slots c.wake_planned.new.sets.acting woke = has_woken w slots c.in_ok-waking.waking.names.items c.self.inside.sets.acting c.wake_planned.new.sets.acting woke c.self.invariant.whole names (rw c.in_ok-reserve.ensures.acting at c.wake_planned.ensures.acting) c.wake_planned.ensures.told in
+    let there : All (HasBodies woke) w.plain.contacts = rw has.bodies kept.kept.there in
+    let off : is_enabled woke slot ≡ false = rw has.bodies (kept.alike.enabled slot ∙ ap is_enabled_in (named_at w.plain c.args.handle c.in-Some.body.now named) ∙ c.if-body.false) in
+    let long : length c.enable.new.self.bodies ≡ length woke = ap (λ (os : List (Option Body)). length os) c.enable.ensures.bodies ∙ length-set woke slot (option_map enabled_body (body_at woke slot)) in
+    let room = c.wake_planned.ensures.contacts_standing.names in
+    contacts_stay woke c.enable.new.self.bodies slot w.plain.contacts c.self.inside.contacts.numbered c.wake_planned.new.contact_stands c.wake_planned.new.contact_stands there off c.know_numbered.ensures.numbered (rw c.enable.ensures.bodies (others_stand enabled_body woke slot)) (λ id. refl) (omega (arith, long, room)) c.wake_planned.ensures.contacts_standing)
 
 pub returns : goal.returns
 returns c =
@@ -140,5 +159,5 @@ returns c =
     let calls : c.self.inside.calls < 2 ^ 40 = rw (← c.self.view_is) at c.requires in
     rw (← c.self.view_is)
     (enable_answers w c.args.handle c.in-Some.body.now _ c.begin_each.new.self.acting named
-    (rw (c.begin_each.ensures.acting, c.deref-4.ensures.value, c.fill_joint_ties.ensures.ties, c.bodies-4.ensures, c.slot_entries.ensures, c.joints-2.ensures, c.enable.ensures.bodies, c.come.ensures.acting, c.is_dynamic-mover.ensures, c.wake_planned.ensures.told, c.wake_planned.ensures.acting, c.in_ok-reserve.ensures.acting, (rw (← c.self.view_is) at c.in_ok-waking.ensures.names), c.deref-2.ensures.value, c.in_ok-joined.ensures.slots, c.bodies-2.ensures, c.joints.ensures)
+    (rw (c.begin_each.ensures.acting, c.deref-4.ensures.value, c.fill_joint_ties.ensures.ties, c.bodies-4.ensures, c.slot_entries-2.ensures, c.joints-2.ensures, c.enable.ensures.bodies, c.come.ensures.acting, c.is_dynamic-mover.ensures, c.wake_planned.ensures.told, c.wake_planned.ensures.acting, c.in_ok-reserve.ensures.acting, (rw (← c.self.view_is) at c.in_ok-waking.ensures.names), c.deref-2.ensures.value, c.in_ok-joined.ensures.slots, c.bodies-2.ensures, c.joints.ensures)
     (enable_left w c.self.inside.sets.acting c.args.handle c.in-Some.body.now (kept_of _ _ c.self.invariant.whole) c.self.invariant.whole.same calls named c.if-body.false)))

@@ -1,7 +1,7 @@
 use Rattle.world_core.proofs.LoadingLaws.{Parts, contacts_are, made_core, made_same, totals_within}
 use Rattle.world_core.proofs.KeepLaws.{named_asleep, told_acting}
 use Rattle.world_rules.specs.Sets.{acting_of}
-use Rattle.world_core.proofs.FewerTies.{tell_lapsed}
+use Rattle.world_core.proofs.Refusals.{handed_on}
 use Rattle.world_core.proofs.world.WorldCore.from_plain.Goals as goal
 
 pub load_bodies-requires-clause-named : goal.load_bodies-requires-clause-named
@@ -9,6 +9,9 @@ load_bodies-requires-clause-named c = named_asleep c.args.plain.now.bodies (acti
 
 pub load_joints-requires-clause-named : goal.load_joints-requires-clause-named
 load_joints-requires-clause-named c = named_asleep c.args.plain.now.bodies (acting_of c.args.plain.now) c.requires.sound.promises.consistent (told_acting c.args.plain.now c.requires.sound.promises.told)
+
+pub list_contact_stands-requires : goal.list_contact_stands-requires
+list_contact_stands-requires c = record { named = rw c.in_ok-bodies.ensures.bodies (named_asleep c.args.plain.now.bodies (acting_of c.args.plain.now) c.requires.sound.promises.consistent (told_acting c.args.plain.now c.requires.sound.promises.told)) }
 
 pub load_constraints-requires-clause-contacts : goal.load_constraints-requires-clause-contacts
 load_constraints-requires-clause-contacts c = contacts_are c.args.plain.now c.args.totals c.requires.sound
@@ -31,7 +34,7 @@ invariant_of-result c =
       calls = c.calls.result;
       entries = c.from_totals.result.entries;
       settled = c.from_totals.result.settled;
-      events = c.new-4.result;
+      events = c.new-3.result;
     } in
     made_core p c.args.totals x c.in_ok-bodies.bodies.table.marks c.requires.sound (record {
       places_are = c.in_ok-bodies.ensures.slot_entries;
@@ -45,10 +48,11 @@ invariant_of-result c =
       calls_are = c.calls.ensures;
       no_entries = c.from_totals.ensures.entries;
       settled_are = c.from_totals.ensures.settled;
-      events_are = c.new-4.ensures;
+      events_are = c.new-3.ensures;
     })
-    c.in_ok-bodies.ensures.all c.new.result (tell_lapsed _ _ _ c.new.ensures.lapsed)
+    c.in_ok-bodies.ensures.all
     c.in_ok-joints.joints.sets (rw (c.in_ok-bodies.ensures.bodies, c.in_ok-joints.ensures.joints) c.in_ok-joints.ensures.sets)
+    c.in_ok-constraints.constraints.contacts.numbered c.in_ok-contact_sets.contact_sets c.in_ok-contact_sets.ensures.stands
 
 pub returns-clause-made : goal.returns-clause-made
 returns-clause-made c =
@@ -65,7 +69,7 @@ returns-clause-made c =
       calls = c.calls.result;
       entries = c.from_totals.result.entries;
       settled = c.from_totals.result.settled;
-      events = c.new-4.result;
+      events = c.new-3.result;
     } in
     made_same p c.args.totals x c.requires.sound (record {
       places_are = c.in_ok-bodies.ensures.slot_entries;
@@ -79,5 +83,8 @@ returns-clause-made c =
       calls_are = c.calls.ensures;
       no_entries = c.from_totals.ensures.entries;
       settled_are = c.from_totals.ensures.settled;
-      events_are = c.new-4.ensures;
+      events_are = c.new-3.ensures;
     })
+
+pub returns-in_err-contact_sets-clause-memory_only : goal.returns-in_err-contact_sets-clause-memory_only
+returns-in_err-contact_sets-clause-memory_only c = handed_on c.from_residual-in_err-contact_sets.result c.in_err-contact_sets.field-0.0 (c.from_residual-in_err-contact_sets.ensures).0 (c.from_residual-in_err-contact_sets.ensures).1 c.in_err-contact_sets.ensures.memory_only

@@ -2,9 +2,9 @@ use Rattle.std.proofs.Common.{◌^◌, rules, tests, ◌≡◌, ℕ, Bool, true,
 use Rattle.fixed_geom.specs.Vectors.{IsWithin}
 use Rattle.world_core.proofs.Whole.{empty_whole}
 use Rattle.std.specs.Prelude.{slice_index_or}
+use Rattle.world_core_base.proofs.ContactStandLaws.{contacts_none}
 use Rattle.world_core_base.proofs.JointStandLaws.{joints_none}
 use Rattle.world_core.proofs.CoreLaws.{core_all}
-use Rattle.world_core.proofs.FewerTies.{tell_lapsed}
 use Rattle.world_core.proofs.Refusals.{not_made}
 use Rattle.world_rules.specs.Apply.{empty_world, gravity_refusal}
 use Rattle.world_core.proofs.world.WorldCore.new.Goals as goal
@@ -14,10 +14,10 @@ invariant_of-result c =
     let within : IsWithin (2 ^ 16) c.args.gravity = search (rules, tests) in
     let marked : (slot : ℕ) → slice_index_or c.new-2.result.marks slot true ≡ true = λ slot. ap (λ (marks : List Bool). slice_index_or marks slot true) c.new-2.ensures.marks in
     core_all _ _ _
-    (rw (c.new.ensures, c.new-2.ensures.bodies, c.new-3.ensures, c.new-4.ensures, c.new-5.ensures, c.in_ok-new.ensures.acting, c.new-10.ensures.entries, c.new-10.ensures.settled, c.new-11.ensures)
+    (rw (c.new.ensures, c.new-2.ensures.bodies, c.new-3.ensures, c.new-4.ensures, c.new-5.ensures.contacts, c.in_ok-new.ensures.acting, c.new-9.ensures.entries, c.new-9.ensures.settled, c.new-10.ensures)
     (empty_whole c.args.gravity within))
-    marked c.new-7.result (tell_lapsed _ _ _ c.new-7.ensures.lapsed)
-    c.new-12.result (joints_none _ _ c.new-12.result c.new-2.ensures.bodies c.new-4.ensures c.new-12.ensures.stands)
+    marked c.new-11.result (joints_none _ _ c.new-11.result c.new-2.ensures.bodies c.new-4.ensures c.new-11.ensures.stands)
+    c.new-5.result.numbered c.new-12.result (contacts_none _ _ c.new-12.result c.new-2.ensures.bodies c.new-5.ensures.numbered c.new-12.ensures.stands)
 
 pub returns-in_err-new-clause-made : goal.returns-in_err-new-clause-made
 returns-in_err-new-clause-made c =

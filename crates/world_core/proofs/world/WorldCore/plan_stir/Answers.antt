@@ -1,7 +1,7 @@
 use Rattle.std.proofs.Common.{◌≡◌, ◌∙◌, ℕ, true, List, sym, subst, IfOk}
 use Rattle.sleep_wake.specs.Sleeping.{sleeping_names}
 use Rattle.plain_world.specs.Bodies.{moves}
-use Rattle.world_core.proofs.AnchoredLaws.{mover_stirs}
+use Rattle.world_core.proofs.StirredLaws.{mover_stirs}
 use Rattle.world_core.proofs.world.WorldCore.plan_stir.Goals as goal
 
 pub returns-then-is_mover_at-clause-names : goal.returns-then-is_mover_at-clause-names

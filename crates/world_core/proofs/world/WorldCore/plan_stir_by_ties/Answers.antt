@@ -4,7 +4,7 @@ use Rattle.solver_sets.specs.Beside.{stirred_by}
 use Rattle.solver_sets.specs.BesideByTies.{first_movers}
 use Rattle.plain_world.specs.Bodies.{moves}
 use Rattle.world_core.specs.contracts.world.WorldCore.{the_view}
-use Rattle.world_core.proofs.AnchoredLaws.{mover_stirs, still_stirs}
+use Rattle.world_core.proofs.StirredLaws.{mover_stirs, still_stirs}
 use Rattle.world_core.proofs.world.WorldCore.plan_stir_by_ties.Goals as goal
 
 pub returns-then-is_mover_at-clause-names : goal.returns-then-is_mover_at-clause-names

@@ -5,12 +5,12 @@ use Rattle.world_rules.specs.Apply.{pushed}
 use Rattle.world_rules.proofs.SoundLaws.{kept_sound}
 use Rattle.world_core.specs.contracts.world.WorldCore.{the_view}
 use Rattle.world_core.proofs.Whole.{HasWoken, has_woken, push_whole, told_whole}
+use Rattle.world_core_base.proofs.ContactStandLaws.{contacts_alike}
 use Rattle.world_core_base.proofs.JointStandLaws.{joints_alike, same_long}
 use Rattle.world_core.proofs.CoreLaws.{core_bodies}
 use Rattle.world_core.proofs.PartLaws.{entry_fits}
 use Rattle.world_core.proofs.KnownLaws.{marked_after}
-use Rattle.world_core.proofs.FewerTies.{fewer_woken}
-use Rattle.solver_sets.proofs.FewerAnchoredLaws.{complete_with_fewer}
+use Rattle.world_core.proofs.WorldSourceLaws.{world_can_tell, world_ties}
 use Rattle.world_core.proofs.world.WorldCore.push.Goals as goal
 
 pub wake_planned-requires-clause-movers : goal.wake_planned-requires-clause-movers
@@ -18,6 +18,12 @@ wake_planned-requires-clause-movers c = rw (← c.self.view_is) at c.in_ok-wakin
 
 pub wake_planned-requires-clause-told : goal.wake_planned-requires-clause-told
 wake_planned-requires-clause-told c = (told_whole (the_view c.self.inside) _ c.self.invariant.whole)
+
+pub wake_planned-requires-clause-can_tell : goal.wake_planned-requires-clause-can_tell
+wake_planned-requires-clause-can_tell c = rw c.slot_entries.ensures (world_can_tell (the_view c.self.inside) c.self.inside.sets.acting c.self.invariant.whole)
+
+pub wake_planned-requires-clause-ties : goal.wake_planned-requires-clause-ties
+wake_planned-requires-clause-ties c = rw c.slot_entries.ensures (world_ties (the_view c.self.inside) c.self.inside.sets.acting c.self.invariant.whole)
 
 pub momenta_after-requires : goal.momenta_after-requires
 momenta_after-requires c = rw c.bodies.ensures (kept_sound _ c.self.invariant.whole.sound).bodies
@@ -41,5 +47,5 @@ invariant_of-self-2 c =
     (push_whole (the_view c.self.inside) c.args.handle c.args.by c.args.offset c.in_ok-momenta.momenta c.self.inside.sets.acting _ _ c.self.invariant.whole calls woke due))
     refl refl refl refl
     (marked_after c.self.inside.bodies c.wake_planned.new.bodies c.change.new.self c.wake_planned.ensures.marked c.change.ensures.marked)
-    c.self.inside.anchors (complete_with_fewer c.self.inside.anchors.holds c.self.inside.anchors.lists c.self.inside.sets.acting.ties _ (fewer_woken c.in_ok-waking.waking.names.items c.self.inside.sets.acting c.wake_planned.new.sets.acting c.wake_planned.ensures.acting) c.self.invariant.anchored)
     c.wake_planned.new.stands (joints_alike c.wake_planned.new.bodies.bodies c.change.new.self.bodies c.self.inside.joints.joints c.wake_planned.new.stands (same_long c.wake_planned.new.bodies.bodies c.change.new.self.bodies c.args.handle.slot _ c.change.ensures.bodies) c.change.ensures.stands c.wake_planned.ensures.standing)
+    c.self.inside.contacts.numbered c.wake_planned.new.contact_stands (contacts_alike c.wake_planned.new.bodies.bodies c.change.new.self.bodies c.self.inside.contacts.numbered c.wake_planned.new.contact_stands (same_long c.wake_planned.new.bodies.bodies c.change.new.self.bodies c.args.handle.slot _ c.change.ensures.bodies) c.change.ensures.stands c.wake_planned.ensures.contacts_standing)

@@ -7,8 +7,7 @@ use Rattle.world_core.proofs.Whole.{rest_booked, sleep_answers, sleep_whole, tol
 use Rattle.world_core.proofs.CoreLaws.{core_bodies}
 use Rattle.world_core.proofs.PartLaws.{entry_fits}
 use Rattle.world_core.proofs.StepLaws.{consistent_found}
-use Rattle.world_core.proofs.FewerTies.{fewer_slept}
-use Rattle.solver_sets.proofs.FewerAnchoredLaws.{complete_with_fewer}
+use Rattle.world_core.proofs.WorldSourceLaws.{world_can_tell, world_ties}
 use Rattle.world_core.proofs.world.WorldCore.sleep.Goals as goal
 
 pub put_to_sleep-rest-requires-clause-movers : goal.put_to_sleep-rest-requires-clause-movers
@@ -26,6 +25,12 @@ book-requires-clause-fits c =
 pub put_to_sleep-rest-requires-clause-told : goal.put_to_sleep-rest-requires-clause-told
 put_to_sleep-rest-requires-clause-told c = told_whole (the_view c.self.inside) _ c.self.invariant.whole
 
+pub put_to_sleep-rest-requires-clause-can_tell : goal.put_to_sleep-rest-requires-clause-can_tell
+put_to_sleep-rest-requires-clause-can_tell c = rw c.slot_entries.ensures (world_can_tell (the_view c.self.inside) c.self.inside.sets.acting c.self.invariant.whole)
+
+pub put_to_sleep-rest-requires-clause-ties : goal.put_to_sleep-rest-requires-clause-ties
+put_to_sleep-rest-requires-clause-ties c = rw c.slot_entries.ensures (world_ties (the_view c.self.inside) c.self.inside.sets.acting c.self.invariant.whole)
+
 pub invariant_of-self-2 : goal.invariant_of-self-2
 invariant_of-self-2 c =
     let calls : c.self.inside.calls < 2 ^ 40 = rw (← c.self.view_is) at c.requires in
@@ -34,8 +39,7 @@ invariant_of-self-2 c =
     (sleep_whole (the_view c.self.inside) c.args.handle.slot c.self.inside.sets.acting c.put_to_sleep-rest.new.sets.acting _ c.self.invariant.whole calls c.put_to_sleep-rest.ensures.acting c.put_to_sleep-rest.ensures.told))
     refl refl refl refl
     c.put_to_sleep-rest.ensures.marked
-    c.self.inside.anchors (complete_with_fewer c.self.inside.anchors.holds c.self.inside.anchors.lists c.self.inside.sets.acting.ties _ (fewer_slept c.args.handle.slot c.self.inside.sets.acting c.put_to_sleep-rest.new.sets.acting c.put_to_sleep-rest.ensures.acting) c.self.invariant.anchored)
-    c.put_to_sleep-rest.new.stands c.put_to_sleep-rest.ensures.standing
+    c.put_to_sleep-rest.new.stands c.put_to_sleep-rest.ensures.standing c.self.inside.contacts.numbered c.put_to_sleep-rest.new.contact_stands c.put_to_sleep-rest.ensures.contacts_standing
 
 pub returns : goal.returns
 returns c =

@@ -1,22 +1,20 @@
-use Rattle.std.proofs.Common.{◌≡◌, ◌<◌, ◌≤◌, ◌^◌, ◌∙◌, false, List, length, map, replicate, refl, sym, ap, subst, arith, Err}
+use Rattle.std.proofs.Common.{◌≡◌, ◌<◌, ◌≤◌, ◌^◌, ◌∙◌, false, List, Option, length, map, replicate, refl, sym, ap, subst, arith, Err}
 use mir.Syntax.{w64}
 use mir.Val.{of_z, to_z}
 use Rattle.std.proofs.lemmas.Int.{to_z-of_z}
 use Rattle.fixed_geom.specs.declared.refusal.Refusal.TheVariants.{NoMemory}
 use Rattle.std.specs.List.Sorted.{IsStrictlyIncreasing}
-use Rattle.solver_sets.specs.Anchors.{AreComplete}
 use Rattle.body_handles.specs.declared.handle.Handle.{Handle}
 use Rattle.body_handles.specs.declared.slot_table.SlotEntry.{SlotEntry}
 use Rattle.body_handles.specs.Orders.{slot_of}
-use Rattle.contacts.specs.declared.constraint.Constraint.{Constraint}
 use Rattle.contacts_base.specs.Contacts.{number_of}
 use Rattle.contacts_base.specs.declared.contact.ContactEntry.{ContactEntry}
 use Rattle.contacts_base.specs.declared.key.ContactKey.{ContactKey}
 use Rattle.colour_solver.specs.States.{as_vector}
 use Rattle.plain_world.specs.Sleep.{timed_bodies}
-use Rattle.sleep_wake.specs.Acting.{Acting}
 use Rattle.solver_sets.specs.SinceTold.{newly_asleep, newly_awake}
 use Rattle.world_core_base.specs.Awake.{Bodies}
+use Rattle.world_core_base.proofs.ContactStandLaws.{contacts_alike}
 use Rattle.world_core_base.proofs.JointStandLaws.{joints_alike, joints_by_ends}
 use Rattle.world_rules.specs.World.{World}
 use Rattle.world_rules.proofs.AcceptedAll.{few_ticks}
@@ -24,11 +22,13 @@ use Rattle.world_rules.proofs.KeptChanges.{IsRoomy-kept, IsRoomy-same}
 use Rattle.world_rules.proofs.KeptStep.{collided_in}
 use Rattle.world_core.specs.contracts.world.WorldCore.{the_view}
 use Rattle.world_core.proofs.PartLaws.{kept_of, whole}
-use Rattle.world_core.proofs.StepLaws.{AreCounted, AreFound, AreLeft, AreTicks, HasSolved, HasChanged, apart_changed, are_counted, bodies_changed, can_solve_changed, can_change_found, few_solved, few_changed, has_solved, has_changed, is_refusal, movers_changed, room_found, room_changed, consistent_found, consistent_changed, slept_rise, step_answers, step_is_left, step_refused, tell_solved, ticks_refused, tied_solved, timers_room, timers_solved, told_solved, woke_rise}
+use Rattle.world_core.proofs.WorldSourceLaws.{contacts_more, world_can_tell, world_ties}
+use Rattle.world_core.proofs.StepLaws.{AreCounted, AreFound, AreLeft, AreTicks, HasSolved, HasChanged, apart_changed, are_counted, bodies_changed, can_solve_changed, can_tell_solved, can_change_found, few_solved, few_changed, has_solved, has_changed, is_refusal, movers_changed, room_found, room_changed, consistent_found, consistent_changed, slept_rise, step_answers, step_is_left, step_refused, tell_solved, ticks_refused, tied_solved, ties_solved, timers_room, timers_solved, told_solved, woke_rise}
+use Rattle.packed_sets.specs.declared.stands.Stand.{Stand}
+use Rattle.world_core.proofs.ContactTurnLaws.{turned_found}
+use Rattle.world_core_base.proofs.StandLaws.{long_more}
 use Rattle.world_core.proofs.CoreLaws.{core_stepped}
 use Rattle.world_core.proofs.KnownLaws.{marked_after}
-use Rattle.world_core.proofs.FewerTies.{fewer_rested}
-use Rattle.solver_sets.proofs.FewerAnchoredLaws.{complete_with_fewer}
 use Rattle.world_core.proofs.world.WorldCore.step.Given as given
 use Rattle.world_core.proofs.world.WorldCore.step.Goals as goal
 
@@ -58,6 +58,13 @@ returns-in_err-prepared g c =
     let refused : c.from_residual-in_err-prepared.result ≡ Err NoMemory = is_refusal _ _ c.from_residual-in_err-prepared.ensures.0 c.from_residual-in_err-prepared.ensures.1 c.in_err-prepared.ensures.memory_only in
     rw (← c.self.view_is) (step_refused (the_view c.self.inside) _ c.args.ticks _ counted.between refused (rw (c.in_err-prepared.ensures.bodies, c.in_err-prepared.ensures.contacts, c.in_err-prepared.ensures.acting, c.in_err-prepared.ensures.entries, c.in_err-prepared.ensures.settled) refl))
 
+pub returns-in_err-reserve : goal.returns-in_err-reserve
+returns-in_err-reserve g c =
+    let same : to_z w64 (of_z w64 c.args.ticks) ≡ c.args.ticks = grind (arith, to_z-of_z) in
+    let counted : AreCounted c.args.ticks c.in_ok-ticks.ticks = are_counted c.args.ticks _ c.in_ok-ticks.ticks same c.in_ok-ticks.ensures in
+    let refused : c.from_residual-in_err-reserve.result ≡ Err NoMemory = is_refusal _ _ c.from_residual-in_err-reserve.ensures.0 c.from_residual-in_err-reserve.ensures.1 c.in_err-reserve.ensures.memory_only in
+    rw (← c.self.view_is) (step_refused (the_view c.self.inside) _ c.args.ticks _ counted.between refused (rw (c.in_ok-prepared.ensures.bodies, c.in_ok-prepared.ensures.contacts, c.in_ok-prepared.ensures.acting, c.in_ok-prepared.ensures.entries, c.in_ok-prepared.ensures.settled) refl))
+
 -- ---- what is carried out before the ticks
 
 found_at_first : (g : given.Over) (c : goal.After-prepared-2-1 g) → AreFound (the_view c.self.inside) c.in_ok-prepared.prepared.changes.items
@@ -82,6 +89,28 @@ carry_out-requires-clause-bodies g c = rw c.in_ok-prepared.ensures.bodies (kept_
 
 pub carry_out-requires-clause-told : goal.carry_out-requires-clause-told
 carry_out-requires-clause-told g c = rw (c.in_ok-prepared.ensures.bodies, c.in_ok-prepared.ensures.acting) (kept_of _ _ c.self.invariant.whole).told
+
+pub carry_out-requires-clause-can_tell : goal.carry_out-requires-clause-can_tell
+carry_out-requires-clause-can_tell g c = rw (c.slot_entries.ensures, c.in_ok-prepared.ensures.contacts) (world_can_tell (the_view c.self.inside) c.self.inside.sets.acting c.self.invariant.whole)
+
+pub carry_out-requires-clause-ties : goal.carry_out-requires-clause-ties
+carry_out-requires-clause-ties g c = rw (c.slot_entries.ensures, c.in_ok-prepared.ensures.bodies, c.in_ok-prepared.ensures.contacts, c.in_ok-prepared.ensures.acting) (world_ties (the_view c.self.inside) c.self.inside.sets.acting c.self.invariant.whole)
+
+pub carry_out-requires-clause-contacts_standing : goal.carry_out-requires-clause-contacts_standing
+carry_out-requires-clause-contacts_standing g c =
+    rw (c.in_ok-prepared.ensures.bodies, c.in_ok-prepared.ensures.numbered)
+    (contacts_more c.number_bound.result c.self.inside.bodies.bodies c.self.inside.contacts.numbered c.self.inside.contact_sets c.reserve.new.self c.in_ok-reserve.ensures.stands c.in_ok-reserve.ensures.more c.self.invariant.contacts_standing)
+
+pub carry_out-requires-clause-turned : goal.carry_out-requires-clause-turned
+carry_out-requires-clause-turned g c =
+    rw (c.in_ok-prepared.ensures.bodies, c.in_ok-prepared.ensures.contacts)
+    (turned_found (the_view c.self.inside) c.self.inside.sets.acting c.prepare.new.sets.acting c.in_ok-prepared.prepared.changes.items c.prepare.new.contacts.pending c.self.invariant.whole c.in_ok-prepared.ensures.acting (found_at_first g c) c.in_ok-prepared.ensures.pending)
+
+pub carry_out-requires-clause-numbers : goal.carry_out-requires-clause-numbers
+carry_out-requires-clause-numbers g c =
+    let long = ap (λ (l : List (Option Stand)). length l) c.in_ok-reserve.ensures.stands in
+    let room = long_more c.number_bound.result c.self.inside.contact_sets.stands in
+    rw (← c.number_bound.ensures.bound) (omega (arith, long, room))
 
 pub carry_out-requires-clause-sleepers : goal.carry_out-requires-clause-sleepers
 carry_out-requires-clause-sleepers g c = rw c.in_ok-prepared.ensures.acting c.in_ok-prepared.ensures.sleepers
@@ -121,12 +150,12 @@ solve-sums-requires-clause-room g c =
 
 -- ---- the sleep phase
 
-changed_left : (g : given.Over) (c : goal.After-split g) → HasChanged (the_view c.self.inside) c.carry_out.new.sets.acting c.carry_out.new.bodies.bodies c.carry_out.new.contacts.contacts
+changed_left : (g : given.Over) (c : goal.After-rest_ready-arg-7-1 g) → HasChanged (the_view c.self.inside) c.carry_out.new.sets.acting c.carry_out.new.bodies.bodies c.carry_out.new.contacts.contacts
 changed_left g c =
     has_changed (the_view c.self.inside) c.self.inside.sets.acting c.prepare.new.sets.acting c.carry_out.new.sets.acting c.in_ok-prepared.prepared.changes.items c.carry_out.new.bodies.bodies c.carry_out.new.contacts.contacts c.self.invariant.whole c.in_ok-prepared.ensures.acting (rw (c.in_ok-prepared.ensures.begin, c.in_ok-prepared.ensures.end) at c.in_ok-prepared.ensures.changes)
     c.carry_out.ensures.acting (rw c.in_ok-prepared.ensures.bodies at c.carry_out.ensures.bodies) (c.carry_out.ensures.contacts ∙ c.in_ok-prepared.ensures.pending)
 
-solved_left : (g : given.Over) (c : goal.After-split g) → HasSolved (the_view c.self.inside) c.in_ok-ticks.ticks c.solve-sums.new.bodies.bodies c.solve-sums.new.joints.joints c.solve-sums.new.contacts.contacts c.solve-sums.result
+solved_left : (g : given.Over) (c : goal.After-rest_ready-arg-7-1 g) → HasSolved (the_view c.self.inside) c.in_ok-ticks.ticks c.solve-sums.new.bodies.bodies c.solve-sums.new.joints.joints c.solve-sums.new.contacts.contacts c.solve-sums.result
 solved_left g c =
     let to_bodies = rw c.colours.ensures.lists at c.solve-sums.ensures.bodies in
     let to_joints = rw c.colours.ensures.lists at c.solve-sums.ensures.joints in
@@ -172,21 +201,27 @@ rest_ready-rest-requires-clause-slept g c = rw (timers_room (the_view c.self.ins
 pub rest_ready-rest-requires-clause-slot_entries : goal.rest_ready-rest-requires-clause-slot_entries
 rest_ready-rest-requires-clause-slot_entries g c =
     let slots : length c.self.inside.handles.slot_entries ≡ length c.self.inside.bodies.bodies = (kept_of _ _ c.self.invariant.whole).matched.slots in
-    let there : length c.slot_entries-2.result.now ≡ length c.self.inside.handles.slot_entries = ap (λ (ps : List SlotEntry). length ps) c.slot_entries-2.ensures in
+    let there : length c.slot_entries-4.result.now ≡ length c.self.inside.handles.slot_entries = ap (λ (ps : List SlotEntry). length ps) c.slot_entries-4.ensures in
     let long = timers_room (the_view c.self.inside) c.in_ok-ticks.ticks c.self.inside.sets.acting c.solve-sums.new.bodies.bodies c.solve-sums.new.joints.joints c.solve-sums.new.contacts.contacts c.solve-sums.result c.self.invariant.whole (solved_left g c) in
     omega (arith, slots, there, long)
 
 pub rest_ready-rest-requires-clause-slots : goal.rest_ready-rest-requires-clause-slots
 rest_ready-rest-requires-clause-slots g c =
     let slots : length c.self.inside.handles.slot_entries ≡ length c.self.inside.bodies.bodies = (kept_of _ _ c.self.invariant.whole).matched.slots in
-    let there : length c.slot_entries-2.result.now ≡ length c.self.inside.handles.slot_entries = ap (λ (ps : List SlotEntry). length ps) c.slot_entries-2.ensures in
+    let there : length c.slot_entries-4.result.now ≡ length c.self.inside.handles.slot_entries = ap (λ (ps : List SlotEntry). length ps) c.slot_entries-4.ensures in
     omega (arith, slots, there, c.in_ok-prepared.ensures.for_slots)
 
 pub rest_ready-rest-requires-clause-consistent : goal.rest_ready-rest-requires-clause-consistent
 rest_ready-rest-requires-clause-consistent g c = consistent_changed (the_view c.self.inside) c.self.inside.sets.acting c.carry_out.new.sets.acting c.carry_out.new.bodies.bodies c.carry_out.new.contacts.contacts c.self.invariant.whole (changed_left g c)
 
+pub rest_ready-rest-requires-clause-can_tell : goal.rest_ready-rest-requires-clause-can_tell
+rest_ready-rest-requires-clause-can_tell g c = rw c.slot_entries-3.ensures (can_tell_solved (the_view c.self.inside) c.in_ok-ticks.ticks c.self.inside.sets.acting c.solve-sums.new.bodies.bodies c.solve-sums.new.joints.joints c.solve-sums.new.contacts.contacts c.solve-sums.result c.self.invariant.whole (solved_left g c))
+
+pub rest_ready-rest-requires-clause-ties : goal.rest_ready-rest-requires-clause-ties
+rest_ready-rest-requires-clause-ties g c = rw c.slot_entries-3.ensures (ties_solved (the_view c.self.inside) c.in_ok-ticks.ticks c.self.inside.sets.acting c.carry_out.new.sets.acting c.carry_out.new.bodies.bodies c.solve-sums.new.bodies.bodies c.solve-sums.new.joints.joints c.carry_out.new.contacts.contacts c.solve-sums.new.contacts.contacts c.solve-sums.result c.self.invariant.whole (changed_left g c) (solved_left g c))
+
 pub rest_ready-rest-requires-clause-tells : goal.rest_ready-rest-requires-clause-tells
-rest_ready-rest-requires-clause-tells g c = rw c.split.ensures (tell_solved (the_view c.self.inside) c.in_ok-ticks.ticks c.self.inside.sets.acting c.carry_out.new.sets.acting c.carry_out.new.bodies.bodies c.solve-sums.new.bodies.bodies c.solve-sums.new.joints.joints c.carry_out.new.contacts.contacts c.solve-sums.new.contacts.contacts c.solve-sums.result c.self.invariant.whole (changed_left g c) (solved_left g c))
+rest_ready-rest-requires-clause-tells g c = tell_solved (the_view c.self.inside) c.in_ok-ticks.ticks c.self.inside.sets.acting c.carry_out.new.sets.acting c.carry_out.new.bodies.bodies c.solve-sums.new.bodies.bodies c.solve-sums.new.joints.joints c.carry_out.new.contacts.contacts c.solve-sums.new.contacts.contacts c.solve-sums.result c.self.invariant.whole (changed_left g c) (solved_left g c)
 
 -- ---- what is recorded
 
@@ -212,10 +247,10 @@ solved_at_last g c =
     has_solved (the_view c.self.inside) c.in_ok-ticks.ticks c.self.inside.sets.acting c.carry_out.new.sets.acting c.carry_out.new.bodies.bodies c.solve-sums.new.bodies.bodies c.solve-sums.new.joints.joints c.carry_out.new.contacts.contacts c.solve-sums.new.contacts.contacts c.solve-sums.result c.self.invariant.whole (changed_at_last g c) to_bodies to_joints to_contacts to_sums are
 
 fell : (g : given.Over) (c : goal.After-record_step-arg-3-1 g) → c.rest_ready-rest.new.scratch.slept.items ≡ newly_asleep c.self.inside.handles.slot_entries (timed_bodies c.in_ok-ticks.ticks c.solve-sums.new.bodies.bodies) c.rest_ready-rest.new.sets.acting.labels
-fell g c = rw c.slot_entries-2.ensures at c.rest_ready-rest.ensures.slept
+fell g c = rw c.slot_entries-4.ensures at c.rest_ready-rest.ensures.slept
 
 woken : (g : given.Over) (c : goal.After-record_step-arg-3-1 g) → c.rest_ready-rest.new.scratch.woke.items ≡ newly_awake c.self.inside.handles.slot_entries c.self.inside.bodies.bodies c.carry_out.new.sets.acting.labels
-woken g c = rw (← c.rest_ready-rest.ensures.woke, c.slot_entries.ensures, c.in_ok-prepared.ensures.bodies) at c.carry_out.ensures.woke
+woken g c = rw (← c.rest_ready-rest.ensures.woke, c.slot_entries-2.ensures, c.in_ok-prepared.ensures.bodies) at c.carry_out.ensures.woke
 
 pub record_step-requires-clause-roomy : goal.record_step-requires-clause-roomy
 record_step-requires-clause-roomy g c = IsRoomy-same _ _ c.in_ok-prepared.ensures.entries c.in_ok-prepared.ensures.settled (IsRoomy-kept (the_view c.self.inside) 0 (kept_of _ _ c.self.invariant.whole))
@@ -230,12 +265,12 @@ record_step-requires-clause-woke g c =
 
 -- ---- the whole
 
-after_changes : (g : given.Over) (c : goal.After-drop-prepared-2 g) → HasChanged (the_view c.self.inside) c.carry_out.new.sets.acting c.carry_out.new.bodies.bodies c.carry_out.new.contacts.contacts
+after_changes : (g : given.Over) (c : goal.After-drop-prepared-3 g) → HasChanged (the_view c.self.inside) c.carry_out.new.sets.acting c.carry_out.new.bodies.bodies c.carry_out.new.contacts.contacts
 after_changes g c =
     has_changed (the_view c.self.inside) c.self.inside.sets.acting c.prepare.new.sets.acting c.carry_out.new.sets.acting c.in_ok-prepared.prepared.changes.items c.carry_out.new.bodies.bodies c.carry_out.new.contacts.contacts c.self.invariant.whole c.in_ok-prepared.ensures.acting (rw (c.in_ok-prepared.ensures.begin, c.in_ok-prepared.ensures.end) at c.in_ok-prepared.ensures.changes)
     c.carry_out.ensures.acting (rw c.in_ok-prepared.ensures.bodies at c.carry_out.ensures.bodies) (c.carry_out.ensures.contacts ∙ c.in_ok-prepared.ensures.pending)
 
-solved : (g : given.Over) (c : goal.After-drop-prepared-2 g) → HasSolved (the_view c.self.inside) c.in_ok-ticks.ticks c.solve-sums.new.bodies.bodies c.solve-sums.new.joints.joints c.solve-sums.new.contacts.contacts c.solve-sums.result
+solved : (g : given.Over) (c : goal.After-drop-prepared-3 g) → HasSolved (the_view c.self.inside) c.in_ok-ticks.ticks c.solve-sums.new.bodies.bodies c.solve-sums.new.joints.joints c.solve-sums.new.contacts.contacts c.solve-sums.result
 solved g c =
     let to_bodies = rw c.colours.ensures.lists at c.solve-sums.ensures.bodies in
     let to_joints = rw c.colours.ensures.lists at c.solve-sums.ensures.joints in
@@ -251,19 +286,19 @@ solved g c =
     } in
     has_solved (the_view c.self.inside) c.in_ok-ticks.ticks c.self.inside.sets.acting c.carry_out.new.sets.acting c.carry_out.new.bodies.bodies c.solve-sums.new.bodies.bodies c.solve-sums.new.joints.joints c.carry_out.new.contacts.contacts c.solve-sums.new.contacts.contacts c.solve-sums.result c.self.invariant.whole (after_changes g c) to_bodies to_joints to_contacts to_sums are
 
-are_left : (g : given.Over) (c : goal.After-drop-prepared-2 g) → AreLeft (the_view c.self.inside) c.in_ok-ticks.ticks c.carry_out.new.sets.acting c.rest_ready-rest.new.sets.acting c.carry_out.new.bodies.bodies c.solve-sums.new.bodies.bodies c.rest_ready-rest.new.bodies.bodies c.solve-sums.new.joints.joints c.carry_out.new.contacts.contacts c.solve-sums.new.contacts.contacts
+are_left : (g : given.Over) (c : goal.After-drop-prepared-3 g) → AreLeft (the_view c.self.inside) c.in_ok-ticks.ticks c.carry_out.new.sets.acting c.rest_ready-rest.new.sets.acting c.carry_out.new.bodies.bodies c.solve-sums.new.bodies.bodies c.rest_ready-rest.new.bodies.bodies c.solve-sums.new.joints.joints c.carry_out.new.contacts.contacts c.solve-sums.new.contacts.contacts
     c.solve-sums.result (as_vector c.rest_ready-rest.result) c.record_step.new.events
 are_left g c =
     record {
       collide = after_changes g c;
       ticks = solved g c;
-      phase = rw c.split.ensures at c.rest_ready-rest.ensures.acting;
+      phase = c.rest_ready-rest.ensures.acting;
       bodies = c.rest_ready-rest.ensures.bodies;
       gain_is = c.rest_ready-rest.ensures.gain;
       begin = c.record_step.ensures.begin ∙ c.in_ok-prepared.ensures.begin;
       end = c.record_step.ensures.end ∙ c.in_ok-prepared.ensures.end;
-      slept = c.record_step.ensures.slept ∙ (rw c.slot_entries-2.ensures at c.rest_ready-rest.ensures.slept);
-      woke = c.record_step.ensures.woke ∙ (rw (← c.rest_ready-rest.ensures.woke, c.slot_entries.ensures, c.in_ok-prepared.ensures.bodies) at c.carry_out.ensures.woke);
+      slept = c.record_step.ensures.slept ∙ (rw c.slot_entries-4.ensures at c.rest_ready-rest.ensures.slept);
+      woke = c.record_step.ensures.woke ∙ (rw (← c.rest_ready-rest.ensures.woke, c.slot_entries-2.ensures, c.in_ok-prepared.ensures.bodies) at c.carry_out.ensures.woke);
     }
 
 -- a solve moves nobody to another set, and leaves the ends of joints
@@ -272,6 +307,11 @@ rest_ready-rest-requires-clause-standing g c =
     let same = c.solve-sums.ensures.slots.slots in
     joints_by_ends c.solve-sums.new.bodies.bodies c.self.inside.joints.joints c.solve-sums.new.joints.joints c.carry_out.new.stands c.solve-sums.ensures.ends
     (joints_alike c.carry_out.new.bodies.bodies c.solve-sums.new.bodies.bodies c.self.inside.joints.joints c.carry_out.new.stands (omega (arith, same)) c.solve-sums.ensures.stands c.carry_out.ensures.standing)
+
+pub rest_ready-rest-requires-clause-contacts_standing : goal.rest_ready-rest-requires-clause-contacts_standing
+rest_ready-rest-requires-clause-contacts_standing g c =
+    let same = c.solve-sums.ensures.slots.slots in
+    rw c.solve-sums.ensures.numbered (contacts_alike c.carry_out.new.bodies.bodies c.solve-sums.new.bodies.bodies c.carry_out.new.contacts.numbered c.carry_out.new.contact_stands (omega (arith, same)) c.solve-sums.ensures.stands c.carry_out.ensures.contacts_standing)
 
 -- the table of bodies, once its marks were taken away
 abbrev cleared : Bodies → Bodies
@@ -291,10 +331,7 @@ invariant_of-self-2 g c =
     c.in_ok-prepared.ensures.bodies refl
     (marked_after (cleared c.prepare.new.bodies) c.solve-sums.new.bodies c.rest_ready-rest.new.bodies (marked_after (cleared c.prepare.new.bodies) c.carry_out.new.bodies c.solve-sums.new.bodies c.carry_out.ensures.marked c.solve-sums.ensures.marked) c.rest_ready-rest.ensures.marked)
     c.solve-sums.ensures.forbidden (c.solve-sums.ensures.numbers ∙ ap (λ (es : List ContactEntry). map number_of es) (c.carry_out.ensures.contacts ∙ c.in_ok-prepared.ensures.pending))
-    c.carry_out.new.anchors
-    (complete_with_fewer c.carry_out.new.anchors.holds c.carry_out.new.anchors.lists c.carry_out.new.sets.acting.ties _ (fewer_rested _ _ _ c.carry_out.new.sets.acting c.rest_ready-rest.new.sets.acting c.rest_ready-rest.ensures.acting)
-    (c.carry_out.ensures.anchored (subst (λ (a : Acting Constraint). AreComplete c.self.inside.anchors.holds c.self.inside.anchors.lists a.ties) (sym c.in_ok-prepared.ensures.acting) c.self.invariant.anchored)))
-    c.rest_ready-rest.new.stands c.rest_ready-rest.ensures.standing
+    c.rest_ready-rest.new.stands c.rest_ready-rest.ensures.standing c.solve-sums.new.contacts.numbered c.rest_ready-rest.new.contact_stands c.rest_ready-rest.ensures.contacts_standing
 
 pub returns : goal.returns
 returns g c =

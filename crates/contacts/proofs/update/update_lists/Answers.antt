@@ -1,0 +1,95 @@
+use Rattle.std.proofs.Common.{List, None, Some, refl, subst, sym}
+use Rattle.std.specs.Prelude.{All, IfOk}
+use Rattle.contacts_base.specs.declared.contact.ContactEntry.{ContactEntry}
+use Rattle.contacts.specs.declared.pending_update.Touches.{Touches}
+use Rattle.contacts.specs.Known.{IsPairKey}
+use Rattle.contacts.specs.Looked.{IsDone, IsRebuilt}
+use Rattle.contacts.specs.Fates.{moved_by}
+use Rattle.contacts.proofs.JoinLaws.{done_both, done_long, fresh_rises, gone_none, gone_some, if_ok_both, long_pairs, on_ok_known, rebuilt_none, rebuilt_some, short_pairs, touches_ascend}
+use Rattle.contacts.proofs.update.update_lists.Given
+use Rattle.contacts.proofs.update.update_lists.Goals as goal
+
+pub look_over-requires-clause-keys : goal.look_over-requires-clause-keys
+look_over-requires-clause-keys g c = long_pairs c.args.old.now c.requires.known.keys
+
+pub rebuild_if-requires-clause-keys : goal.rebuild_if-requires-clause-keys
+rebuild_if-requires-clause-keys g c = subst (λ (l : List ContactEntry). All (λ e. IsPairKey e.key) l) (sym c.short.ensures.value) (short_pairs c.args.old.now c.requires.known.keys)
+
+pub rebuild_if-requires-clause-fresh : goal.rebuild_if-requires-clause-fresh
+rebuild_if-requires-clause-fresh g c = fresh_rises (moved_by c.args.collide.now.marks.now) (g.F.ForbiddenPairs.pairs c.args.collide.now.forbidden.now) (g.S.ShapesById.proxies c.args.collide.now.shapes.now) _ c.args.fresh.now c.requires.shapes c.requires.fresh
+
+-- ---- the short list stays as it is
+
+done_none : (g : Given.Over) (c : goal.In-None g) → IsDone (g.F.ForbiddenPairs.pairs c.args.collide.now.forbidden.now) (g.S.ShapesById.proxies c.args.collide.now.shapes.now) c.args.old.now c.look_over.new.notes.items c.look_over.new.ends.items None c.in_ok-touches.touches.begin.items c.in_ok-touches.touches.end.items
+done_none g c =
+    let pairs = g.F.ForbiddenPairs.pairs c.args.collide.now.forbidden.now in
+    let ps = g.S.ShapesById.proxies c.args.collide.now.shapes.now in
+    let moved = moved_by c.args.collide.now.marks.now in
+    done_long moved pairs ps c.args.old.now _ _ c.args.fresh.now _ _ c.requires.shapes c.know_ascending.ensures.long c.know_ascending.ensures.short c.know_ascending.ensures.contacts c.requires.known c.requires.fresh c.in_ok-touches.ensures.looked
+    (rebuilt_none moved pairs ps c.args.old.now.short c.short.result.now c.args.fresh.now _ c.short.ensures.value c.in-None.is c.in_ok-rebuilt.ensures.rebuilt)
+
+pub returns-in-None-clause-done : goal.returns-in-None-clause-done
+returns-in-None-clause-done g c = done_none g c
+
+pub returns-in-None-clause-gone : goal.returns-in-None-clause-gone
+returns-in-None-clause-gone g c = gone_none (moved_by c.args.collide.now.marks.now) (g.F.ForbiddenPairs.pairs c.args.collide.now.forbidden.now) (g.S.ShapesById.proxies c.args.collide.now.shapes.now) c.args.old.now.short c.short.result.now _ _ c.short.ensures.value c.in-None.is c.clear.ensures.items c.in_ok-rebuilt.ensures.gone
+
+pub returns-in-None-clause-ended : goal.returns-in-None-clause-ended
+returns-in-None-clause-ended g c = c.in_ok-touches.ensures.looked.gone_is
+
+-- ---- it is made anew
+
+pub join_touches-requires-clause-long_begin : goal.join_touches-requires-clause-long_begin
+join_touches-requires-clause-long_begin g c =
+    let pairs = g.F.ForbiddenPairs.pairs c.args.collide.now.forbidden.now in
+    let ps = g.S.ShapesById.proxies c.args.collide.now.shapes.now in
+    let moved = moved_by c.args.collide.now.marks.now in
+    let new = rebuilt_some moved pairs ps c.args.old.now.short c.short.result.now c.args.fresh.now _ c.in-Some.rebuilt c.short.ensures.value c.in-Some.is c.in_ok-rebuilt.ensures.rebuilt in
+    (touches_ascend moved pairs ps c.args.old.now _ _ c.args.fresh.now _ _ _ _ _ c.requires.shapes c.know_ascending.ensures.long c.know_ascending.ensures.short c.requires.fresh c.in_ok-touches.ensures.looked new).first
+
+pub join_touches-requires-clause-long_end : goal.join_touches-requires-clause-long_end
+join_touches-requires-clause-long_end g c =
+    let pairs = g.F.ForbiddenPairs.pairs c.args.collide.now.forbidden.now in
+    let ps = g.S.ShapesById.proxies c.args.collide.now.shapes.now in
+    let moved = moved_by c.args.collide.now.marks.now in
+    let new = rebuilt_some moved pairs ps c.args.old.now.short c.short.result.now c.args.fresh.now _ c.in-Some.rebuilt c.short.ensures.value c.in-Some.is c.in_ok-rebuilt.ensures.rebuilt in
+    (touches_ascend moved pairs ps c.args.old.now _ _ c.args.fresh.now _ _ _ _ _ c.requires.shapes c.know_ascending.ensures.long c.know_ascending.ensures.short c.requires.fresh c.in_ok-touches.ensures.looked new).second
+
+pub join_touches-requires-clause-short_begin : goal.join_touches-requires-clause-short_begin
+join_touches-requires-clause-short_begin g c =
+    let pairs = g.F.ForbiddenPairs.pairs c.args.collide.now.forbidden.now in
+    let ps = g.S.ShapesById.proxies c.args.collide.now.shapes.now in
+    let moved = moved_by c.args.collide.now.marks.now in
+    let new = rebuilt_some moved pairs ps c.args.old.now.short c.short.result.now c.args.fresh.now _ c.in-Some.rebuilt c.short.ensures.value c.in-Some.is c.in_ok-rebuilt.ensures.rebuilt in
+    (touches_ascend moved pairs ps c.args.old.now _ _ c.args.fresh.now _ _ _ _ _ c.requires.shapes c.know_ascending.ensures.long c.know_ascending.ensures.short c.requires.fresh c.in_ok-touches.ensures.looked new).third
+
+pub join_touches-requires-clause-short_end : goal.join_touches-requires-clause-short_end
+join_touches-requires-clause-short_end g c =
+    let pairs = g.F.ForbiddenPairs.pairs c.args.collide.now.forbidden.now in
+    let ps = g.S.ShapesById.proxies c.args.collide.now.shapes.now in
+    let moved = moved_by c.args.collide.now.marks.now in
+    let new = rebuilt_some moved pairs ps c.args.old.now.short c.short.result.now c.args.fresh.now _ c.in-Some.rebuilt c.short.ensures.value c.in-Some.is c.in_ok-rebuilt.ensures.rebuilt in
+    (touches_ascend moved pairs ps c.args.old.now _ _ c.args.fresh.now _ _ _ _ _ c.requires.shapes c.know_ascending.ensures.long c.know_ascending.ensures.short c.requires.fresh c.in_ok-touches.ensures.looked new).fourth
+
+abbrev IsJoined : (g : Given.Over) (c : goal.After-join_touches g) → Touches → Type 0
+IsJoined g c t = IsDone (g.F.ForbiddenPairs.pairs c.args.collide.now.forbidden.now) (g.S.ShapesById.proxies c.args.collide.now.shapes.now) c.args.old.now c.look_over.new.notes.items c.look_over.new.ends.items (Some c.in-Some.rebuilt.all.items) t.begin.items t.end.items
+
+done_some : (g : Given.Over) (c : goal.After-join_touches g) → IfOk c.join_touches.result (λ (t : Touches). IsJoined g c t)
+done_some g c =
+    let pairs = g.F.ForbiddenPairs.pairs c.args.collide.now.forbidden.now in
+    let ps = g.S.ShapesById.proxies c.args.collide.now.shapes.now in
+    let moved = moved_by c.args.collide.now.marks.now in
+    let new : IsRebuilt moved pairs ps c.args.old.now.short c.args.fresh.now c.in-Some.rebuilt.all.items c.in-Some.rebuilt.touches.begin.items c.in-Some.rebuilt.touches.end.items =
+    rebuilt_some moved pairs ps c.args.old.now.short c.short.result.now c.args.fresh.now _ c.in-Some.rebuilt c.short.ensures.value c.in-Some.is c.in_ok-rebuilt.ensures.rebuilt in
+    if_ok_both _ _ (λ (t : Touches). IsJoined g c t) c.join_touches.result (λ t b e.
+    done_both moved pairs ps c.args.old.now _ _ (Some c.in-Some.rebuilt.all.items) c.args.fresh.now c.in-Some.rebuilt.all.items _ _ _ _ t.begin.items t.end.items c.requires.shapes c.know_ascending.ensures.contacts c.requires.known c.requires.fresh c.in_ok-touches.ensures.looked new refl b e) c.join_touches.ensures.begin c.join_touches.ensures.end
+
+pub returns-in-Some-clause-done : goal.returns-in-Some-clause-done
+returns-in-Some-clause-done g c = done_some g c
+
+pub returns-in-Some-clause-gone : goal.returns-in-Some-clause-gone
+returns-in-Some-clause-gone g c =
+    on_ok_known _ c.join_touches.result (gone_some (moved_by c.args.collide.now.marks.now) (g.F.ForbiddenPairs.pairs c.args.collide.now.forbidden.now) (g.S.ShapesById.proxies c.args.collide.now.shapes.now) c.args.old.now.short c.short.result.now _ c.in-Some.rebuilt c.short.ensures.value c.in-Some.is c.in_ok-rebuilt.ensures.gone)
+
+pub returns-in-Some-clause-ended : goal.returns-in-Some-clause-ended
+returns-in-Some-clause-ended g c = on_ok_known _ c.join_touches.result c.in_ok-touches.ensures.looked.gone_is
