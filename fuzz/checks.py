@@ -7,8 +7,9 @@ from collections import Counter
 from scripts import compact
 
 SECONDS = 300  # until a run counts as one that hangs
-AMPLE = 4 << 20  # KB of address space
-LIMITED = 'ulimit -c 0; ulimit -v "$0"; exec "$@"'
+AMPLE = 4 << 20  # KB of data
+# The data are what the program asks for, without its stack: a stack that may not grow ends it by a signal.
+LIMITED = 'ulimit -c 0; ulimit -d "$0"; exec "$@"'
 LEDGER = b'{"do":"ledger"}'
 SAVE = b'{"do":"save"}'
 NO_MEMORY = {"refused": 1}
@@ -40,15 +41,15 @@ def is_json(line):
 
 
 def limited(program, words, memory):
-    """The words that start the program with so many KB of address space."""
+    """The words that start the program with so many KB of data."""
     return ["sh", "-c", LIMITED, str(memory), program, *words]
 
 
 def least_memory(program):
-    """The KB of address space with which the program starts and reads a line, in steps of 256."""
-    memory = 1024
+    """The KB of data with which the program starts and reads a line, in steps of 64."""
+    memory = 64
     while memory < AMPLE and subprocess.run(limited(program, (), memory), input=LEDGER, capture_output=True).returncode != 0:
-        memory += 256
+        memory += 64
     return memory
 
 

@@ -343,6 +343,10 @@ def visible_fault(module, name, user):
     return None
 
 
+# A type with a trait that is given types.
+GENERIC_IMPL = re.compile(r"\bimpl(?:<[^{}]*?>)?\s+(?:\w+::)*(\w+)<[^{}<>]*\b[A-Z][^{}<>]*>\s+for\s+(?:\w+::)*(\w+)")
+
+
 def function_fault(tree, crate, where):
     """Whether a function stands where its proof's place says: MODULE.FUNCTION, or MODULE.TYPE.FUNCTION.
 
@@ -361,6 +365,8 @@ def function_fault(tree, crate, where):
     kind, name = rest[0], rest[1].lstrip("+")
     if not is_type_of(module, kind):
         return f"{join(crate, module.name)} has no {kind}"
+    if any(kind == type_name + trait for trait, type_name in GENERIC_IMPL.findall(module.code)):
+        return f"{join(crate, module.name)} has the trait of {kind} for types, whose names come last"
     if name.startswith("The") or any(name in other.methods for (whose, _), other in tree.rust.items() if whose == crate):
         return None
     return f"{crate} has no function {name}"

@@ -141,18 +141,32 @@ fn laid_at(alloc: Global, contacts: &mut ContactTable, y: i64) -> Result<[usize;
     ])
 }
 
+/// What there is of the capsule once it is lifted far in a copy.
+fn lifted_in_a_copy(alloc: Global, contacts: &ContactTable) -> Result<[usize; 3], Refusal>
+    requires { ArePairs contacts.now.contacts }
+{
+    let mut copied = contacts.try_copy(alloc)?;
+    laid_at(alloc, &mut copied, 1_000_000)
+}
+
 /// What there is of a capsule that is laid down, lifted by one, lifted far in a copy, and laid down again, and how many contacts are left
 /// without its body.
-fn kept(alloc: Global) -> Result<([[usize; 3]; 4], usize), Refusal> {
-    let mut contacts = ContactTable::new(alloc);
-    let laid = laid_at(alloc, &mut contacts, 20_000)?;
-    let lifted = laid_at(alloc, &mut contacts, 20_001)?;
-    let mut copied = contacts.try_copy(alloc)?;
-    let gone = laid_at(alloc, &mut copied, 1_000_000)?;
-    let again = laid_at(alloc, &mut contacts, 20_000)?;
+fn kept_in(alloc: Global, contacts: &mut ContactTable) -> Result<([[usize; 3]; 4], usize), Refusal>
+    requires { ArePairs contacts.old.contacts }
+{
+    let laid = laid_at(alloc, contacts, 20_000)?;
+    let lifted = laid_at(alloc, contacts, 20_001)?;
+    let gone = lifted_in_a_copy(alloc, contacts)?;
+    let again = laid_at(alloc, contacts, 20_000)?;
     contacts.drop_of_body(1);
     let left = contacts.to_entries(alloc)?.len();
     Ok(([laid, lifted, gone, again], left))
+}
+
+/// The same, where there are no contacts before.
+fn kept(alloc: Global) -> Result<([[usize; 3]; 4], usize), Refusal> {
+    let mut contacts = ContactTable::new(alloc);
+    kept_in(alloc, &mut contacts)
 }
 
 #[test]
@@ -181,10 +195,11 @@ const UP: i64 = 1_000_000;
 fn on_ground(alloc: Global, heights: &[i64]) -> Result<PairSweep, Refusal> {
     let mut broad = PairSweep::new(alloc);
     add(&mut broad, proxy_of(0, GROUND, 0, 0, false)?)?;
+    let mut slot: u32 = 0;
     let mut x: i64 = -1_500_000;
-    for place in 0..heights.len() {
-        let slot = (place as u32).saturating_add(1);
-        add(&mut broad, proxy_of(slot, BALL, x, heights[place], true)?)?;
+    for height in heights {
+        slot = slot.saturating_add(1);
+        add(&mut broad, proxy_of(slot, BALL, x, *height, true)?)?;
         x = x.saturating_add(1_000_000);
     }
     Ok(broad)
@@ -238,7 +253,7 @@ fn come_and_go(alloc: Global) -> Result<[Numbers; 4], Refusal> {
 }
 
 #[test]
-fn a_contact_keeps_its_number_and_the_next_one_gets_it(rt: HostRuntime) {
+fn a_contact_keeps_its_number_until_it_goes_and_the_next_one_gets_it(rt: HostRuntime) {
     let numbered = [
         [Some(0), Some(1), Some(2), None],
         [None, Some(1), Some(2), None],

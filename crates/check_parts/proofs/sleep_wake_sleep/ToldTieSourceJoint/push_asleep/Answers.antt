@@ -4,7 +4,7 @@ use Rattle.sleep_wake.specs.Sleeping.{name_at}
 use Rattle.sleep_wake.specs.Sources.{is_asleep_under}
 use Rattle.sleep_wake.proofs.SetLemmas.{front_is}
 use Rattle.check_parts.proofs.ToldLaws.{picked_all, picked_more, picked_room}
-use Rattle.check_parts.proofs.sleep_wake_sleep.ToldTieSource.push_asleep.Goals as goal
+use Rattle.check_parts.proofs.sleep_wake_sleep.ToldTieSourceJoint.push_asleep.Goals as goal
 
 pub loop-place-init : goal.loop-place-init
 loop-place-init c = record { picked = record { items = refl; room = c.requires.room }; capacity = omega arith }

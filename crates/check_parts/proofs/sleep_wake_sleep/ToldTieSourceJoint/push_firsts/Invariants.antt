@@ -2,7 +2,7 @@ use Rattle.std.proofs.Common.{◌≤◌, drop, vec_capacity}
 use Rattle.std.specs.Prelude.{filter}
 use Rattle.sleep_wake.specs.Sources.{is_first}
 use Rattle.check_parts.proofs.ToldLaws.{ArePicked}
-use Rattle.check_parts.proofs.sleep_wake_sleep.ToldTieSource.push_firsts.Given as goal
+use Rattle.check_parts.proofs.sleep_wake_sleep.ToldTieSourceJoint.push_firsts.Given as goal
 
 abbrev pub invariant-loop-place : goal.invariant-loop-place
 invariant-loop-place l = record {

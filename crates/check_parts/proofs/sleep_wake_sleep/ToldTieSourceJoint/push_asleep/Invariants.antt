@@ -3,7 +3,7 @@ use Rattle.std.specs.Prelude.{filter}
 use Rattle.sleep_wake.specs.Sleeping.{name_at}
 use Rattle.sleep_wake.specs.Sources.{is_asleep_under}
 use Rattle.check_parts.proofs.ToldLaws.{ArePicked}
-use Rattle.check_parts.proofs.sleep_wake_sleep.ToldTieSource.push_asleep.Given as goal
+use Rattle.check_parts.proofs.sleep_wake_sleep.ToldTieSourceJoint.push_asleep.Given as goal
 
 abbrev pub invariant-loop-place : goal.invariant-loop-place
 invariant-loop-place l = record {
