@@ -15,7 +15,8 @@ put_some-requires c = λ there.
     let p = is_asleep_under (name_at c.args.self.now.sets.acting.labels) c.args.name in
     let x = c.index-joint.result.now in
     let rest = drop (c.loop-place.place + 1) ties in
-    let front : drop c.loop-place.place ties ≡ x ∷ rest = front_is ties c.loop-place.place x c.loop-place-test.true c.index-joint.ensures in
+    let lt : c.loop-place.place < length ties = omega (arith, c.loop-place-test.true, c.len-place-end.ensures) in
+    let front : drop c.loop-place.place ties ≡ x ∷ rest = front_is ties c.loop-place.place x lt c.index-joint.ensures in
     let few = picked_room p x (drop c.loop-place.place ties) rest _ _ c.loop-place.list.items (vec_capacity c.args.list.now) c.joint_if.result front c.loop-place.invariant.picked (rw c.is_asleep_under.ensures at c.joint_if.ensures) there in
     omega (arith, few, c.loop-place.invariant.capacity, c.loop-place.list.ok.0)
 
@@ -25,7 +26,8 @@ loop-place-preserved c =
     let p = is_asleep_under (name_at c.args.self.now.sets.acting.labels) c.args.name in
     let x = c.index-joint.result.now in
     let rest = drop (c.loop-place.place + 1) ties in
-    let front : drop c.loop-place.place ties ≡ x ∷ rest = front_is ties c.loop-place.place x c.loop-place-test.true c.index-joint.ensures in
+    let lt : c.loop-place.place < length ties = omega (arith, c.loop-place-test.true, c.len-place-end.ensures) in
+    let front : drop c.loop-place.place ties ≡ x ∷ rest = front_is ties c.loop-place.place x lt c.index-joint.ensures in
     record {
       picked = picked_more p x (drop c.loop-place.place ties) rest _ _ c.loop-place.list.items c.put_some.new.items.items (vec_capacity c.args.list.now) c.joint_if.result front c.loop-place.invariant.picked (rw c.is_asleep_under.ensures at c.joint_if.ensures) c.put_some.ensures.items;
       capacity = omega (arith, c.loop-place.invariant.capacity, c.put_some.ensures.capacity);
