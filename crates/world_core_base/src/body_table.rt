@@ -262,6 +262,7 @@ impl BodyTable {
     {
         self.room = 0;
         self.bodies.reserve(1)?;
+        // As many bodies can be put in as the list of bodies has room for, so that most calls make none.
         reserve_stands(
             &mut self.stands,
             self.bodies.capacity(),
