@@ -1,7 +1,7 @@
 /* Times calls of the library for C in a world of 10,000 movers: nanoseconds for a push, for what is seen of a body, for a push of a batch of a
  * thousand, and for a pose of all. Each is the least of 20 rounds.
  *
- *     cc -O2 -Iembed bench/library_calls.c embed/out/libdillmonth.a -o calls && calls
+ *     cc -O2 -Ibindings/c bench/library_calls.c bindings/out/libdillmonth.a -o calls && calls
  */
 #include "dillmonth.h"
 #include <stdio.h>

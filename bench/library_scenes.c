@@ -1,7 +1,7 @@
 /* Makes the steps of a scene through the library for C. It reads the lines that tools/plain_rust/compact.py writes, and answers as
  * chipmunk_scenes.c does: the nanoseconds of its steps of 4 ticks, how many they are, how many movers there are, and how many are awake.
  *
- *     cc -O2 -Iembed bench/library_scenes.c embed/out/libdillmonth.a -o scenes && scenes < LINES
+ *     cc -O2 -Ibindings/c bench/library_scenes.c bindings/out/libdillmonth.a -o scenes && scenes < LINES
  */
 #include "dillmonth.h"
 #include <inttypes.h>

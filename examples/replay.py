@@ -5,13 +5,13 @@
     examples/replay.py --write SCRIPT         writes a digest a line, one for each step of the script
     examples/replay.py --save N SCRIPT        writes the world after step N, to be compared by examples/compare.py
 
-It takes the library that embed/build makes.
+It takes the library that bindings/build makes.
 """
 
 import sys
 from pathlib import Path
 
-sys.path.insert(0, str(Path(__file__).resolve().parent.parent / "embed"))
+sys.path.insert(0, str(Path(__file__).resolve().parent.parent / "bindings/python"))
 from compare import digests_in  # noqa: E402
 from scripts import NotOurs, Player, lines_of  # noqa: E402
 

@@ -3,10 +3,10 @@
 
     tools/edits_check.py [CHECKOUT]     the checkout is that of this script where none is named
 
-An edit is a file of `crates/*/must-fail/` or `crates/*/more-edits/`: lines `file: PATH`, each with pairs of lines
+An edit is a file of `crates/*/must-fail/` or `crates/*/must-fail-beside-the-gate/`: lines `file: PATH`, each with pairs of lines
 `old: TEXT` and `new: TEXT` after it. Each old text has to stand once in the file, as the pairs before it have left it.
 It prints each edit that doesn't fit; the last line is `N passed, M failed`. It proves nothing: `rt must-fail` and
-`edits/run` do.
+`tests/edits` do.
 """
 
 import sys
@@ -39,7 +39,7 @@ def fault_of(edit):
 
 def main(words):
     top = Path(words[0]) if words else Path(__file__).resolve().parent.parent
-    edits = sorted(path for folder in ("must-fail", "more-edits") for path in top.glob(f"crates/*/{folder}/*.edit"))
+    edits = sorted(path for folder in ("must-fail", "must-fail-beside-the-gate") for path in top.glob(f"crates/*/{folder}/*.edit"))
     faults = [(edit, fault_of(edit)) for edit in edits]
     for edit, fault in faults:
         if fault:

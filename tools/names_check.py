@@ -449,7 +449,7 @@ def check_edits(tree):
     for crate in tree.deps:
         known = own[crate] | of_the_kit | KIT_WORDS | RUST_WORDS | set().union(*(defined[other] for other in crates[crate]))
         known_terms = own_terms[crate] | KIT_WORDS | set().union(*(terms[other] | defined[other] for other in crates[crate]))
-        for folder in ("must-fail", "more-edits"):
+        for folder in ("must-fail", "must-fail-beside-the-gate"):
             for edit in sorted((tree.top / "crates" / crate / folder).glob("*.edit")):
                 tree.look(edit, edit_fault(edit, known, known_terms | own[crate]))
 

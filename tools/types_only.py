@@ -78,7 +78,7 @@ def leave_laws(crate, laws):
     proofs = crate / "proofs"
     kept = [(name, proofs / f"{name}.antt") for name in laws if (proofs / f"{name}.antt").is_file()]
     texts = [(name, path.read_text(encoding="utf-8")) for name, path in kept]
-    for folder in (proofs, crate / "must-fail", crate / "more-edits"):
+    for folder in (proofs, crate / "must-fail", crate / "must-fail-beside-the-gate"):
         shutil.rmtree(folder, ignore_errors=True)
     proofs.mkdir()
     (proofs / "Lib.antt").write_text("".join(f"pub mod {name}\n" for name, _ in texts), encoding="utf-8")

@@ -1,4 +1,4 @@
-//! Calls of a world to which memory may be refused. What refuses it is beside the program: `faults/run`, which also has the worlds.
+//! Calls of a world to which memory may be refused. What refuses it is beside the program: `tests/faults/run`, which also has the worlds.
 
 mod compare;
 mod differences;

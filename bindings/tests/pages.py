@@ -1,0 +1,82 @@
+#!/usr/bin/env python3
+"""Builds and runs what the pages show: the code of README.md and docs/EMBEDDING_*.md in C, C++, Rust and Python.
+
+    bindings/tests/pages.py     with the library that bindings/build makes; the last line is 'N passed, M failed'
+
+A page's code in a language is one program. Its first lines, up to an empty one, come first, and all others into `main`. A language whose compiler isn't
+there is skipped.
+"""
+
+import os
+import re
+import shutil
+import subprocess
+import sys
+import tempfile
+from pathlib import Path
+
+TOP = Path(__file__).resolve().parent.parent.parent
+BINDINGS = TOP / "bindings"
+OUT = BINDINGS / "out"
+BLOCK = re.compile(r"^```(\w+)\n(.*?)^```$", re.M | re.S)
+OURS = re.compile(r"\bdm_|\bworld\.|\bWorld\b")
+# what stands round the code, and how it is run
+C = ("c", "{}\nint main(void) {{\n{}\nreturn 0;\n}}\n", ["cc", f"-I{BINDINGS}/c", "FILE", str(OUT / "libdillmonth.a"), "-o", "PROGRAM"])
+CPP = ("cpp", "{}\nint main() {{\n{}\n}}\n", ["c++", "-std=c++17", f"-I{BINDINGS}/c", f"-I{BINDINGS}/cpp", "FILE", str(OUT / "libdillmonth.a"), "-o", "PROGRAM"])
+RUST = ("rust", "{}\nfn main() -> Result<(), Box<dyn std::error::Error>> {{\n{}\nOk(())\n}}\n",
+        ["rustc", "--edition", "2024", "-O", "-L", str(OUT), "-l", "static=dillmonth", "FILE", "-o", "PROGRAM"])
+PYTHON = ("python", "{}\n{}\n", None)
+# each page with its language, and what it takes for granted
+PAGES = [
+    ("docs/EMBEDDING_C.md", C, ""), ("docs/EMBEDDING_CPP.md", CPP, ""), ("docs/EMBEDDING_RUST.md", RUST, ""), ("docs/EMBEDDING_PYTHON.md", PYTHON, ""),
+    ("README.md", C, '#include "dillmonth.h"\n\n'), ("README.md", PYTHON, "from dillmonth import METRE, Body, World, circle\n\n"),
+]
+ENDINGS = {"c": "c", "cpp": "cpp", "rust": "rs", "python": "py"}
+
+
+def code_of(page, language):
+    """The code that a page has in a language, as far as it is of a world."""
+    blocks = BLOCK.findall((TOP / page).read_text(encoding="utf-8"))
+    ours = [code for name, code in blocks if name == language and OURS.search(code)]
+    if language == "rust" or page != "README.md":
+        return "\n".join(ours)
+    return "\n".join(code for code in ours if "subprocess" not in code)
+
+
+def run(folder, page, language, more):
+    """What the page's program prints; None where there is no compiler."""
+    name, frame, compiler = language
+    if compiler and not shutil.which(compiler[0]):
+        return None
+    head, _, body = (more + code_of(page, name)).partition("\n\n")
+    file, program = Path(folder, f"game.{ENDINGS[name]}"), str(Path(folder, "game"))
+    file.write_text(frame.format(head, body), encoding="utf-8")
+    shutil.copy(BINDINGS / "rust/dillmonth.rs", folder)
+    words = [sys.executable, str(file)]
+    if compiler:
+        subprocess.run([{"FILE": str(file), "PROGRAM": program}.get(word, word) for word in compiler], check=True)
+        words = [program]
+    found = {**os.environ, "PYTHONPATH": str(BINDINGS / "python")}
+    return subprocess.run(words, check=True, capture_output=True, text=True, env=found).stdout
+
+
+def main():
+    passed = failed = 0
+    for page, language, more in PAGES:
+        with tempfile.TemporaryDirectory() as folder:
+            try:
+                printed = run(folder, page, language, more)
+            except subprocess.CalledProcessError as error:
+                failed += 1
+                print(f"{page} in {language[0]}: {error}\n{error.stderr or ''}")
+                continue
+        if printed is None:
+            print(f"skipped {page} in {language[0]}: there is no compiler")
+            continue
+        passed += 1
+        print(f"{page} in {language[0]} prints {printed.split()[:6]}")
+    print(f"{passed} passed, {failed} failed")
+    sys.exit(1 if failed or not passed else 0)
+
+
+main()

@@ -1,0 +1,103 @@
+#!/usr/bin/env python3
+"""The calls of tour.c, by the owner for Python."""
+
+import sys
+from pathlib import Path
+
+sys.path.insert(0, str(Path(__file__).resolve().parent.parent / "python"))
+from dillmonth import METRE, ONE, Body, Command, Handle, Joint, Pose, Refused, Rot, Vec, World, capsule, circle, segment  # noqa: E402
+
+NOBODY = Handle(0, 0)
+
+
+def make_scene():
+    world = World((0, -179))
+    world.create_body(Body.static(), [segment((-8 * METRE, 0), (8 * METRE, 0), friction=128)])
+    disc = [circle(METRE // 2, friction=128)]
+    balls = [world.create_body(Body.dynamic(((i - 2) * METRE + i * 1000, METRE), 200, 27 * 10**12), disc) for i in range(5)]
+    core = [capsule((-METRE, 0), (METRE, 0), METRE // 4, friction=128, restitution=64)]
+    return world, balls, world.create_body(Body.kinematic((0, 6 * METRE), velocity=(1000, 0)), core)
+
+
+def play(world, count):
+    counts, step = [0] * 4, 0
+    for _ in range(count):
+        step = world.step(4)
+        for at, heard in enumerate((world.begun(), world.ended(), world.slept(), world.woke())):
+            counts[at] += len(heard)
+    print("step {}: {} begun, {} ended, {} slept, {} woke".format(step, *counts))
+
+
+def text_of(handle):
+    return f"{handle.slot}.{handle.generation}"
+
+
+def status_of(call, *values):
+    """The status with which a call is refused, and the clause."""
+    try:
+        call(*values)
+    except Refused as refused:
+        return int(refused.status), refused.clause
+    return 0, 0
+
+
+def command_each(world, balls, platform):
+    made = world.create_joint(Joint(balls[0], balls[1], (0, METRE // 4), (0, METRE // 4), METRE, 1, 0))
+    world.push(balls[2], (20000, 40000))
+    world.push(balls[3], (1000, 0), (0, METRE // 4))
+    world.set_pose(balls[4], (3 * METRE, 5 * METRE), (0, ONE))
+    world.set_velocity(platform, (2000, 0), 1000)
+    world.set_gravity((0, -157))
+    world.disable(balls[1])
+    world.enable(balls[1])
+    world.sleep(balls[3])
+    world.wake(balls[3])
+    print(f"joint {text_of(made)}, refused {status_of(world.push, NOBODY, (1, 1))[0]}")
+
+
+def command_all(world, balls, platform):
+    commands = [Command(kind=kind) for kind in (0, 4, 2, 6, 7, 1, 13)]
+    commands[0].shapes_count, commands[0].body = 1, Body.dynamic((-4 * METRE, 3 * METRE), 50, 10**12)
+    commands[2].joint = Joint(balls[2], balls[3], (0, 0), (0, 0), 2 * METRE, 0, 0)
+    commands[3].joint.a, commands[3].body.at, commands[3].body.facing = balls[0], Vec(-6 * METRE, 2 * METRE), Rot(ONE, 0)
+    commands[4].joint.a, commands[4].body.velocity, commands[4].body.spin = platform, Vec(-2000, 0), 500
+    commands[5].joint.a, commands[6].ticks = balls[4], 4
+    body, push, joint, *_, step = world.apply_all(commands, [circle(METRE // 4, friction=128)])
+    print(f"a body {text_of(body.made)}, a joint {text_of(joint.made)}, step {step.step}, refused {push.status}")
+    world.destroy_joint(joint.made)
+    world.destroy_body(body.made)
+
+
+def look(world, balls):
+    contacts = world.contacts()
+    points = sum(contact.points for contact in contacts)
+    found, hit = world.region((-9 * METRE, -METRE), (0, 9 * METRE)), world.ray((0, 20 * METRE), (0, -40 * METRE))
+    view, gone = world.body(balls[2]), world.body(balls[4])
+    assert gone is None and world.poses_into((Pose * 3)()) == len(world.poses())
+    print(f"{len(world.poses())} poses, {len(world.moved())} moved, {len(contacts)} contacts of {points} points, {len(found)} in a region")
+    print(f"a ray hits {hit.shape.slot}.{hit.shape.index} at {hit.fraction}")
+    print(f"a body at {view.pose.at.x}, {view.pose.at.y} with {view.p.x}, {view.p.y} and {view.l}, awake {int(view.set == 2)}")
+    print(f"{world.steps} steps, gravity {world.gravity.y}")
+
+
+def keep(world):
+    digest, text = world.digest(), world.save()
+    with World.load(text) as other:
+        assert other.digest() == digest and world.copy().digest() == digest
+    status, clause = status_of(World.load, "{}")
+    print(f"{len(text)} bytes, refused {status} by clause {clause}")
+    print(digest.hex())
+
+
+def main():
+    world, balls, platform = make_scene()
+    play(world, 60)
+    command_each(world, balls, platform)
+    play(world, 60)
+    command_all(world, balls, platform)
+    play(world, 60)
+    look(world, balls)
+    keep(world)
+
+
+main()

@@ -1,0 +1,143 @@
+//! The calls of tour.c, by the owner for Rust.
+
+#[path = "../rust/dillmonth.rs"]
+mod dillmonth;
+
+use dillmonth::{Box2, Command, Form, Handle, Joint, Kind, Refused, Reply, Rot, Set, Shape, UPRIGHT, Vec2, World};
+
+const METRE: i64 = 1 << 20;
+const NOBODY: Handle = Handle { slot: 0, generation: 0 };
+
+fn at(x: i64, y: i64) -> Vec2 {
+    Vec2 { x, y }
+}
+
+fn circle(radius: i64) -> Shape {
+    Shape::new(Form::Circle { center: at(0, 0), radius }).friction(128)
+}
+
+struct Scene {
+    world: World,
+    balls: Vec<Handle>,
+    platform: Handle,
+}
+
+fn make_scene() -> Result<Scene, Refused> {
+    let mut world = World::new(at(0, -179))?;
+    let floor = Shape::new(Form::Segment { first: at(-8 * METRE, 0), second: at(8 * METRE, 0) }).friction(128);
+    world.create_body(Kind::Static, at(0, 0), UPRIGHT, &[floor])?;
+    let mut balls = Vec::new();
+    for i in 0..5 {
+        let kind = Kind::Dynamic { mass: 200, inertia: 27_000_000_000_000 };
+        balls.push(world.create_body(kind, at((i - 2) * METRE + i * 1000, METRE), UPRIGHT, &[circle(METRE / 2)])?);
+    }
+    let capsule = Form::Capsule { first: at(-METRE, 0), second: at(METRE, 0), radius: METRE / 4 };
+    let capsule = Shape { restitution: 64, ..Shape::new(capsule).friction(128) };
+    let lift = Kind::Kinematic { velocity: at(1000, 0), spin: 0 };
+    let platform = world.create_body(lift, at(0, 6 * METRE), UPRIGHT, &[capsule])?;
+    Ok(Scene { world, balls, platform })
+}
+
+fn play(world: &mut World, count: usize) -> Result<(), Refused> {
+    let (mut step, mut begun, mut ended, mut slept, mut woke) = (0, 0, 0, 0, 0);
+    for _ in 0..count {
+        step = world.step(4)?;
+        begun += world.begun().len();
+        ended += world.ended().len();
+        slept += world.slept().len();
+        woke += world.woke().len();
+    }
+    println!("step {step}: {begun} begun, {ended} ended, {slept} slept, {woke} woke");
+    Ok(())
+}
+
+fn number_of(refused: Refused) -> u32 {
+    match refused {
+        Refused::StaleHandle => 2,
+        Refused::BadFile(_) => 12,
+        other => panic!("{other}"),
+    }
+}
+
+fn text_of(handle: Handle) -> String {
+    format!("{}.{}", handle.slot, handle.generation)
+}
+
+fn command_each(scene: &mut Scene) -> Result<(), Refused> {
+    let Scene { world, balls, platform } = scene;
+    let anchor = at(0, METRE / 4);
+    let made = world.create_joint(&Joint { a: (balls[0], anchor), b: (balls[1], anchor), length: METRE, collide: true })?;
+    world.push(balls[2], at(20_000, 40_000))?;
+    world.push_at(balls[3], at(1000, 0), at(0, METRE / 4))?;
+    world.set_pose(balls[4], at(3 * METRE, 5 * METRE), Rot { c: 0, s: 1 << 30 })?;
+    world.set_velocity(*platform, at(2000, 0), 1000)?;
+    world.set_gravity(at(0, -157))?;
+    world.disable(balls[1])?;
+    world.enable(balls[1])?;
+    world.sleep(balls[3])?;
+    world.wake(balls[3])?;
+    let refused = world.push(NOBODY, at(1, 1)).map_or_else(number_of, |()| 0);
+    println!("joint {}, refused {refused}", text_of(made));
+    Ok(())
+}
+
+fn command_all(scene: &mut Scene) -> Result<(), Refused> {
+    let Scene { world, balls, platform } = scene;
+    let kind = Kind::Dynamic { mass: 50, inertia: 1_000_000_000_000 };
+    let joint = Joint { a: (balls[2], at(0, 0)), b: (balls[3], at(0, 0)), length: 2 * METRE, collide: false };
+    let answers = world.apply_all(&[
+        Command::CreateBody { kind, at: at(-4 * METRE, 3 * METRE), facing: UPRIGHT, shapes: &[circle(METRE / 4)] },
+        Command::Push(NOBODY, at(0, 0)),
+        Command::CreateJoint(joint),
+        Command::SetPose { body: balls[0], at: at(-6 * METRE, 2 * METRE), facing: UPRIGHT },
+        Command::SetVelocity { body: *platform, velocity: at(-2000, 0), spin: 500 },
+        Command::DestroyBody(balls[4]),
+        Command::Step(4),
+    ]);
+    let [Ok(Reply::Body(body)), Err(refused), Ok(Reply::Joint(joint)), Ok(Reply::Done), Ok(Reply::Done), Ok(Reply::Done), Ok(Reply::Step(step))] = answers[..] else {
+        panic!("{answers:?}");
+    };
+    println!("a body {}, a joint {}, step {step}, refused {}", text_of(body), text_of(joint), number_of(refused));
+    world.destroy_joint(joint)?;
+    world.destroy_body(body)
+}
+
+fn look(scene: &mut Scene) -> Result<(), Refused> {
+    let Scene { world, balls, .. } = scene;
+    let contacts = world.contacts()?;
+    let points: u32 = contacts.iter().map(|contact| contact.points).sum();
+    let found = world.region(Box2 { lo: at(-9 * METRE, -METRE), hi: at(0, 9 * METRE) })?.len();
+    let (shape, fraction) = world.ray(at(0, 20 * METRE), at(0, -40 * METRE))?.expect("the ray hits");
+    let view = world.body(balls[2]).expect("the body is there");
+    assert!(world.body(balls[4]).is_none());
+    let (poses, moved) = (world.poses().len(), world.moved().len());
+    println!("{poses} poses, {moved} moved, {} contacts of {points} points, {found} in a region", contacts.len());
+    println!("a ray hits {}.{} at {fraction}", shape.slot, shape.index);
+    let is_awake = i32::from(view.set == Set::Awake);
+    println!("a body at {}, {} with {}, {} and {}, awake {is_awake}", view.pose.at.x, view.pose.at.y, view.p.x, view.p.y, view.l);
+    println!("{} steps, gravity {}", world.steps(), world.gravity().y);
+    Ok(())
+}
+
+fn keep(mut world: World) -> Result<(), Refused> {
+    let digest = world.digest()?;
+    let text = world.save()?;
+    assert_eq!(World::load(&text)?.digest()?, digest);
+    assert_eq!(world.copy()?.digest()?, digest);
+    let Err(refused) = World::load("{}") else { panic!("that is no world") };
+    let Refused::BadFile(clause) = refused else { panic!("{refused}") };
+    println!("{} bytes, refused {} by clause {clause}", text.len(), number_of(refused));
+    println!("{}", digest.map(|byte| format!("{byte:02x}")).concat());
+    Ok(())
+}
+
+fn main() -> Result<(), Refused> {
+    let mut scene = make_scene()?;
+    play(&mut scene.world, 60)?;
+    command_each(&mut scene)?;
+    play(&mut scene.world, 60)?;
+    command_all(&mut scene)?;
+    play(&mut scene.world, 60)?;
+    look(&mut scene)?;
+    keep(scene.world)
+}

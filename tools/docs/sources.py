@@ -1,0 +1,201 @@
+"""Reads what the repository's scripts ask of its sources: crates, definitions of `specs/`, and items of `src/`.
+
+Used by `definitions.py` and `check.py` beside it; it prints nothing.
+
+A definition is an item of a file `crates/CRATE/specs/FILE.antt`: its comment, its head and its equations. A name in it
+is one that its file defines, or one that a line `use Rattle.CRATE.specs.FILE.{NAME, ..}` of its file brings in.
+"""
+
+import re
+from collections import namedtuple
+from pathlib import Path
+
+TOP = Path(__file__).resolve().parent.parent.parent
+
+# An item of a file of definitions. `file` is CRATE/FILE; `comment` and `text` are lists of lines.
+Definition = namedtuple("Definition", "file name kind line comment text")
+# An item of the code, a type or a constant, with its comment. `file` is CRATE/src/NAME.rt.
+Item = namedtuple("Item", "file name kind line comment text")
+# What an import names: `where` is CRATE/FILE, or the dotted module of an item of the code or of the kit's library.
+Import = namedtuple("Import", "where name")
+
+HEAD = re.compile(r"^(?:(abbrev|unfoldable)\s+)?(?:pub\s+)?(?:(record|data)\s+)?([^\s:(){}]+)")
+STARTS = re.compile(r"^(?:abbrev|unfoldable|pub)\b(?!\s+mod\b)")
+USE = re.compile(r"^(?:ghost )?use\s+([\w.]+?)(?:\.\{(.*)\}|\s+as\s+(\w+))?;?$")
+RUST_ITEM = re.compile(r"^pub(?:\(crate\))? (struct|enum|const|trait) (\w+)|^(struct|enum|const|trait) (\w+)")
+
+
+def read_lines(path):
+    return path.read_text(encoding="utf-8").splitlines()
+
+
+def crates_below():
+    """Each crate of crates.txt, in its order, with the crates and libraries that it stands on."""
+    parts = [line.partition("#")[0].partition(":") for line in read_lines(TOP / "crates.txt")]
+    return {name.split()[0]: below.split() for name, colon, below in parts if colon}
+
+
+def crates_from_below():
+    """The crates of crates.txt, each after those that it stands on, and else in its order."""
+    below, order = crates_below(), []
+
+    def add(crate):
+        if crate in below and crate not in order:
+            for each in below[crate]:
+                add(each)
+            order.append(crate)
+
+    for crate in below:
+        add(crate)
+    return order
+
+
+def module_key(dotted):
+    """CRATE/FILE of a module of definitions; any other module keeps its dotted name."""
+    found = re.fullmatch(r"Rattle\.(\w+)\.specs\.(\w+)", dotted)
+    return "/".join(found.groups()) if found else dotted
+
+
+class Imports:
+    """What the `use` lines of a file bring in: single names, and short names of modules."""
+
+    def __init__(self, lines):
+        self.names = {}
+        self.modules = {}
+        for line in lines:
+            found = USE.match(line.strip())
+            if found and "." in found.group(1):
+                self._take(*found.groups())
+
+    def operators_in(self, text):
+        """The imports of signs such as `◌+◌` that stand in a text."""
+        signs = set(text.replace("(", " ").replace(")", " ").split())
+        spoken = {name: name.replace("◌", " ").split() for name in self.names if not name[0].isalpha() or "◌" in name}
+        return [self.names[name] for name, parts in spoken.items() if parts and signs.issuperset(parts)]
+
+    def _take(self, dotted, names, short):
+        if short:
+            self.modules[short] = module_key(dotted)
+        for part in filter(None, map(str.strip, (names or "").split(","))):
+            name, _, other = part.partition(" as ")
+            self.names[(other or name).strip()] = Import(module_key(dotted), name.strip())
+
+
+class DefinitionFile:
+    """A file of definitions: its items in their order, and what it imports."""
+
+    def __init__(self, path):
+        self.path = path
+        self.key = f"{path.parent.parent.name}/{path.stem}"
+        self.lines = read_lines(path)
+        self.imports = Imports(line for line in self.lines if line.startswith("use "))
+        self.definitions = {}
+        self.parameters = ""  # of a `module _ {..} where`, which all its definitions have
+        self._read()
+
+    def find(self, name):
+        """The definition of this name, or that of the type which has it as a constructor."""
+        if name in self.definitions:
+            return self.definitions[name]
+        types = [item for item in self.definitions.values() if item.kind == "data"]
+        return next((item for item in types if f"  {name} :" in "\n".join(item.text)), None)
+
+    def _read(self):
+        comment, current = [], None
+        for number, line in enumerate(self.lines, start=1):
+            if line.startswith("module _ "):
+                self.parameters = line[len("module _ ") : -len(" where")]
+                continue
+            line = line[2:] if self.parameters else line
+            if line.startswith("--"):
+                comment, current = comment + [line], None
+            elif STARTS.match(line):
+                current, comment = self._begin(number, line, comment), []
+            elif not line.strip() or line.startswith("use "):
+                comment = []
+            elif current:
+                current.text.append(line)
+
+    def _begin(self, number, line, comment):
+        modifier, kind, name = HEAD.match(line).groups()
+        own = [each for each in comment if not each.startswith("-- ----")]
+        self.definitions[name] = Definition(self.key, name, kind or modifier or "law", number, own, [line])
+        return self.definitions[name]
+
+
+def definition_files():
+    """Each file of definitions of the repository, by CRATE/FILE."""
+    paths = [path for path in sorted(TOP.glob("crates/*/specs/*.antt")) if path.stem != "Lib"]
+    return {file.key: file for file in map(DefinitionFile, paths)}
+
+
+class CodeFile:
+    """A file of a crate's code: its types and constants, its imports, and how contracts see its types."""
+
+    def __init__(self, path):
+        self.path = path
+        self.crate = path.relative_to(TOP / "crates").parts[0]
+        self.key = str(path.relative_to(TOP / "crates"))
+        self.lines = read_lines(path)
+        self.imports = Imports(line for line in self.lines if "use Rattle." in line)
+        self.items = {}
+        self._read()
+
+    def _read(self):
+        comment = []
+        for index, line in enumerate(self.lines):
+            found = RUST_ITEM.match(line)
+            if line.startswith("///"):
+                comment.append(line)
+            elif found:
+                kind, name = [group for group in found.groups() if group]
+                text = self._until_closed(index)
+                self.items[name] = Item(self.key, name, kind, index + 1, comment, text)
+                comment = []
+            elif not line.startswith(("#", "//")):
+                comment = []
+
+    def _until_closed(self, start):
+        """The lines of an item, up to that which ends it."""
+        depth = 0
+        for end, line in enumerate(self.lines[start:], start=start):
+            depth += sum(map(line.count, "{([")) - sum(map(line.count, "})]"))
+            if depth == 0 and line.rstrip().endswith((";", "}")):
+                return self.lines[start : end + 1]
+        raise SystemExit(f"{self.path}:{start + 1}: an item without an end")
+
+    def value_of(self, type_name):
+        """How contracts see a type: the text of its `ghost Value`, or None where they see its fields."""
+        pattern = re.compile(rf"^impl(?:<.*>)? Model for {type_name}\b")
+        starts = [index for index, line in enumerate(self.lines) if pattern.match(line)]
+        for line in self.lines[starts[0] :] if starts else []:
+            if line.strip().startswith("ghost Value = {"):
+                return line.strip()[len("ghost Value = {") :].rstrip(" ;}").strip()
+        return None
+
+    def methods_of(self, type_name):
+        """The lines of the blocks in which a type has its methods."""
+        block = re.compile(rf"^impl(?:<.*?>)? {type_name}\b")
+        inside = False
+        for index, line in enumerate(self.lines):
+            inside = bool(block.match(line)) or (inside and line != "}")
+            if inside:
+                yield index, line
+
+    def public_methods(self, type_name):
+        """The names of a type's public methods."""
+        found = [re.match(r"    pub fn (\w+)", line) for _, line in self.methods_of(type_name)]
+        return [each.group(1) for each in found if each]
+
+    def contract_of(self, method, type_name):
+        """The clauses of a method, one a line."""
+        called = re.compile(rf"    (?:pub(?:\(crate\))? )?fn {method}\b")
+        first = next(index for index, line in self.methods_of(type_name) if called.match(line))
+        last = next(index for index in range(first, len(self.lines)) if self.lines[index].strip() == "{")
+        clauses = [line.strip() for line in self.lines[first:last]]
+        return "\n".join(line for line in clauses if line.startswith(("ensures", "requires")))
+
+
+def code_files():
+    """Each file of the crates' code, by its path below crates/."""
+    return {file.key: file for file in map(CodeFile, sorted(TOP.glob("crates/*/src/**/*.rt")))}
