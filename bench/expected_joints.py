@@ -1,10 +1,13 @@
 """What is to be expected of joints: a pendulum, ropes, bridges. For bench/expectations."""
-import json
 import math
-import subprocess
+import os
+import sys
 
-from expected_worlds import (
-    METRE, TICKS, WEIGHT, a_step, capsule, disc, gravity, joint, line, post, push, run, seldom, speed, table, u,
+sys.path.append(os.path.join(os.path.dirname(os.path.dirname(os.path.abspath(__file__))), "examples"))
+from world import World  # noqa: E402
+
+from expected_worlds import (  # noqa: E402
+    METRE, TICKS, WEIGHT, a_step, capsule, disc, gravity, joint, post, push, run, seldom, speed, table, u,
 )
 
 ROPE_MASS = 64
@@ -79,21 +82,14 @@ def free_rope(program, links, pushed, rate, ticks):
 
 def braked_rope(program, links, rate, ticks):
     """As before, but each step begins with a push against each disc's momentum, of an eighth of it."""
-    process = subprocess.Popen([program], stdin=subprocess.PIPE, stdout=subprocess.PIPE, text=True)
-
-    def ask(requests):
-        process.stdin.write("".join(map(line, requests)))
-        process.stdin.flush()
-        return [json.loads(process.stdout.readline()) for _ in requests]
-
+    world = World(program)
     shows = [{"do": "show", "body": f"{slot}.1"} for slot in range(1, links)]
-    ask([gravity(rate), *rope(links)])
-    moments = [ask(shows)]
+    world.ask_all([gravity(rate), *rope(links)])
+    moments = [world.ask_all(shows)]
     for _ in range(rate * 30 // ticks):
         brakes = [{"do": "push", "body": show["body"], "by": [-part // 8 for part in one["p"]]} for show, one in zip(shows, moments[-1])]
-        moments.append(ask([*brakes, {"do": "step", "ticks": ticks}, *shows])[-len(shows):])
-    process.stdin.close()
-    process.wait()
+        moments.append(world.ask_all([*brakes, {"do": "step", "ticks": ticks}, *shows])[-len(shows):])
+    world.end()
     return gain(moments, rate)
 
 

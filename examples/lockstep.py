@@ -10,11 +10,10 @@ guessed and taken back, and a log is replayed. The last line is 'N passed, M fai
 import json
 import math
 import os
-import subprocess
 import sys
 
-TOP = os.path.dirname(os.path.dirname(os.path.abspath(__file__)))
-PROGRAM = os.path.join(TOP, "crates/world_script/out/world_script")
+from world import PROGRAM, World
+
 METRE = 1 << 20
 UNIT = 1 << 30
 RATE = 240  # ticks a second
@@ -81,17 +80,12 @@ class Peer:
     """A world in a process of its own, with the log of all frames that it has played."""
 
     def __init__(self, program):
-        self.process = subprocess.Popen([program, "--extended"], stdin=subprocess.PIPE, stdout=subprocess.PIPE)
+        self.world = World(program, "--extended")
         self.frames, self.answers = [], []
 
     def ask(self, lines):
-        """Writes the lines at once, and then reads as many answers."""
-        self.process.stdin.write("".join(each + "\n" for each in lines).encode())
-        self.process.stdin.flush()
-        answers = [self.process.stdout.readline().decode().rstrip("\n") for _ in lines]
-        if not all(answers):
-            raise EOFError("the program ended")
-        return answers
+        """The answers to some lines."""
+        return [answer.decode() for answer in self.world.answers([(each + "\n").encode() for each in lines])]
 
     def play(self, lines):
         """Plays a frame and logs it."""
@@ -118,12 +112,11 @@ class Peer:
         return self.ask([line(do="back", number=0)]) == ['{"done":true}']
 
     def end(self):
-        self.process.stdin.close()
-        return self.process.wait()
+        status, _, _ = self.world.end()
+        return status
 
     def crash(self):
-        self.process.kill()
-        self.process.wait()
+        self.world.kill()
 
 
 def begin(program):

@@ -16,48 +16,11 @@ import sys
 import tempfile
 import time
 
-TOP = os.path.dirname(os.path.dirname(os.path.abspath(__file__)))
-PROGRAM = os.path.join(TOP, "crates/world_script/out/world_script")
+from world import PROGRAM, Ended, World
+
 LOOKS = ("show", "ledger", "ray", "region", "save")
 BETWEEN_SAVES = 40  # requests
 NO_MEMORY, NO_THREAD = 1, 11
-
-
-class Died(Exception):
-    """The program ended while an answer was wanted."""
-
-
-class World:
-    """The program as a process, which is asked and answers."""
-
-    def __init__(self, program):
-        self.process = subprocess.Popen([program], stdin=subprocess.PIPE, stdout=subprocess.PIPE)
-
-    def send(self, line):
-        try:
-            self.process.stdin.write(line + b"\n")
-            self.process.stdin.flush()
-        except BrokenPipeError:
-            raise Died from None
-
-    def answer(self):
-        line = self.process.stdout.readline()
-        if not line.endswith(b"\n"):
-            raise Died  # a line without its end is no answer
-        return line[:-1]
-
-    def ask(self, line):
-        self.send(line)
-        return self.answer()
-
-    def kill(self):
-        self.process.kill()
-        self.process.wait()
-        for pipe in (self.process.stdin, self.process.stdout):
-            try:
-                pipe.close()
-            except BrokenPipeError:
-                pass
 
 
 class KeptWorld:
@@ -79,7 +42,7 @@ class KeptWorld:
         self.number = max((int(name[6:]) for name in os.listdir(self.folder) if name[:6] == "world." and name[6:].isdigit()), default=0)
         if self.number:
             with open(self.path("world"), "rb") as file:
-                answer = self.world.ask(b'{"do":"load",' + file.read()[1:])
+                answer = self.world.answer_to(b'{"do":"load",' + file.read()[1:])
             assert answer == b'{"done":true}', answer
         self.journal = open(self.path("journal"), "a+b")
         self.journal.seek(0)
@@ -87,7 +50,7 @@ class KeptWorld:
         self.journal.truncate(self.journal.tell() - len(lines.pop()))  # a torn line was never sent
         self.since = len(lines)
         for line in lines:
-            self.last = self.world.ask(line)
+            self.last = self.world.answer_to(line)
 
     def path(self, what):
         return os.path.join(self.folder, f"{what}.{self.number}")
@@ -95,11 +58,11 @@ class KeptWorld:
     def ask(self, request):
         line = json.dumps(request, separators=(",", ":")).encode()
         if request["do"] in LOOKS:
-            return json.loads(self.world.ask(line))
+            return json.loads(self.world.answer_to(line))
         place = self.journal.seek(0, os.SEEK_END)
         self.journal.write(line + b"\n")
         self.settle(self.journal)
-        answer = json.loads(self.world.ask(line))
+        answer = json.loads(self.world.answer_to(line))
         if answer.get("refused") in (NO_MEMORY, NO_THREAD):
             self.journal.truncate(place)  # the replay may have what this request lacked
         self.since += 1
@@ -109,7 +72,7 @@ class KeptWorld:
 
     def save(self):
         """Puts a saved world in the place of the one before it and of its journal."""
-        saved = self.world.ask(b'{"do":"save"}')
+        saved = self.world.answer_to(b'{"do":"save"}')
         old = [self.path("world"), self.path("journal")]
         self.number += 1
         unfinished = os.path.join(self.folder, "unfinished")
@@ -160,8 +123,8 @@ def game(count):
 def played(program, requests):
     """The answers of a game that is never killed, and its world at the end."""
     world = World(program)
-    answers = [json.loads(world.ask(json.dumps(request).encode())) for request in requests]
-    saved = world.ask(b'{"do":"save"}')
+    answers = [json.loads(world.answer_to(json.dumps(request).encode())) for request in requests]
+    saved = world.answer_to(b'{"do":"save"}')
     world.kill()
     return answers, saved
 
@@ -180,13 +143,13 @@ def survives(program, requests):
                 time.sleep(choice.choice([0, 0, 0.002]))
             try:
                 answers.append(kept.ask(request))
-            except Died:
+            except Ended:
                 answers.append(again(kept, request))
         kept.world.kill()
         kept.journal.close()
         again_opened = KeptWorld(program, folder)
         yield f"{len(requests)} requests are answered as in a game that is never killed, over {deaths} kills", answers == wanted
-        yield "the world that is kept is the same at the end", again_opened.world.ask(b'{"do":"save"}') == saved
+        yield "the world that is kept is the same at the end", again_opened.world.answer_to(b'{"do":"save"}') == saved
         again_opened.world.kill()
         again_opened.journal.close()
 
