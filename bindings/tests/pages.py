@@ -1,5 +1,5 @@
 #!/usr/bin/env python3
-"""Builds and runs what the pages show: the code of README.md and docs/EMBEDDING_*.md in C, C++, Rust and Python.
+"""Builds and runs what the pages show: the code of README.md and docs/EMBEDDING_C.md in C, C++, Rust and Python.
 
     bindings/tests/pages.py     with the library that bindings/build makes; the last line is 'N passed, M failed'
 
@@ -28,7 +28,7 @@ RUST = ("rust", "{}\nfn main() -> Result<(), Box<dyn std::error::Error>> {{\n{}\
 PYTHON = ("python", "{}\n{}\n", None)
 # each page with its language, and what it takes for granted
 PAGES = [
-    ("docs/EMBEDDING_C.md", C, ""), ("docs/EMBEDDING_CPP.md", CPP, ""), ("docs/EMBEDDING_RUST.md", RUST, ""), ("docs/EMBEDDING_PYTHON.md", PYTHON, ""),
+    *(("docs/EMBEDDING_C.md", language, "") for language in (C, CPP, RUST, PYTHON)),
     ("README.md", C, '#include "dillmonth.h"\n\n'), ("README.md", PYTHON, "from dillmonth import METRE, Body, World, circle\n\n"),
 ]
 ENDINGS = {"c": "c", "cpp": "cpp", "rust": "rs", "python": "py"}
