@@ -1,5 +1,5 @@
 #!/usr/bin/env python3
-"""Builds and runs what the pages show: the code of README.md and docs/EMBEDDING_C.md in C, C++, Rust and Python.
+"""Builds and runs what the pages show: the code of docs/EMBEDDING_C.md in C, C++, Rust and Python.
 
     bindings/tests/pages.py     with the library that bindings/build makes; the last line is 'N passed, M failed'
 
@@ -26,11 +26,8 @@ CPP = ("cpp", "{}\nint main() {{\n{}\n}}\n", ["c++", "-std=c++17", f"-I{BINDINGS
 RUST = ("rust", "{}\nfn main() -> Result<(), Box<dyn std::error::Error>> {{\n{}\nOk(())\n}}\n",
         ["rustc", "--edition", "2024", "-O", "-L", str(OUT), "-l", "static=dillmonth", "FILE", "-o", "PROGRAM"])
 PYTHON = ("python", "{}\n{}\n", None)
-# each page with its language, and what it takes for granted
-PAGES = [
-    *(("docs/EMBEDDING_C.md", language, "") for language in (C, CPP, RUST, PYTHON)),
-    ("README.md", C, '#include "dillmonth.h"\n\n'), ("README.md", PYTHON, "from dillmonth import METRE, Body, World, circle\n\n"),
-]
+# each page with its language
+PAGES = [("docs/EMBEDDING_C.md", language) for language in (C, CPP, RUST, PYTHON)]
 ENDINGS = {"c": "c", "cpp": "cpp", "rust": "rs", "python": "py"}
 
 
@@ -38,17 +35,15 @@ def code_of(page, language):
     """The code that a page has in a language, as far as it is of a world."""
     blocks = BLOCK.findall((TOP / page).read_text(encoding="utf-8"))
     ours = [code for name, code in blocks if name == language and OURS.search(code)]
-    if language == "rust" or page != "README.md":
-        return "\n".join(ours)
-    return "\n".join(code for code in ours if "subprocess" not in code)
+    return "\n".join(ours)
 
 
-def run(folder, page, language, more):
+def run(folder, page, language):
     """What the page's program prints; None where there is no compiler."""
     name, frame, compiler = language
     if compiler and not shutil.which(compiler[0]):
         return None
-    head, _, body = (more + code_of(page, name)).partition("\n\n")
+    head, _, body = code_of(page, name).partition("\n\n")
     file, program = Path(folder, f"game.{ENDINGS[name]}"), str(Path(folder, "game"))
     file.write_text(frame.format(head, body), encoding="utf-8")
     shutil.copy(BINDINGS / "rust/dillmonth.rs", folder)
@@ -62,10 +57,10 @@ def run(folder, page, language, more):
 
 def main():
     passed = failed = 0
-    for page, language, more in PAGES:
+    for page, language in PAGES:
         with tempfile.TemporaryDirectory() as folder:
             try:
-                printed = run(folder, page, language, more)
+                printed = run(folder, page, language)
             except subprocess.CalledProcessError as error:
                 failed += 1
                 print(f"{page} in {language[0]}: {error}\n{error.stderr or ''}")

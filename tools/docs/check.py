@@ -10,7 +10,8 @@ It tests that each of these is there:
 - a definition `CRATE/File.name`, in WORLD.md also `File.name`, and a method `Type::method` of a type of the repository;
 - the page, the file and the heading to which a link leads;
 
-and that a number of crates or of definitions is one that the sources have, and a version the one that the program prints.
+and that a number of crates or of definitions is one that the sources have, and a version the one that the program prints. A section that is
+meant to name every crate does, and the headline is the same sentence on each page that has it.
 What fails is printed with its page and line.
 The last line is `N passed, M failed`.
 """
@@ -34,6 +35,10 @@ DEFINITIONS = re.compile(r"\b(\d[\d,]*) definitions(?: of (\d[\d,]*) lines)?")
 VERSION = re.compile(r"(?:^Version |\bworld_script )(\d+\.\d+\.\d+(?:, rules \d+)?)")
 VERSION_IN_CODE = re.compile(r'^const VERSION: &str = "([^"]+)";$', re.M)
 ENDINGS = {"rt", "antt"}
+# Sections that have to name each crate, by page.
+NAME_ALL = {"PROVED.md": "## What wrong code would pass", "ARCHITECTURE.md": "## The crates"}
+# How the headline begins and ends.
+HEADLINE = re.compile(r"Whenever the (?:world's )?lock is free, (.*? called or solved)\.", re.S)
 # CRATE/NAME is short for a file of one of these folders of a crate, without its ending.
 SHORT_FORMS = [(folder, end) for folder in ("src", "specs", "proofs", ".") for end in ("", ".rt", ".antt")]
 SHORT_FORMS += [(folder, ".edit") for folder in ("must-fail", "must-fail-beside-the-gate", ".")]
@@ -157,6 +162,7 @@ class Check:
         self.repository = repository
         self.passed = self.failed = 0
         self.anchors = {}
+        self.headline = None
 
     def test(self, holds, page, place, complaint):
         if holds:
@@ -175,6 +181,19 @@ class Check:
             for link in LINK.findall(CODE.sub("", line)):
                 self.link(page, place, link)
             self.numbers(page, place, line)
+        self.whole(page, page.read_text(encoding="utf-8"))
+
+    def whole(self, page, text):
+        """What a page has to say as a whole."""
+        if page.name in NAME_ALL:
+            start = text.index(NAME_ALL[page.name])
+            named = set(re.findall(r"`(\w+)`", text[start:].split("\n## ")[0]))
+            for crate in self.repository.below:
+                self.test(crate in named, page, text[:start].count("\n") + 1, f"a section that doesn't name {crate}")
+        for found in HEADLINE.finditer(text):
+            said = " ".join(found.group(1).replace("\n>", " ").split())
+            self.headline = self.headline or said
+            self.test(said == self.headline, page, text[: found.start()].count("\n") + 1, "another headline than that of the page before")
 
     def code(self, page, place, code):
         for word in code.replace("<", " ").replace(">", " ").split():
