@@ -1,7 +1,7 @@
 #!/usr/bin/env python3
 """Checks what the repository's pages say of the repository.
 
-    tools/docs/check.py [PAGE..]     checks these pages, or with no word those at the top, of docs/, examples/ and tools/
+    tools/docs/check.py [PAGE..]     checks these pages, or with no word those at the top, of docs/, docs/definitions/, examples/ and tools/
 
 It tests that each of these is there:
 
@@ -24,6 +24,8 @@ from sources import TOP, code_files, crates_below, definition_files, read_lines
 
 CODE = re.compile(r"`([^`]+)`")
 LINK = re.compile(r"\]\(([^)\s]+)\)")
+TAG = re.compile(r"</?a\b[^>]*>")
+HREF = re.compile(r'<a href="([^"]+)"')
 INDENTED = re.compile(r"^(?: {4}|\t)\s*(\S.*)$")
 PATH = re.compile(r"^(?:\.\./)*[\w.*-]+(?:/[\w.*-]+)*/?$")
 NAMED_FILE = re.compile(r"^[\w-]+\.(?:md|py|rt|antt|edit|svg|txt)$")
@@ -35,6 +37,7 @@ DEFINITIONS = re.compile(r"\b(\d[\d,]*) definitions(?: of (\d[\d,]*) lines)?")
 VERSION = re.compile(r"(?:^Version |\bworld_script )(\d+\.\d+\.\d+(?:, rules \d+)?)")
 VERSION_IN_CODE = re.compile(r'^const VERSION: &str = "([^"]+)";$', re.M)
 ENDINGS = {"rt", "antt"}
+BOOK = TOP / "docs" / "definitions"
 # Sections that have to name each crate, by page.
 NAME_ALL = {"PROVED.md": "## What wrong code would pass", "ARCHITECTURE.md": "## The crates"}
 # How the headline begins and ends.
@@ -84,12 +87,11 @@ class Repository:
         return found
 
     def definition_counts(self):
-        """How many definitions and lines the pages of definitions and their parts have, and how many there are in all."""
+        """How many definitions and lines the chapters of the book have, and all together, and how many definitions there are in all."""
         counts = {(sum(len(file.definitions) for file in self.definitions.values()), None)}
-        for page in TOP.glob("docs/DEFINITIONS*.md"):
-            rows = re.findall(r"^\| .* \| (\d+) \| ([\d,]+) \|$", page.read_text(encoding="utf-8"), re.M)
-            counts |= {(number(count), number(lines)) for count, lines in rows}
-        return counts
+        contents = (BOOK / "README.md").read_text(encoding="utf-8")
+        rows = re.findall(r"^\| .* \| ([\d,]+) \| ([\d,]+) \|$", contents, re.M)
+        return counts | {(number(count), number(lines)) for count, lines in rows}
 
     def has_path(self, page, path):
         """Whether a path is there: from the top, from the page, among the crates or among the files of definitions."""
@@ -134,6 +136,8 @@ class Repository:
 def anchors_of(path):
     """The anchors of a page's headings, as the usual viewers make them."""
     anchors, seen = set(), {}
+    for line in read_lines(path):
+        anchors.update(re.findall(r'<a (?:id|name)="([^"]+)"', line))
     for _, line in lines_of(path, in_code=False):
         found = re.match(r"#+\s+(.*?)\s*#*$", line)
         if found:
@@ -141,7 +145,6 @@ def anchors_of(path):
             slug = re.sub(r"[^\w\- ]", "", plain.lower()).replace(" ", "-")
             count = seen[slug] = seen.get(slug, -1) + 1
             anchors.add(f"{slug}-{count}" if count else slug)
-        anchors.update(re.findall(r'<a (?:id|name)="([^"]+)"', line))
     return anchors
 
 
@@ -149,7 +152,7 @@ def lines_of(path, in_code):
     """The numbered lines of a page that fences enclose, or all others."""
     fenced = False
     for place, line in enumerate(read_lines(path), start=1):
-        if line.lstrip().startswith(("```", "~~~")):
+        if line.lstrip().startswith(("```", "~~~")) or line in ("<pre>", "</pre>"):
             fenced = not fenced
         elif fenced == in_code:
             yield place, line
@@ -173,7 +176,9 @@ class Check:
 
     def page(self, page):
         for place, line in lines_of(page, in_code=True):
-            self.code(page, place, line)
+            self.code(page, place, TAG.sub("", line))
+            for link in HREF.findall(line):
+                self.link(page, place, link)
         for place, line in lines_of(page, in_code=False):
             indented = INDENTED.match(line)
             for code in [indented.group(1)] if indented and "`" not in line else CODE.findall(line):
@@ -229,7 +234,7 @@ class Check:
         for found in VERSION.findall(line):
             here = self.repository.version
             self.test(found in (here, here.split(",")[0]), page, place, f"version {found}, where the program prints {here}")
-        if page.name.startswith("DEFINITIONS"):
+        if page.parent == BOOK:
             return
         for count, lines in DEFINITIONS.findall(line):
             known = [each for each in self.repository.definition_counts() if each[0] == number(count)]
@@ -240,7 +245,7 @@ class Check:
 def pages(words):
     if words:
         return [Path(word).resolve() for word in words]
-    return sorted(page for folder in (".", "docs", "examples", "tools") for page in (TOP / folder).glob("*.md"))
+    return sorted(page for folder in (".", "docs", "docs/definitions", "examples", "tools") for page in (TOP / folder).glob("*.md"))
 
 
 def main(words):

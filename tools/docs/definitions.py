@@ -1,73 +1,44 @@
 #!/usr/bin/env python3
-"""Writes what a reviewer of the contracts reads: DEFINITIONS.md, DEFINITIONS_SHARED.md and DEFINITIONS_SAVED.md.
+"""Writes docs/definitions, the book of the definitions on which the claims of README.md rest, and the table of claims in docs/PROVED.md.
 
-    tools/docs/definitions.py             writes the three pages of docs/
+    tools/docs/definitions.py             writes the chapters, their contents, and the table
     tools/docs/definitions.py --check     fails where a page isn't what the script makes of the sources as they are
 
-A contract is worth what the definitions that it cites say. A page has those that some contracts rest on: what their
-clauses name, what these definitions name, and so on. A part begins with what its contracts name. In it a definition
-stands before those that it uses. The types and constants that definitions take from the code, and the names that they
-take from the kit's library, come last.
+A contract is worth what the definitions that it cites say. `claims.py` has what is claimed, and the contracts that say it. The book has what the
+clauses of these name, what these definitions name, and so on, each on the page that `chapters.py` gives to its file. It fails where
 
-The definitions of a page are counted in two ways, and the script fails where these disagree:
+- README.md claims what `claims.py` doesn't have, or the other way round;
+- a claim names a function or a clause that isn't there;
+- a claim rests on a definition that no chapter has, or a chapter has a file of which no claim needs anything;
+- a chapter has more lines than a reader takes in one piece;
+- the count of `recount.py`, which finds the definitions a second time on the pages, disagrees.
 
-- `reach.py` goes from texts to names. It reads a text word by word and looks each word up.
-- `recount.py` goes from names to texts, on the page that was made. It takes each name that a file knows, and searches
-  the texts that the page prints from this file. A name that it finds must be printed; what is printed must be named
-  further up, or be where a part starts. It counts heads and lines on the page itself.
-
-Both leave out a word that its equation binds.
+In a chapter the contracts come first. In a file each definition comes before those that it uses. Types and constants of the code follow the file
+in which they are first used. Each use leads to its definition.
 """
 
+import html
+import re
 import sys
 import textwrap
 from collections import namedtuple
 
-from reach import Reach, unique
+from book import Book
+from chapters import CHAPTERS, PARTS
+from claims import FURTHER, OF_README, all_claims
+from reach import Reach, key_of
 from recount import Recount
-from sources import TOP, Definition
+from sources import TOP
 
-# A part of a page: its title, the contracts from which it starts (FILE, TYPE, METHODS; all public ones where none is
-# named), and further definitions from which it starts, as CRATE/FILE.NAME.
-Part = namedtuple("Part", "title contracts names")
-# A page: its file, its title, its first sentence, the parts whose definitions it leaves out, and its own parts.
-Page = namedtuple("Page", "file title about without parts")
-
-WORLD = "world_core/src/world"
-HELD, SHARED = "world_lock/src/held.rt", "world_lock/src/shared.rt"
-MAIN_PARTS = [
-    Part("What each command does", [(f"{WORLD}.rt", "WorldCore", ["apply", "new"])], []),
-    Part("What a list of commands does", [("world_core/src/replay.rt", "WorldCore", ["replay"])], []),
-    Part("What every world keeps", [], ["world_rules/Sound.IsSound"]),
-    Part("What holds of a shared world whenever its lock is free", [(HELD, "Held", ["headline"])], []),
-]
-SHARED_PARTS = [Part("What the calls of a shared world promise", [(SHARED, "SharedWorld", []), (HELD, "Held", [])], [])]
-SAVED_CONTRACTS = [(f"{WORLD}/saving.rt", "WorldCore", ["save"]), (f"{WORLD}/loading.rt", "WorldCore", ["load"])]
-SAVED_PARTS = [Part("How a world is saved and loaded", SAVED_CONTRACTS, [])]
-PAGES = [
-    Page(
-        "DEFINITIONS.md",
-        "The definitions to be read",
-        "The contracts of `apply`, `new`, `replay` and the headline of a shared world, and what a sound world is, rest "
-        "on these definitions and on no others.",
-        [],
-        MAIN_PARTS,
-    ),
-    Page(
-        "DEFINITIONS_SHARED.md",
-        "The definitions of a shared world",
-        "The contracts of `SharedWorld` and `Held` add these definitions to those of [DEFINITIONS.md](DEFINITIONS.md).",
-        MAIN_PARTS,
-        SHARED_PARTS,
-    ),
-    Page(
-        "DEFINITIONS_SAVED.md",
-        "The definitions of a saved world",
-        "The contracts of `save` and `load` add these definitions to those of [DEFINITIONS.md](DEFINITIONS.md).",
-        MAIN_PARTS,
-        SAVED_PARTS,
-    ),
-]
+BOOK, README, PROVED = TOP / "docs" / "definitions", TOP / "README.md", TOP / "docs" / "PROVED.md"
+MOST_LINES = 400
+# The lines of docs/PROVED.md between which the table of claims stands.
+TABLE_STARTS = "<!-- The claims: tools/docs/definitions.py writes this table -->"
+TABLE_ENDS = "<!-- The end of the claims -->"
+# A row of the table counts the functions of one crate from so many on.
+MANY = 7
+# A place in a text, and the tag that it gets: it leads elsewhere, or has a name of its own.
+Mark = namedtuple("Mark", "start end tag")
 
 # How a reader who knows no proof language reads a page.
 NOTATION = [
@@ -79,211 +50,261 @@ NOTATION = [
     ("`[]`, `x ∷ xs`, `xs ++ ys`", "the empty list; x before the list xs; one list and then another"),
     ("`None`, `Some x`; `Ok x`, `Err e`", "as in Rust"),
     ("`λ x. ..`", "the function that takes x, as a closure"),
-    ("`ℕ`, `ℤ`, `pos n`", "the whole numbers from 0; all whole numbers; n as one of these"),
+    ("`ℕ`, `ℤ`, `pos n`", "the natural numbers from 0; all integers; n as one of these"),
     ("`slice_get xs n`, `slice_set xs n x`", "the item at n, or none; the list with x at n"),
     ("`option_map f o`, `replicate n x`", "f of what is there, or none; n times x"),
     ("`.. → Type 0`", "a statement, which holds or doesn't, or a type; its name has a capital letter"),
     ("`pub record N .. where`", "a type with these fields; of a statement the fields are what has to hold together"),
     ("`a ≡ b`, `a × b`, `a ↔ b`, `⊥`", "a equals b; both; one just if the other; what never holds"),
     ("`(x : A) → ..`, `(x : A) × ..`", "for each x; there is an x"),
-    ("`self.old`, `self.new`, `x.now`, `result`", "in a clause: the value before the call and after it, the argument x, the answer"),
+    ("`requires`, `ensures`", "in a contract: what a caller has to keep; what then holds"),
+    ("`self.old`, `self.new`, `x.now`, `result`", "in a contract: the value before the call and after it, the argument x, the answer"),
 ]
-
-
-class Reading:
-    """What the parts of a page rest on, part by part."""
-
-    def __init__(self, reach, parts, known):
-        self.reach = reach
-        self.parts = []  # (part, its contracts, its definitions in reading order)
-        self.starts = []
-        self.met = list(known)
-        self.kit = set()
-        before = set(reach.kit)
-        for part in parts:
-            starts, contracts = self.starts_of(part)
-            found = reach.closure(starts, self.met)
-            self.met += found
-            self.starts += starts
-            definitions = [each for each in found if isinstance(each, Definition)]
-            self.parts.append((part, contracts, reach.reading_order(definitions, starts)))
-        self.kit = reach.kit - before
-        items = [each for each in self.met[len(known) :] if not isinstance(each, Definition)]
-        self.items = sorted(items, key=lambda item: (reach.crates.index(item.file.split("/")[0]), item.file, item.line))
-
-    def starts_of(self, part):
-        """The definitions from which a part starts, and the contracts that name them."""
-        found, contracts = [], []
-        for key, of_type, methods in part.contracts:
-            file = self.reach.code[key]
-            for method in methods or file.public_methods(of_type):
-                clauses = file.contract_of(method, of_type)
-                contracts.append((of_type, method, clauses))
-                found += self.reach.names_in(clauses, file.imports)
-            found += self.reach.seen_of(file.crate, of_type)
-        for name in part.names:
-            found.append(self.reach.target(*name.rsplit(".", 1)))
-        return unique(found), contracts
-
-    def definitions(self):
-        return [each for _, _, definitions in self.parts for each in definitions]
+CONTENTS = """The claims of this repository rest on the definitions of these chapters and on no others: they are what a reviewer reads and trusts. A
+chapter begins with its contracts, and then has the definitions by file. Each name leads to its definition. [PROVED](../PROVED.md#in-short) has
+the claims with the contracts that say them. `tools/docs/definitions.py` writes these pages from the sources; don't edit them."""
+RESTING = """Each row counts what the claim needs beyond the rows above it. So `apply` is most of the work."""
+READING = """A line that begins with `--` is a comment. A definition is written in the language of the kit's proofs, of which a reader needs no more
+than this:"""
 
 
 def length(definitions):
     return sum(len(each.comment) + len(each.text) for each in definitions)
 
 
-def counted(definitions):
-    files = len({each.file for each in definitions})
-    return f"{len(definitions)} definitions, {length(definitions):,} lines, of {files} files"
+def many(count, word):
+    return f"{count} {word}" + ("" if count == 1 else "s")
 
 
-def many(things, word):
-    return f"{len(things) or 'no'} {word}{'' if len(things) == 1 else 's'}"
+def wrapped(text):
+    return textwrap.wrap(" ".join(text.split()), 120, break_on_hyphens=False, break_long_words=False)
 
 
-def fenced(language, lines):
-    return ["```" + language, *lines, "```", ""]
+def marked(text, marks):
+    """A text as HTML, with a tag round each marked part."""
+    parts, last = [], 0
+    for start, end, tag in sorted(set(marks)):
+        if start >= last:
+            parts += [html.escape(text[last:start], quote=False), tag, html.escape(text[start:end], quote=False), "</a>"]
+            last = end
+    return "".join(parts) + html.escape(text[last:], quote=False)
 
 
-def contract_lines(reach, part, contracts):
-    """The contracts from which a part starts, each clause as it stands beside its function."""
-    seen = {of_type: reach.value_of(reach.code[key].crate, of_type) for key, of_type, _ in part.contracts}
-    about = " ".join(f"Contracts see a `{of_type}` as its `{value}`." for of_type, value in seen.items() if value)
-    shown = [(f"`{of_type}::{method}`", clauses) for of_type, method, clauses in contracts if clauses]
-    lines = [about, ""] if about else []
-    for name, clauses in shown:
-        lines += [f"The contract of {name}:", ""] + fenced("rust", clauses.splitlines())
-    return lines
+class Pages:
+    """The pages of a book."""
+
+    def __init__(self, book):
+        self.book = book
+        self.reach = book.reach
+
+    def links(self, page, places):
+        return [Mark(start, end, f'<a href="{self.book.link(page, node)}">') for start, end, node in places]
+
+    def named(self, text, name, anchor):
+        """The mark of the place in a text where its name first stands alone."""
+        found = re.search(rf"(?<![\w.'◌]){re.escape(name)}(?![\w'◌])", text)
+        return Mark(*found.span(), f'<a id="{anchor}">')
+
+    def node_lines(self, page, node, shown):
+        """A definition or an item with its comment."""
+        marks = self.links(page, self.reach.places_of(node)) + [self.named(shown, node.name, self.book.anchor_of[key_of(node)])]
+        return [html.escape(line, quote=False) for line in node.comment] + marked(shown, marks).split("\n") + [""]
+
+    def contract_lines(self, page):
+        """The contracts of a page, each with the claim that it carries."""
+        lines, claimed, place = [], None, None
+        for claim, function, clauses in self.book.contracts[page]:
+            if claim != claimed:
+                lines += closed(lines) + [f"*{claim.words}*", "", "<pre>"]
+                claimed, place = claim, None
+            if (function.file, function.block) != place:
+                place = (function.file, function.block)
+                lines += [self.place_line(page, function)]
+            lines += self.function_lines(page, function, clauses)
+        return ["## Contracts", "", *lines[:-1], "</pre>", ""] if lines else []
+
+    def place_line(self, page, function):
+        """Where a function is: its file, and the head of its block where that says of its parameters what they are."""
+        block = function.block if "<" in function.block else ""
+        return source_line(function.file) + (", " + marked(block, self.links(page, self.reach.places_of_block(function))) if block else "")
+
+    def function_lines(self, page, function, clauses):
+        """The head of a function and its clauses."""
+        head, short = function.head, function.name.split("::")[-1]
+        start = re.search(rf"\bfn {short}\b", head).end() - len(short)
+        marks = [Mark(start, start + len(short), f'<a id="{function.name}">'), *self.links(page, self.reach.places_of_head(function))]
+        lines = [marked(head, marks).replace(f">{short}</a>", f">{function.name}</a>", 1)]
+        lines += ["    " + marked(clause, self.links(page, self.reach.places_of_clause(function, clause))) for clause in clauses]
+        return lines + [""]
+
+    def section_lines(self, page, section):
+        """The definitions of a file, and the types and constants of the code that are first used there."""
+        lines = []
+        if section.file:
+            file = self.reach.files[section.file]
+            about = re.sub(r"^-- (Trusted: )?", "", file.lines[0]) if file.lines[0].startswith("--") else ""
+            crate, name = section.file.split("/")
+            source = f"[{section.file}](../../crates/{crate}/specs/{name}.antt)"
+            of_any = f" For any `{file.parameters}`." if file.parameters else ""
+            lines += [f"## {section.file}", "", *wrapped(f"{about} {source}.{of_any}"), "", "<pre>"]
+            for node in section.definitions:
+                lines += self.node_lines(page, node, "\n".join(node.text))
+            lines += closed(lines)
+        return lines + self.item_lines(page, section.items)
+
+    def item_lines(self, page, items):
+        """Types and constants of the code, by file."""
+        lines, last = ["<pre>"], None
+        for item in items:
+            if item.file != last:
+                lines.append(source_line(item.file))
+                last = item.file
+            lines += self.node_lines(page, item, self.reach.shown(item))
+        return [*lines[:-1], "</pre>", ""] if items else []
+
+    def chapter_text(self, chapter):
+        definitions = self.book.definitions(chapter.page)
+        counted = f"{many(len(definitions), 'definition')} of {length(definitions):,} lines, from {many(len({each.file for each in definitions}), 'file')}"
+        about = f"{chapter.about} {counted}. [How to read them](README.md#how-to-read-them)."
+        lines = [f"# {chapter.title}", "", *wrapped(about), "", *self.contract_lines(chapter.page)]
+        for section in self.book.sections[chapter.page]:
+            lines += self.section_lines(chapter.page, section)
+        return "\n".join(lines).rstrip("\n") + "\n"
+
+    def contents_text(self):
+        """The page of contents: the chapters, how to read them, and the names of the kit's library."""
+        lines = ["# The definitions", "", *wrapped(CONTENTS), "", "| Chapter | It has | Definitions | Lines |", "|---|---|---|---|"]
+        for part, chapters in PARTS.items():
+            lines.append(f"| **{part}** | | | |")
+            for chapter in chapters:
+                own = self.book.definitions(chapter.page)
+                lines.append(f"| [{chapter.title}]({chapter.page}.md) | {chapter.about} | {len(own)} | {length(own):,} |")
+        definitions, items = self.book.definitions(), self.book.items()
+        lines += [f"| together | of {len({each.file for each in definitions})} files | {len(definitions):,} | {length(definitions):,} |", ""]
+        constants = sum(item.kind == "const" for item in items)
+        taken = f"They take {len(items) - constants} types and {constants} constants from the code, and {len(self.reach.kit)} names from the kit's library."
+        lines += [*wrapped(taken), "", "## What each claim rests on", "", *wrapped(RESTING), "", *self.resting_lines()]
+        lines += ["## How to read them", "", *wrapped(READING), "", "| Written | Read |", "|---|---|"]
+        lines += [f"| {written} | {read} |" for written, read in NOTATION]
+        return "\n".join(lines + ["", "## Names of the kit's library", "", "Their meaning is the kit's, by module:", "", *self.kit_lines()]) + "\n"
+
+    def resting_lines(self):
+        """The claims in their order, with how much each adds to what is to be read."""
+        lines, known = ["| Claim | Definitions more | Lines more |", "|---|---|---|"], set()
+        for claims in [[claim] for item in OF_README for claim in item] + [FURTHER]:
+            added = self.book.added_by(claims, known)
+            words = claims[0].words if claims is not FURTHER else "What PROVED claims beside these"
+            lines.append(f"| {words} | {len(added)} | {length(added):,} |")
+        return lines + [""]
+
+    def kit_lines(self):
+        modules = {}
+        for where, name in sorted(self.reach.kit):
+            modules.setdefault(where.replace("Rattle.", "").replace(".specs.", "/"), []).append(f"`{name}`")
+        return [f"- `{module}`: {', '.join(names)}" for module, names in sorted(modules.items())]
+
+    def table_lines(self):
+        """The claims, each with the contracts that say it."""
+        lines = ["| Claim | Said by |", "|---|---|"]
+        for claim in all_claims():
+            said = [self.functions_said(contract) for contract in claim.contracts] or ["the prover, of each function"]
+            if claim.definition:
+                node = self.reach.target(*claim.definition.rsplit(".", 1))
+                said.append(f"the definition [`{node.name}`](definitions/{self.book.link('', node)})")
+            lines.append(f"| {claim.words} | {'; '.join(said)} |")
+        return lines
+
+    def functions_said(self, contract):
+        """The functions of a contract with their clauses, each leading to the chapter that prints it."""
+        page = f"definitions/{contract.page}.md"
+        functions = self.book.functions_of(contract)
+        if len(functions) >= MANY:
+            return f"[{len(functions)} functions of `{contract.crate}`]({page}#contracts)"
+        clauses = f": {', '.join(f'`{name}`' for name in contract.clauses.split())}" if contract.clauses else ""
+        return ", ".join(f"[`{function.name}`]({page}#{function.name})" for function in functions) + clauses
 
 
-def definition_lines(reach, definitions):
-    """The definitions, with the name of their file wherever it changes."""
-    lines, block, file = [], [], None
-    for each in definitions + [None]:
-        if each is None or each.file != file:
-            lines += fenced("", block[:-1]) if block else []
-            block, file = [], each and each.file
-            if each:
-                lines += [f"**{file}**" + of_any(reach.files[file].parameters), ""]
-        if each:
-            block += [*each.comment, *each.text, ""]
-    return lines
+def source_line(file):
+    """The line of a block that says of which file of code it is."""
+    return f'// <a href="../../crates/{file}">{file}</a>'
 
 
-def of_any(parameters):
-    return f", for any `{parameters}`" if parameters else ""
-
-
-def item_lines(reach, items):
-    """The types and constants of the code, by file; of a type that contracts see otherwise, what they see."""
-    lines, file = [], None
-    for item in items:
-        if item.file != file:
-            lines += fenced_end(lines) + [f"**{item.file}**", "", "```rust"]
-            file = item.file
-        value = reach.code[file].value_of(item.name)
-        shown = [line for line in item.text if not line.strip().startswith("#")]
-        if value:
-            shown = [item.text[0].split("{")[0].rstrip("; ") + ";", f"// Contracts see it as: {value}"]
-        lines += [*item.comment, *shown, ""]
-    return lines + fenced_end(lines)
-
-
-def fenced_end(lines):
+def closed(lines):
     """What ends the block of code that is open at the end of these lines."""
     if not lines:
         return []
-    lines.pop()
-    return ["```", ""]
+    if lines[-1] == "":
+        lines.pop()
+    return ["</pre>", ""]
 
 
-def kit_lines(kit):
-    """The names of the kit's library, by module."""
-    modules = {}
-    for where, name in sorted(kit):
-        modules.setdefault(where.replace("Rattle.", "").replace(".specs.", "/"), []).append(name)
-    lines = [f"- `{module}`: " + ", ".join(map("`{}`".format, names)) for module, names in sorted(modules.items())]
-    return lines + [""]
+def claims_of_readme(text):
+    """The words of each item of README.md's list of what is proved, without links."""
+    listed = text[text.index("**Proved:**") : text.index("**Only tested:**")]
+    items = re.split(r"^\d+\. ", re.sub(r"\[([^\]]*)\]\([^)]*\)", r"\1", listed), flags=re.M)[1:]
+    return [" ".join(item.split()) for item in items]
 
 
-def notation_lines():
-    """How to read the definitions."""
-    about = (
-        "A part begins with its contracts, and then has what their clauses name. To find a definition search for its name "
-        "at the head of a line, as `apply_step w n =`. A line that begins with `--` is a comment. A definition is written "
-        "in the language of the kit's proofs, of which a reader needs no more than this:"
-    )
-    lines = ["## How to read this page", "", *textwrap.wrap(about, 120, break_on_hyphens=False), ""]
-    lines += ["| Written | Read |", "|---|---|"] + [f"| {written} | {read} |" for written, read in NOTATION]
-    return lines + [""]
+def readme_faults():
+    """Where README.md claims something else than `claims.py`."""
+    written = claims_of_readme(README.read_text(encoding="utf-8"))
+    known = [" ".join(claim.words for claim in item) for item in OF_README]
+    return [f"README.md claims what tools/docs/claims.py doesn't: {words}" for words in written if words not in known] + [
+        f"tools/docs/claims.py claims what README.md doesn't: {words}" for words in known if words not in written
+    ]
 
 
-def page_lines(page, reading):
-    """The text of a page."""
-    definitions, reach = reading.definitions(), reading.reach
-    about = f"{page.about} `tools/docs/definitions.py` writes this page from the sources; don't edit it."
-    lines = [f"# {page.title}", "", *textwrap.wrap(about, 120, break_on_hyphens=False), ""]
-    lines += ["In each part a definition stands before those that it uses; those of a part above aren't repeated.", ""]
-    lines += ["| Part | Definitions | Lines with their comments |", "|---|---|---|"]
-    for number, (part, _, own) in enumerate(reading.parts, start=1):
-        lines.append(f"| {number}. {part.title} | {len(own)} | {length(own):,} |")
-    constants = [item for item in reading.items if item.kind == "const"]
-    types = [item for item in reading.items if item.kind != "const"]
-    files = len({each.file for each in definitions})
-    lines += [f"| together, in {files} files | {len(definitions)} | {length(definitions):,} |", ""]
-    taken = [many(types, "type"), many(constants, "constant"), many(reading.kit, "name")]
-    beside = ", beside those of [DEFINITIONS.md](DEFINITIONS.md)" if page.without else ""
-    summed = f"They take {taken[0]} and {taken[1]} from the code, and {taken[2]} from the kit's library{beside}."
-    if page.without:
-        summed += " [How to read](DEFINITIONS.md#how-to-read-this-page) them stands there."
-    lines += textwrap.wrap(summed, 120, break_on_hyphens=False) + [""] + ([] if page.without else notation_lines())
-    for number, (part, contracts, own) in enumerate(reading.parts, start=1):
-        lines += [f"## {number}. {part.title}", "", *contract_lines(reach, part, contracts), *definition_lines(reach, own)]
-    if types:
-        about = "A type that contracts see otherwise than by its fields has a line that says how."
-        lines += ["## Types of the code", "", about, ""] + item_lines(reach, types)
-    if constants:
-        lines += ["## Constants of the code", ""] + item_lines(reach, constants)
-    if reading.kit:
-        about = "Their meaning is the kit's, by module:"
-        lines += ["## Names of the kit's library", "", about, ""] + kit_lines(reading.kit)
-    return "\n".join(lines).rstrip("\n") + "\n"
+def with_table(text, table):
+    """A text with the table of claims between the lines that enclose it."""
+    if TABLE_STARTS not in text or TABLE_ENDS not in text:
+        sys.exit(f"docs/PROVED.md has no place for the table of claims: {TABLE_STARTS} .. {TABLE_ENDS}")
+    before, _, rest = text.partition(TABLE_STARTS)
+    return "\n".join([before + TABLE_STARTS, "", *table, "", TABLE_ENDS + rest.partition(TABLE_ENDS)[2]])
 
 
-def made_page(reach, page):
-    """A page as it should be; ends the script where the two counts of its definitions disagree."""
-    reach.kit.clear()
-    without = Reading(reach, page.without, []).met
-    reading = Reading(reach, page.parts, without)
-    text = page_lines(page, reading)
-    definitions = reading.definitions()
-    again = Recount(text, keys_of(without), keys_of(reading.starts))
-    faults = again.faults()
+def made_pages(book):
+    """Each page by its path, as it should be."""
+    pages, reach = Pages(book), book.reach
+    made = {BOOK / f"{chapter.page}.md": pages.chapter_text(chapter) for chapter in CHAPTERS}
+    made[BOOK / "README.md"] = pages.contents_text()
+    made[PROVED] = with_table(PROVED.read_text(encoding="utf-8"), pages.table_lines())
+    return made
+
+
+def faults_of(book, made):
+    """What is wrong with a book."""
+    found = readme_faults()
+    chapters = {path: text for path, text in made.items() if path.parent == BOOK and path.name != "README.md"}
+    for path, text in chapters.items():
+        if text.count("\n") > MOST_LINES:
+            found.append(f"{path.name} has {text.count(chr(10))} lines, more than {MOST_LINES}: part it in tools/docs/chapters.py")
+    of_types = [node for item in book.items() for _, _, node in book.reach.places_of(item)]
+    again = Recount("\n".join(chapters.values()), {key_of(node) for node in book.starts + of_types})
+    definitions = book.definitions()
     if len(again.blocks) != len(definitions) or again.lines != length(definitions):
-        faults.append(f"printed are {len(again.blocks)} of {again.lines} lines, and found {counted(definitions)}")
-    if faults:
-        sys.exit("\n".join(f"{page.file}: {fault}" for fault in faults))
-    print(f"{page.file}: {counted(definitions)}")
-    return text
-
-
-def keys_of(nodes):
-    return {(each.file, each.name) for each in nodes}
+        found.append(f"printed are {len(again.blocks)} definitions of {again.lines} lines, and found {len(definitions)} of {length(definitions)}")
+    return found + again.faults()
 
 
 def main(words):
     if words not in ([], ["--check"]):
         sys.exit(__doc__)
-    reach, stale = Reach(), []
-    for page in PAGES:
-        text, path = made_page(reach, page), TOP / "docs" / page.file
-        if not words:
+    book = Book(Reach())
+    made = made_pages(book)
+    faults = faults_of(book, made)
+    left = {path for path in BOOK.glob("*.md") if path not in made}
+    if not words:
+        BOOK.mkdir(exist_ok=True)
+        for path, text in made.items():
             path.write_text(text, encoding="utf-8")
-        elif not path.is_file() or path.read_text(encoding="utf-8") != text:
-            stale.append(page.file)
-    if stale:
-        sys.exit(f"not what tools/docs/definitions.py makes: {', '.join(stale)}")
+        for path in left:
+            path.unlink()
+    else:
+        stale = [path for path, text in made.items() if not path.is_file() or path.read_text(encoding="utf-8") != text]
+        faults += [f"not what tools/docs/definitions.py makes: {path.relative_to(TOP)}" for path in sorted({*stale, *left})]
+    print(f"docs/definitions: {len(book.definitions())} definitions of {length(book.definitions()):,} lines in {len(CHAPTERS)} chapters")
+    if faults:
+        sys.exit("\n".join(faults))
 
 
 if __name__ == "__main__":

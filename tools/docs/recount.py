@@ -1,13 +1,18 @@
-"""Counts the definitions of a page a second time, by the page, and tests that they are those that are needed.
+"""Counts the definitions of the book a second time, on its pages, and tests that they are those that the claims need.
 
-Used by `definitions.py`, which says how this count differs from its own. Nothing is shared with `reach.py`.
+Used by `definitions.py`. `reach.py` goes from texts to names: it reads a text word by word and looks each word up. This count goes from names to
+texts, on the pages that were made. It takes each name that a file knows, and searches the texts that the pages print from this file. A name that it
+finds must be printed; what is printed must be reached from where the claims start. It counts heads and lines on the pages. Both counts leave out a
+word that its equation binds. Nothing else is shared.
 """
 
+import html
 import re
 
 from sources import TOP
 
-BLOCK = re.compile(r"^\*\*(\w+/\w+)\*\*[^\n]*\n\n```\n(.*?)\n```$", re.M | re.S)
+BLOCK = re.compile(r"^## (\w+/\w+)\n\n[^<]*?\n\n<pre>\n(.*?)\n</pre>$", re.M | re.S)
+TAG = re.compile(r"<a [^>]*>|</a>")
 HEAD = re.compile(r"^(?:abbrev |unfoldable )?pub (?:record |data )?([^\s:(){}]+)(?= .*:)", re.M)
 BROUGHT = re.compile(r"^use Rattle\.(\w+)\.specs\.(\w+)\.\{(.*)\}$", re.M)
 RENAMED = re.compile(r"^use Rattle\.(\w+)\.specs\.(\w+) as (\w+)$", re.M)
@@ -50,15 +55,15 @@ def is_used(text, word):
 
 
 class Recount:
-    """What a page prints: `blocks` has the file, the name and the text of each definition; `lines` counts their lines."""
+    """What the pages print: `blocks` has the file, the name and the text of each definition; `lines` counts their lines."""
 
-    def __init__(self, page, above, starts):
+    def __init__(self, pages, starts):
         self.files = all_names()
         self.words = {}  # the words that each file knows, kept once they were asked for
-        self.above, self.starts = above, starts
+        self.starts = starts
         self.blocks, self.lines = [], 0
-        for file, block in BLOCK.findall(page):
-            for line in filter(None, block.split("\n")):
+        for file, block in BLOCK.findall(pages):
+            for line in filter(None, html.unescape(TAG.sub("", block)).split("\n")):
                 self._read(file, line)
 
     def _read(self, file, line):
@@ -71,16 +76,16 @@ class Recount:
             self.blocks[-1] = (*self.blocks[-1][:2], self.blocks[-1][2] + "\n" + line)
 
     def faults(self):
-        """What is named and isn't printed, and what is printed and isn't named above."""
-        printed, named, found = {block[:2] for block in self.blocks}, set(self.starts), []
-        for file, name, text in self.blocks:
-            if (file, name) not in named:
-                found.append(f"{file}.{name} is printed, and nothing above names it")
-            for other in self._named_by(file, name, text):
-                named.add(other)
-                if other not in printed | self.above:
-                    found.append(f"{file}.{name} names {'.'.join(other)}, which isn't printed")
-        return found
+        """What is named and isn't printed, and what is printed and isn't reached."""
+        uses = {(file, name): self._named_by(file, name, text) for file, name, text in self.blocks}
+        found = [f"{'.'.join(key)} names {'.'.join(other)}, which isn't printed" for key, others in uses.items() for other in sorted(others - set(uses))]
+        reached, waiting = set(), list(self.starts)
+        while waiting:
+            key = waiting.pop()
+            if key in uses and key not in reached:
+                reached.add(key)
+                waiting += uses[key]
+        return found + [f"{'.'.join(key)} is printed, and no claim leads to it" for key in uses if key not in reached]
 
     def _named_by(self, file, name, text):
         """The definitions that a printed text names, of all those that its file knows."""

@@ -18,11 +18,17 @@ Definition = namedtuple("Definition", "file name kind line comment text")
 Item = namedtuple("Item", "file name kind line comment text")
 # What an import names: `where` is CRATE/FILE, or the dotted module of an item of the code or of the kit's library.
 Import = namedtuple("Import", "where name")
+# A function with its contract: `block` is the head of the `impl` or the trait that it stands in, `head` the function up to its clauses, and `clauses`
+# has (name, text) of each `ensures` and `requires`, in their order.
+Function = namedtuple("Function", "file name block head clauses")
 
 HEAD = re.compile(r"^(?:(abbrev|unfoldable)\s+)?(?:pub\s+)?(?:(record|data)\s+)?([^\s:(){}]+)")
 STARTS = re.compile(r"^(?:abbrev|unfoldable|pub)\b(?!\s+mod\b)")
 USE = re.compile(r"^(?:ghost )?use\s+([\w.]+?)(?:\.\{(.*)\}|\s+as\s+(\w+))?;?$")
 RUST_ITEM = re.compile(r"^pub(?:\(crate\))? (struct|enum|const|trait) (\w+)|^(struct|enum|const|trait) (\w+)")
+BLOCK = re.compile(r"^(?:pub )?(?:unsafe )?(impl|trait)\b(?:<.*?>(?= ))?\s+(\w+)")
+FUNCTION = re.compile(r'^(?:    )?(?:pub(?:\(crate\))? )?(?:unsafe )?(?:extern "C" )?fn (\w+)')
+CLAUSE = re.compile(r"(ensures|requires)(?: (\w+))? \{")
 
 
 def read_lines(path):
@@ -173,27 +179,42 @@ class CodeFile:
                 return line.strip()[len("ghost Value = {") :].rstrip(" ;}").strip()
         return None
 
-    def methods_of(self, type_name):
-        """The lines of the blocks in which a type has its methods."""
-        block = re.compile(rf"^impl(?:<.*?>)? {type_name}\b")
-        inside = False
+    def functions(self):
+        """Each function of the file with its contract, by `TYPE::NAME`, or by its name where it is in no block."""
+        found, block, owner = {}, "", ""
         for index, line in enumerate(self.lines):
-            inside = bool(block.match(line)) or (inside and line != "}")
-            if inside:
-                yield index, line
+            opened, function = BLOCK.match(line), FUNCTION.match(line)
+            if opened:
+                block, owner = line, opened.group(2)
+            elif line == "}":
+                block = owner = ""
+            elif function:
+                name = f"{owner}::{function.group(1)}" if line.startswith(" ") and owner else function.group(1)
+                found.setdefault(name, self._contract(index, name, block))
+        return found
 
-    def public_methods(self, type_name):
-        """The names of a type's public methods."""
-        found = [re.match(r"    pub fn (\w+)", line) for _, line in self.methods_of(type_name)]
-        return [each.group(1) for each in found if each]
+    def _contract(self, start, name, block):
+        """The function that begins in this line."""
+        head, clauses = [], []
+        for line in map(str.strip, self.lines[start:]):
+            clause = CLAUSE.match(line)
+            if clause:
+                clauses.append((clause.group(2) or "", line))
+            elif clauses and not _is_closed(clauses[-1][1]):
+                clauses[-1] = (clauses[-1][0], f"{clauses[-1][1]}\n    {line}")
+            elif clauses or line.startswith("{") or line.startswith("->") and line.endswith("{"):
+                break
+            else:
+                head.append(line)
+            if line.endswith((";", "{")):
+                break
+        text = re.sub(r"(?<=\() | (?=\))|,(?= ?\))", "", " ".join(head).split(" where ")[0].rstrip("{; "))
+        return Function(self.key, name, block.rstrip("{ "), text, [(key, clause.rstrip(";")) for key, clause in clauses])
 
-    def contract_of(self, method, type_name):
-        """The clauses of a method, one a line."""
-        called = re.compile(rf"    (?:pub(?:\(crate\))? )?fn {method}\b")
-        first = next(index for index, line in self.methods_of(type_name) if called.match(line))
-        last = next(index for index in range(first, len(self.lines)) if self.lines[index].strip() == "{")
-        clauses = [line.strip() for line in self.lines[first:last]]
-        return "\n".join(line for line in clauses if line.startswith(("ensures", "requires")))
+
+def _is_closed(text):
+    """Whether each brace and each bracket that a text opens is closed in it."""
+    return all(text.count(opened) == text.count(closed) for opened, closed in ("{}", "()"))
 
 
 def code_files():

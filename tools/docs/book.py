@@ -1,0 +1,147 @@
+"""The book of definitions: what the claims rest on, and the page and the place of each definition, type and constant.
+
+Used by `definitions.py`, which writes the pages. `claims.py` has the claims, and `chapters.py` says which definitions a chapter has.
+"""
+
+import re
+from collections import Counter, namedtuple
+
+from chapters import CHAPTERS
+from claims import all_claims
+from reach import key_of, unique
+from sources import Definition
+
+# A contract as a page prints it: the first claim that it carries, the function and the texts of its clauses.
+Printed = namedtuple("Printed", "claim function clauses")
+# A part of a page: a file with its definitions, and the types and constants of the code that are first used there.
+Section = namedtuple("Section", "file definitions items")
+
+
+def clauses_of(function, names):
+    """The texts of a function's clauses: all, or those of these names with what its caller has to keep."""
+    missing = set(names) - {name for name, _ in function.clauses}
+    if missing or not function.clauses:
+        raise SystemExit(f"{function.name} has no clause {' '.join(missing)}, which a claim names")
+    return [text for name, text in function.clauses if not names or name in names or text.startswith("requires")]
+
+
+class Book:
+    """Which page has what."""
+
+    def __init__(self, reach):
+        self.reach = reach
+        self.contracts = {chapter.page: [] for chapter in CHAPTERS}
+        self.starts_of = {}  # what the contracts of each claim name
+        self._read_claims()
+        self.starts = unique(node for starts in self.starts_of.values() for node in starts)
+        self.nodes = reach.closure(self.starts)
+        self.page_of = self._pages_of_definitions()
+        self.sections, self.shown = {}, set()
+        for chapter in CHAPTERS:
+            self.sections[chapter.page] = self._sections_of(chapter)
+        self.anchor_of = self._anchors()
+
+    def link(self, page, node):
+        """What leads from a page to a node."""
+        other = self.page_of[key_of(node)]
+        return ("" if other == page else f"{other}.md") + f"#{self.anchor_of[key_of(node)]}"
+
+    def definitions(self, page=None):
+        """The definitions of a page, or of all."""
+        pages = [page] if page else list(self.sections)
+        return [each for page in pages for section in self.sections[page] for each in section.definitions]
+
+    def items(self):
+        return [node for node in self.nodes if not isinstance(node, Definition)]
+
+    def functions_of(self, contract):
+        return [self.reach.function(contract.crate, name) for name in contract.functions.split()]
+
+    def _read_claims(self):
+        """Finds what the contracts of each claim name, and where they are printed, each once."""
+        printed = set()
+        for claim in all_claims():
+            self.starts_of[claim.words] = []
+            for contract in claim.contracts:
+                for function in self.functions_of(contract):
+                    clauses = clauses_of(function, contract.clauses.split())
+                    self.starts_of[claim.words] += self._named_by(function, clauses)
+                    if (function.file, function.name) not in printed:
+                        self.contracts[contract.page].append(Printed(claim, function, clauses))
+                        printed.add((function.file, function.name))
+
+    def added_by(self, claims, known):
+        """The definitions on which these claims rest beyond those that are known, which they are added to."""
+        starts = [node for claim in claims for node in self.starts_of[claim.words]]
+        found = [node for node in self.reach.closure(starts) if isinstance(node, Definition) and key_of(node) not in known]
+        known.update(map(key_of, found))
+        return found
+
+    def _named_by(self, function, clauses):
+        places = [place for clause in clauses for place in self.reach.places_of_clause(function, clause)]
+        return [node for _, _, node in places + self.reach.places_of_head(function) + self.reach.places_of_block(function)]
+
+    def _pages_of_definitions(self):
+        """The page of each definition; ends the script where one has none, or where a chapter names what isn't needed."""
+        pages, files = {}, {}
+        definitions = [node for node in self.nodes if isinstance(node, Definition)]
+        for chapter in CHAPTERS:
+            files.update({source: chapter.page for source in chapter.sources.split()})
+            for node in self._led_to_by(chapter):
+                pages[key_of(node)] = chapter.page
+        for node in definitions:
+            pages.setdefault(key_of(node), files.get(node.file))
+        for item in self.items():
+            page = files.get(item.file) or files.get(item.file.split("/")[0] + "/src")
+            if page:
+                pages[key_of(item)] = page
+        without = sorted({node.file for node in definitions if not pages[key_of(node)]})
+        needless = sorted(source for source in files if re.fullmatch(r"\w+/[A-Z]\w+", source) and source not in {node.file for node in definitions})
+        if without or needless:
+            raise SystemExit(f"claims rest on files without a chapter: {' '.join(without) or 'none'}; chapters have files that nobody needs: {' '.join(needless) or 'none'}")
+        return pages
+
+    def _led_to_by(self, chapter):
+        """The definitions that a chapter takes out of files by name: the named ones, and those of their files that are reached by them alone."""
+        names = {tuple(source.rsplit(".", 1)) for source in chapter.sources.split() if re.fullmatch(r"\w+/\w+\.\w+", source)}
+        missing = names - {key_of(node) for node in self.nodes}
+        if missing:
+            raise SystemExit(f"chapters name what nobody needs: {sorted(missing)}")
+        kept = {key_of(node) for node in self.reach.closure(self.starts, names)}
+        files = {file for file, _ in names}
+        return [node for node in self.nodes if node.file in files and key_of(node) not in kept]
+
+    def _sections_of(self, chapter):
+        """The files of a chapter in reading order, each with the items that are first used there."""
+        files = {}
+        for node in self.nodes:
+            if isinstance(node, Definition) and self.page_of[key_of(node)] == chapter.page:
+                files.setdefault(node.file, []).append(node)
+        order = list(dict.fromkeys(source.split(".")[0] for source in chapter.sources.split()))
+        contracts = [node for printed in self.contracts[chapter.page] for node in self._named_by(printed.function, printed.clauses)]
+        sections = [Section("", [], self._new_items(chapter.page, contracts))]
+        for file in sorted(files, key=order.index):
+            definitions = self.reach.reading_order(files[file])
+            used = [node for each in definitions for _, _, node in self.reach.places_of(each)]
+            sections.append(Section(file, definitions, self._new_items(chapter.page, used)))
+        sections.append(Section("", [], self._new_items(chapter.page, self.items(), only_own=True)))
+        return sections
+
+    def _new_items(self, page, used, only_own=False):
+        """The items of the code among what is used here, and in one another, that are this page's or no other's and aren't shown yet."""
+        found, waiting = [], [node for node in used if not isinstance(node, Definition)]
+        while waiting:
+            item = waiting.pop(0)
+            home = self.page_of.get(key_of(item))
+            if key_of(item) not in self.shown and (home == page or not home and not only_own):
+                self.page_of[key_of(item)] = page
+                self.shown.add(key_of(item))
+                found.append(item)
+                waiting += [node for _, _, node in self.reach.places_of(item) if not isinstance(node, Definition)]
+        return found
+
+    def _anchors(self):
+        """The name of each node's place on its page, with that of its file where two on the page have the same."""
+        homes = {key_of(node): (self.page_of[key_of(node)], node.name.lower()) for node in self.nodes}
+        counts = Counter(homes.values())
+        return {key: key[1] if counts[home] == 1 else f"{re.split('[./]', key[0])[-1 if '.rt' not in key[0] else -2]}.{key[1]}" for key, home in homes.items()}

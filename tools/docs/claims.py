@@ -1,0 +1,128 @@
+"""What the repository claims, and the clauses that say it: the one list from which the reading pages take their start.
+
+Used by `definitions.py`. A claim of README.md stands here in its words, without its links. Each claim names the functions whose contracts carry
+it, by crate, and the clauses of these by their names: all where none is named. The contracts are printed in the chapter that is named with them.
+What the prover shows of every function has no clause, and rests on no definition. Where a claim is what one of the definitions says, that is named.
+"""
+
+from collections import namedtuple
+
+# What is claimed, the contracts that say it, and a definition CRATE/FILE.NAME of these that is the one to look at.
+Claim = namedtuple("Claim", "words contracts definition", defaults=[""])
+# Functions of a crate, separated by spaces, with the names of their clauses (none means all), and the chapter that prints their contracts.
+Contract = namedtuple("Contract", "page crate functions clauses", defaults=[""])
+
+# README.md's list of what is proved, item by item.
+OF_README = [
+    [
+        Claim("Every function is safe: no overflow, no index out of range, no division by zero.", []),
+        Claim("Every function ends, but those that wait for a lock, a thread, or a read or write.", []),
+    ],
+    [
+        Claim(
+            "`WorldCore::apply` does just what the definition `apply` says, or is refused and changes nothing.",
+            [Contract("commands", "world_core", "WorldCore::apply WorldCore::new")],
+        ),
+        Claim("`replay` is its fold.", [Contract("commands", "world_core", "WorldCore::replay")]),
+        Claim("A step by workers is the step of one thread.", [Contract("workers", "world_workers", "step_with step_with_memory")]),
+    ],
+    [Claim("The headline holds for every shared world.", [Contract("headline", "world_lock", "Held::headline")])],
+    [
+        Claim(
+            "Each caller of a shared world sees one history that only grows.",
+            [
+                Contract(
+                    "shared",
+                    "world_lock",
+                    "SharedWorld::open SharedWorld::call SharedWorld::step SharedWorld::settle SharedWorld::frame SharedWorld::events "
+                    "SharedWorld::close Held::call Held::step Held::settle",
+                )
+            ],
+        ),
+        Claim(
+            "A reader answers from one published frame, and frames never go backwards.",
+            [
+                Contract("readers", "frame_mirror", "Reader::pose Reader::total Reader::ray Reader::region Reader::seen Reader::learn"),
+                Contract("readers", "frame_mirror", "Mirror::open Publisher::publish Publisher::seen Mark::frame Mark::covers"),
+            ],
+        ),
+    ],
+    [
+        Claim(
+            "Each call of the library for C does what the rules say.",
+            [
+                Contract("library", "dillmonth", "dm_version dm_open dm_close dm_copy dm_settle dm_save dm_saved dm_load dm_digest"),
+                Contract(
+                    "library_commands",
+                    "dillmonth",
+                    "dm_create_body dm_destroy_body dm_create_joint dm_destroy_joint dm_push dm_push_at dm_set_pose dm_set_velocity "
+                    "dm_set_gravity dm_disable dm_enable dm_wake dm_sleep dm_step dm_apply_all",
+                ),
+                Contract(
+                    "library_questions",
+                    "dillmonth",
+                    "dm_steps dm_gravity dm_body dm_poses dm_moved dm_begun dm_ended dm_slept dm_woke dm_ray dm_region dm_region_found "
+                    "dm_contacts dm_contacts_listed",
+                ),
+            ],
+        )
+    ],
+    [
+        Claim(
+            "A loaded world is sound.",
+            [
+                Contract("saved", "world_core", "WorldCore::load WorldCore::save"),
+                Contract("sound", "world_core", "WorldCore::ledger WorldCore::plain", "sound"),
+                Contract("saved", "loaded_text", "read_text"),
+                Contract("saved", "saved_text", "write_text"),
+            ],
+        ),
+        Claim("A rounded quotient is the nearest integer.", [Contract("numbers", "fixed_geom", "rdiv")]),
+        Claim(
+            "The broad phase finds exactly the pairs that testing all pairs would find.",
+            [Contract("commands", "world_core", "WorldCore::apply")],
+            "contacts/ByPairs.contacts_between",
+        ),
+    ],
+]
+
+# What docs/PROVED.md claims beside these. The last ones are of the solver's inside, and no other claim rests on them.
+FURTHER = [
+    Claim(
+        "The movers' momentum is the sum of all entries of the ledger, in every world that can come about.",
+        [Contract("sound", "world_core", "WorldCore::ledger", "sound"), Contract("ledger", "impulse_ledger", "Ledger::total", "value")],
+    ),
+    Claim(
+        "Two movers give one another one impulse, which leaves the sum of their momenta as it was.",
+        [Contract("impulses", "momenta", "impulse_pair")],
+    ),
+    Claim(
+        "A ray hits the first of all shapes of enabled bodies, or of those that its filter lets through. A region gives all shapes whose tight box "
+        "overlaps it.",
+        [Contract("queries", "world_queries", "ray filtered_ray region")],
+    ),
+    Claim("An id that was taken back never names a body again.", [Contract("worlds", "body_handles", "removed_stays_gone")]),
+    Claim("A digest is a function of the world alone.", [Contract("digests", "world_digest", "digest")]),
+    Claim("A facing that is turned is a facing.", [Contract("numbers", "fixed_geom", "turn")]),
+    Claim(
+        "The ticks over dense arrays do what the definition says of bodies by slot and contacts by key.",
+        [Contract("arrays", "world_core_base", "arrays_are_solving")],
+    ),
+    Claim(
+        "What the ticks add to the movers' momentum is what gravity, immovable bodies and limits gave.",
+        [Contract("arrays", "colour_solver", "run_step", "momentum")],
+    ),
+    Claim(
+        "Rows that share no mover may be solved at once, and the rows of a colour are such rows. So may islands.",
+        [
+            Contract("at_once", "colour_solver", "colours_at_once"),
+            Contract("at_once", "world_core", "coloured_rows_are_colours"),
+            Contract("at_once", "island_runs", "runs_are_apart"),
+        ],
+    ),
+]
+
+
+def all_claims():
+    """Each claim, those of README.md first."""
+    return [claim for item in OF_README for claim in item] + FURTHER
