@@ -18,11 +18,11 @@ Section = namedtuple("Section", "file definitions items")
 
 
 def clauses_of(function, names):
-    """The texts of a function's clauses: all, or those of these names with what its caller has to keep."""
+    """The texts of a function's clauses, among which are those of these names."""
     missing = set(names) - {name for name, _ in function.clauses}
     if missing or not function.clauses:
         raise SystemExit(f"{function.name} has no clause {' '.join(missing)}, which a claim names")
-    return [text for name, text in function.clauses if not names or name in names or text.startswith("requires")]
+    return [text for _, text in function.clauses]
 
 
 class Book:

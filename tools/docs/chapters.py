@@ -99,7 +99,7 @@ PARTS = {
             "impulses",
             "One impulse, one body",
             "What an impulse does to two bodies, and a tick to one.",
-            "momenta/src momenta/Impulses momenta/Motions momenta/Reciprocals momenta/ImpulseBounds",
+            "momenta/src momenta/Impulses momenta/Motions momenta/Reciprocals momenta/ImpulseBounds momenta/Gains",
         ),
         Chapter(
             "numbers",

@@ -1,7 +1,7 @@
 """What the repository claims, and the clauses that say it: the one list from which the reading pages take their start.
 
 Used by `definitions.py`. A claim of README.md stands here in its words, without its links. Each claim names the functions whose contracts carry
-it, by crate, and the clauses of these by their names: all where none is named. The contracts are printed in the chapter that is named with them.
+it, by crate, and the clauses that say it by their names: all where none is named. The contracts are printed in the chapter that is named with them.
 What the prover shows of every function has no clause, and rests on no definition. Where a claim is what one of the definitions says, that is named.
 """
 
@@ -23,8 +23,11 @@ OF_README = [
             "`WorldCore::apply` does just what the definition `apply` says, or is refused and changes nothing.",
             [Contract("commands", "world_core", "WorldCore::apply WorldCore::new")],
         ),
-        Claim("`replay` is its fold.", [Contract("commands", "world_core", "WorldCore::replay")]),
-        Claim("A step by workers is the step of one thread.", [Contract("workers", "world_workers", "step_with step_with_memory")]),
+        Claim("`replay` is its fold.", [Contract("commands", "world_core", "WorldCore::replay", "answers world")]),
+        Claim(
+            "A step by workers is the step of one thread.",
+            [Contract("workers", "world_workers", "step_with step_with_memory"), Contract("workers", "world_core", "WorldCore::step_by WorldCore::step_one")],
+        ),
     ],
     [Claim("The headline holds for every shared world.", [Contract("headline", "world_lock", "Held::headline")])],
     [
@@ -42,8 +45,13 @@ OF_README = [
         Claim(
             "A reader answers from one published frame, and frames never go backwards.",
             [
-                Contract("readers", "frame_mirror", "Reader::pose Reader::total Reader::ray Reader::region Reader::seen Reader::learn"),
-                Contract("readers", "frame_mirror", "Mirror::open Publisher::publish Publisher::seen Mark::frame Mark::covers"),
+                Contract("readers", "frame_mirror", "Reader::pose Reader::total Reader::ray Reader::region", "covers answer"),
+                Contract("readers", "frame_mirror", "Reader::seen", "same"),
+                Contract("readers", "frame_mirror", "Reader::learn"),
+                Contract("readers", "frame_mirror", "Mark::frame Mark::covers"),
+                Contract("readers", "frame_mirror", "Mirror::open", "publisher readers"),
+                Contract("readers", "frame_mirror", "Publisher::publish", "added"),
+                Contract("readers", "frame_mirror", "Publisher::seen", "same"),
             ],
         ),
     ],
@@ -71,13 +79,14 @@ OF_README = [
         Claim(
             "A loaded world is sound.",
             [
-                Contract("saved", "world_core", "WorldCore::load WorldCore::save"),
+                Contract("saved", "world_core", "WorldCore::load", "loaded refused again"),
+                Contract("saved", "world_core", "WorldCore::save", "value again"),
                 Contract("sound", "world_core", "WorldCore::ledger WorldCore::plain", "sound"),
                 Contract("saved", "loaded_text", "read_text"),
                 Contract("saved", "saved_text", "write_text"),
             ],
         ),
-        Claim("A rounded quotient is the nearest integer.", [Contract("numbers", "fixed_geom", "rdiv")]),
+        Claim("A rounded quotient is the nearest integer.", [Contract("numbers", "fixed_geom", "rdiv", "nearest")]),
         Claim(
             "The broad phase finds exactly the pairs that testing all pairs would find.",
             [Contract("commands", "world_core", "WorldCore::apply")],
@@ -94,16 +103,20 @@ FURTHER = [
     ),
     Claim(
         "Two movers give one another one impulse, which leaves the sum of their momenta as it was.",
-        [Contract("impulses", "momenta", "impulse_pair")],
+        [Contract("impulses", "momenta", "impulse_pair", "sum_x sum_y")],
     ),
     Claim(
         "A ray hits the first of all shapes of enabled bodies, or of those that its filter lets through. A region gives all shapes whose tight box "
         "overlaps it.",
-        [Contract("queries", "world_queries", "ray filtered_ray region")],
+        [
+            Contract("queries", "world_queries", "ray"),
+            Contract("queries", "world_queries", "filtered_ray", "hit"),
+            Contract("queries", "world_queries", "region", "shapes"),
+        ],
     ),
     Claim("An id that was taken back never names a body again.", [Contract("worlds", "body_handles", "removed_stays_gone")]),
     Claim("A digest is a function of the world alone.", [Contract("digests", "world_digest", "digest")]),
-    Claim("A facing that is turned is a facing.", [Contract("numbers", "fixed_geom", "turn")]),
+    Claim("A facing that is turned is a facing.", [Contract("numbers", "fixed_geom", "turn", "facing")]),
     Claim(
         "The ticks over dense arrays do what the definition says of bodies by slot and contacts by key.",
         [Contract("arrays", "world_core_base", "arrays_are_solving")],

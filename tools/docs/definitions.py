@@ -37,6 +37,8 @@ TABLE_STARTS = "<!-- The claims: tools/docs/definitions.py writes this table -->
 TABLE_ENDS = "<!-- The end of the claims -->"
 # A row of the table counts the functions of one crate from so many on.
 MANY = 7
+# A row names so many clauses of a function, and counts more.
+FEW = 4
 # A place in a text, and the tag that it gets: it leads elsewhere, or has a name of its own.
 Mark = namedtuple("Mark", "start end tag")
 
@@ -220,8 +222,20 @@ class Pages:
         functions = self.book.functions_of(contract)
         if len(functions) >= MANY:
             return f"[{len(functions)} functions of `{contract.crate}`]({page}#contracts)"
-        clauses = f": {', '.join(f'`{name}`' for name in contract.clauses.split())}" if contract.clauses else ""
-        return ", ".join(f"[`{function.name}`]({page}#{function.name})" for function in functions) + clauses
+        links = [f"[`{function.name}`]({page}#{function.name})" for function in functions]
+        said = [clauses_said(function, contract) for function in functions]
+        if len(set(said)) == 1:
+            return f"{', '.join(links)}: {said[0]}"
+        return "; ".join(f"{link}: {clauses}" for link, clauses in zip(links, said))
+
+
+def clauses_said(function, contract):
+    """Which clauses of a function say what is claimed."""
+    promised = [name for name, text in function.clauses if text.startswith("ensures")]
+    named = contract.clauses.split() or promised
+    if named == [""]:
+        return "its clause"
+    return ", ".join(f"`{name}`" for name in named) if len(named) <= FEW else f"its {len(named)} clauses"
 
 
 def source_line(file):

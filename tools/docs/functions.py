@@ -14,8 +14,7 @@ import re
 import sys
 from collections import namedtuple
 
-from sources import TOP, Imports, crates_below, definition_files, read_lines
-from storeys import read_storeys
+from sources import TOP, Imports, crates_below, definition_files, read_lines, read_storeys
 
 PAGE = TOP / "docs" / "FUNCTIONS.md"
 # the storeys of crates.txt whose crates nobody else stands on

@@ -41,6 +41,26 @@ def crates_below():
     return {name.split()[0]: below.split() for name, colon, below in parts if colon}
 
 
+def read_storeys(lines):
+    """By the lines of crates.txt the storeys from the lowest up, each a name and its crates, and what each crate stands on.
+
+    A comment line right above crates is the name of their storey, up to a colon.
+    """
+    storeys, stands_on, comment = [], {}, None
+    for line in lines:
+        if line.startswith("#"):
+            comment = line[1:].strip()
+        elif ":" in line:
+            if comment is not None:
+                storeys.append((comment.split(":")[0], []))
+                comment = None
+            crate, _, below = line.partition(":")
+            name = crate.split()[0]
+            storeys[-1][1].append(name)
+            stands_on[name] = below.split()
+    return storeys, stands_on
+
+
 def crates_from_below():
     """The crates of crates.txt, each after those that it stands on, and else in its order."""
     below, order = crates_below(), []
