@@ -35,6 +35,10 @@ class Book:
         self._read_claims()
         self.starts = unique(node for starts in self.starts_of.values() for node in starts)
         self.nodes = reach.closure(self.starts)
+        self.rank = {}  # the number of the first claim that rests on a definition, and whether the claim's contracts don't name it
+        known, named = set(), set(map(key_of, self.starts))
+        for number, claim in enumerate(all_claims()):
+            self.rank.update({key_of(node): (number, key_of(node) not in named) for node in self.added_by([claim], known)})
         self.page_of = self._pages_of_definitions()
         self.sections, self.shown = {}, set()
         for chapter in CHAPTERS:
@@ -55,7 +59,16 @@ class Book:
         return [node for node in self.nodes if not isinstance(node, Definition)]
 
     def functions_of(self, contract):
-        return [self.reach.function(contract.crate, name) for name in contract.functions.split()]
+        """The functions of a contract. `PREFIX*` means each public one of the crate that begins so, has a contract and is named by no claim."""
+        named = {name for claim in all_claims() for each in claim.contracts if each.crate == contract.crate for name in each.functions.split()}
+        found = []
+        for name in contract.functions.split():
+            if name.endswith("*"):
+                others = self.reach.public_functions(contract.crate)
+                found += [each for each in others if each.name.startswith(name[:-1]) and each.name not in named and each.clauses]
+            else:
+                found.append(self.reach.function(contract.crate, name))
+        return found
 
     def _read_claims(self):
         """Finds what the contracts of each claim name, and where they are printed, each once."""
@@ -121,7 +134,7 @@ class Book:
         contracts = [node for printed in self.contracts[chapter.page] for node in self._named_by(printed.function, printed.clauses)]
         sections = [Section("", [], self._new_items(chapter.page, contracts))]
         for file in sorted(files, key=order.index):
-            definitions = self.reach.reading_order(files[file])
+            definitions = self.reach.reading_order(files[file], self.rank)
             used = [node for each in definitions for _, _, node in self.reach.places_of(each)]
             sections.append(Section(file, definitions, self._new_items(chapter.page, used)))
         sections.append(Section("", [], self._new_items(chapter.page, self.items(), only_own=True)))

@@ -97,10 +97,11 @@ PARTS = {
         ),
         Chapter(
             "impulses",
-            "One impulse, one body",
-            "What an impulse does to two bodies, and a tick to one.",
-            "momenta/src momenta/Impulses momenta/Motions momenta/Reciprocals momenta/ImpulseBounds momenta/Gains",
+            "One impulse",
+            "What an impulse does to two bodies.",
+            "momenta/src momenta/Impulses momenta/Reciprocals momenta/Gains momenta/ImpulseBounds",
         ),
+        Chapter("motions", "One body in a tick", "How gravity and the limits change momenta, and momenta a pose.", "momenta/src/motion.rt momenta/Motions"),
         Chapter(
             "numbers",
             "Numbers",

@@ -144,7 +144,7 @@ class Pages:
         lines = []
         if section.file:
             file = self.reach.files[section.file]
-            about = re.sub(r"^-- (Trusted: )?", "", file.lines[0]) if file.lines[0].startswith("--") else ""
+            about = about_of(file)
             crate, name = section.file.split("/")
             source = f"[{section.file}](../../crates/{crate}/specs/{name}.antt)"
             of_any = f" For any `{file.parameters}`." if file.parameters else ""
@@ -236,6 +236,13 @@ def clauses_said(function, contract):
     if named == [""]:
         return "its clause"
     return ", ".join(f"`{name}`" for name in named) if len(named) <= FEW else f"its {len(named)} clauses"
+
+
+def about_of(file):
+    """What the comment at the head of a file of definitions says."""
+    head = "\n".join(file.lines).split("\nuse ")[0].splitlines()
+    about = re.sub(r"^(Trusted|Inner): ", "", " ".join(line.lstrip("- ") for line in head if line.startswith("--")))
+    return about[:1].upper() + about[1:]
 
 
 def source_line(file):

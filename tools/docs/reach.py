@@ -135,11 +135,23 @@ class Reach:
         return self.items_in(re.sub(r"//.*", blanked, text), file)
 
     def shown(self, item):
-        """The text of an item of the code; of a type that contracts see otherwise, what they see stands in the last line."""
+        """The text of an item of the code. The last line has what contracts see of a type, if that isn't its fields, or the digits of a constant."""
         value = self.code[item.file].value_of(item.name)
         if value:
             return item.text[0].split("{")[0].rstrip("; ") + ";\n// Contracts see it as: " + value
-        return "\n".join(line for line in item.text if not line.strip().startswith("#"))
+        digits = self.digits_of(item)
+        return "\n".join([line for line in item.text if not line.strip().startswith("#")] + [f"// In digits: {digits}"] * bool(digits))
+
+    def digits_of(self, item):
+        """The digits of a constant and the law of its crate that says them; None where no law does."""
+        said = re.compile(rf"^ensures[\w ]* \{{ {item.name} ≡ (?:pos )?(\d+) \}}$")
+        for file in self.code.values():
+            if item.kind == "const" and file.crate == item.file.split("/")[0]:
+                for function in file.functions().values():
+                    found = [said.match(clause)[1] for _, clause in function.clauses if function.name.endswith("_in_digits") and said.match(clause)]
+                    if found:
+                        return f"{found[0]}, by `{function.name}`"
+        return None
 
     def items_in(self, text, file):
         """(start, end, item) of each item of the code that a text of a file names."""
@@ -169,6 +181,10 @@ class Reach:
         if len(found) != 1:
             raise SystemExit(f"{crate} has {len(found)} functions {name}, of which a claim speaks")
         return found[0]
+
+    def public_functions(self, crate):
+        """The public functions of a crate, in the order of its files."""
+        return [each for file in self.code.values() if file.crate == crate for each in file.functions().values() if each.head.startswith("pub ")]
 
     def places_of_head(self, function):
         """The types that a function's head names, where contracts see more of them than a name."""
@@ -202,16 +218,17 @@ class Reach:
                 waiting += [other for _, _, other in self.places_of(node)]
         return list(met.values())
 
-    def reading_order(self, nodes):
-        """Definitions of one file, each before those that it uses."""
+    def reading_order(self, nodes, rank):
+        """Definitions of one file, each before those that it uses: those of a lesser rank first, then those that others here use, as in their file."""
         left = {key_of(node): node for node in nodes}
         uses = {key: {key_of(other) for _, _, other in self.places_of(node)} & set(left) for key, node in left.items()}
+        used_here = set().union(*uses.values())
         order = []
         while left:
             used = {key for each in left for key in uses[each]}
             ready = [node for key, node in left.items() if key not in used]
             if not ready:
                 raise SystemExit(f"definitions that use one another: {', '.join(node.name for node in left.values())}")
-            order.append(min(ready, key=lambda node: node.line))
+            order.append(min(ready, key=lambda node: (rank[key_of(node)], key_of(node) not in used_here, node.line)))
             del left[key_of(order[-1])]
         return order

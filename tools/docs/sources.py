@@ -165,6 +165,7 @@ class CodeFile:
         self.lines = read_lines(path)
         self.imports = Imports(line for line in self.lines if "use Rattle." in line)
         self.items = {}
+        self._functions = None  # found once they are asked for
         self._read()
 
     def _read(self):
@@ -201,6 +202,11 @@ class CodeFile:
 
     def functions(self):
         """Each function of the file with its contract, by `TYPE::NAME`, or by its name where it is in no block."""
+        if self._functions is None:
+            self._functions = self._read_functions()
+        return self._functions
+
+    def _read_functions(self):
         found, block, owner = {}, "", ""
         for index, line in enumerate(self.lines):
             opened, function = BLOCK.match(line), FUNCTION.match(line)
