@@ -5,6 +5,7 @@ Used by `definitions.py`, which writes the pages. `claims.py` has the claims, an
 
 import re
 from collections import Counter, namedtuple
+from pathlib import PurePath
 
 from chapters import CHAPTERS
 from claims import all_claims
@@ -60,8 +61,8 @@ class Book:
 
     def functions_of(self, contract):
         """The functions of a contract. `PREFIX*` means each public one of the crate that begins so, has a contract and is named by no claim."""
-        named = {name for claim in all_claims() for each in claim.contracts if each.crate == contract.crate for name in each.functions.split()}
-        found = []
+        contracts = [each for claim in all_claims() for each in claim.contracts if each.crate == contract.crate]
+        named, found = " ".join(each.functions for each in contracts).split(), []
         for name in contract.functions.split():
             if name.endswith("*"):
                 others = self.reach.public_functions(contract.crate)
@@ -95,31 +96,34 @@ class Book:
         return [node for _, _, node in places + self.reach.places_of_head(function) + self.reach.places_of_block(function)]
 
     def _pages_of_definitions(self):
-        """The page of each definition; ends the script where one has none, or where a chapter names what isn't needed."""
-        pages, files = {}, {}
-        definitions = [node for node in self.nodes if isinstance(node, Definition)]
-        for chapter in CHAPTERS:
-            files.update({source: chapter.page for source in chapter.sources.split()})
-            for node in self._led_to_by(chapter):
-                pages[key_of(node)] = chapter.page
-        for node in definitions:
-            pages.setdefault(key_of(node), files.get(node.file))
-        for item in self.items():
-            page = files.get(item.file) or files.get(item.file.split("/")[0] + "/src")
+        """The page of each definition, and of the items that chapters name; ends the script where a definition has none."""
+        files = {source: chapter.page for chapter in CHAPTERS for source in chapter.sources.split()}
+        pages = {key_of(node): chapter.page for chapter in CHAPTERS for node in self._led_to_by(chapter)}
+        for node in self.nodes:
+            folder = node.file.split("/")[0] + "/src"
+            page = files.get(node.file) or (None if isinstance(node, Definition) else files.get(folder))
             if page:
-                pages[key_of(item)] = page
-        without = sorted({node.file for node in definitions if not pages[key_of(node)]})
-        needless = sorted(source for source in files if re.fullmatch(r"\w+/[A-Z]\w+", source) and source not in {node.file for node in definitions})
-        if without or needless:
-            raise SystemExit(f"claims rest on files without a chapter: {' '.join(without) or 'none'}; chapters have files that nobody needs: {' '.join(needless) or 'none'}")
+                pages.setdefault(key_of(node), page)
+        self._test_sources(files, pages)
         return pages
+
+    def _test_sources(self, files, pages):
+        """Ends the script where a file of definitions has no chapter, or where a chapter has one of which nobody needs anything."""
+        definitions = [node for node in self.nodes if isinstance(node, Definition)]
+        without = sorted({node.file for node in definitions if key_of(node) not in pages})
+        needed = {node.file for node in definitions}
+        needless = sorted(source for source in files if re.fullmatch(r"\w+/[A-Z]\w+", source) and source not in needed)
+        if without:
+            raise SystemExit(f"tools/docs/chapters.py has no chapter for what a claim rests on: {', '.join(without)}")
+        if needless:
+            raise SystemExit(f"tools/docs/chapters.py has what no claim rests on: {', '.join(needless)}")
 
     def _led_to_by(self, chapter):
         """The definitions that a chapter takes out of files by name: the named ones, and those of their files that are reached by them alone."""
         names = {tuple(source.rsplit(".", 1)) for source in chapter.sources.split() if re.fullmatch(r"\w+/\w+\.\w+", source)}
         missing = names - {key_of(node) for node in self.nodes}
         if missing:
-            raise SystemExit(f"chapters name what nobody needs: {sorted(missing)}")
+            raise SystemExit(f"tools/docs/chapters.py has what no claim rests on: {sorted(missing)}")
         kept = {key_of(node) for node in self.reach.closure(self.starts, names)}
         files = {file for file, _ in names}
         return [node for node in self.nodes if node.file in files and key_of(node) not in kept]
@@ -155,6 +159,6 @@ class Book:
 
     def _anchors(self):
         """The name of each node's place on its page, with that of its file where two on the page have the same."""
-        homes = {key_of(node): (self.page_of[key_of(node)], node.name.lower()) for node in self.nodes}
+        homes = {key_of(node): (self.page_of[key_of(node)], node.name) for node in self.nodes}
         counts = Counter(homes.values())
-        return {key: key[1] if counts[home] == 1 else f"{re.split('[./]', key[0])[-1 if '.rt' not in key[0] else -2]}.{key[1]}" for key, home in homes.items()}
+        return {(file, name): name if counts[home] == 1 else f"{PurePath(file).stem}.{name}" for (file, name), home in homes.items()}

@@ -25,6 +25,7 @@ from sources import TOP, code_files, crates_below, definition_files, read_lines
 CODE = re.compile(r"`([^`]+)`")
 LINK = re.compile(r"\]\(([^)\s]+)\)")
 TAG = re.compile(r"</?a\b[^>]*>")
+TARGET = re.compile(r"^\[[^\]]+\]: (\S+)$")
 HREF = re.compile(r'<a href="([^"]+)"')
 INDENTED = re.compile(r"^(?: {4}|\t)\s*(\S.*)$")
 PATH = re.compile(r"^(?:\.\./)*[\w.*-]+(?:/[\w.*-]+)*/?$")
@@ -183,7 +184,7 @@ class Check:
             indented = INDENTED.match(line)
             for code in [indented.group(1)] if indented and "`" not in line else CODE.findall(line):
                 self.code(page, place, code)
-            for link in LINK.findall(CODE.sub("", line)):
+            for link in LINK.findall(CODE.sub("", line)) + TARGET.findall(line):
                 self.link(page, place, link)
             self.numbers(page, place, line)
         self.whole(page, page.read_text(encoding="utf-8"))

@@ -52,6 +52,8 @@ OF_README = [
                 Contract("readers", "frame_mirror", "Mirror::open", "publisher readers"),
                 Contract("readers", "frame_mirror", "Publisher::publish", "added"),
                 Contract("readers", "frame_mirror", "Publisher::seen", "same"),
+                Contract("readers", "world_core", "WorldCore::frame", "frame"),
+                Contract("readers", "world_core", "Frame::bodies"),
             ],
         ),
     ],

@@ -1,7 +1,8 @@
 #!/usr/bin/env python3
-"""Writes docs/definitions, the book of the definitions on which the claims of README.md rest, and the table of claims in docs/PROVED.md.
+"""Writes docs/definitions, the book of the definitions on which the claims of README.md rest, and what other pages have of it.
 
-    tools/docs/definitions.py             writes the chapters, their contents, and the table
+    tools/docs/definitions.py             writes the chapters and their contents, the table of claims in PROVED.md, and the ends of the pages that
+                                          lead to chapters
     tools/docs/definitions.py --check     fails where a page isn't what the script makes of the sources as they are
 
 A contract is worth what the definitions that it cites say. `claims.py` has what is claimed, and the contracts that say it. The book has what the
@@ -32,6 +33,10 @@ from sources import TOP
 
 BOOK, README, PROVED = TOP / "docs" / "definitions", TOP / "README.md", TOP / "docs" / "PROVED.md"
 MOST_LINES = 400
+# Pages whose [`CRATE/FILE.NAME`] lead to chapters, and the line under which they have where each leads.
+LEADING = [TOP / "docs" / "WORLD.md", TOP / "docs" / "GLOSSARY.md"]
+TARGETS = "<!-- Where the definitions are: tools/docs/definitions.py writes the rest of this page -->"
+NAMED = re.compile(r"\[`(\w+/[A-Z]\w*)\.([\w']+)`\](?!:)")
 # The lines of docs/PROVED.md between which the table of claims stands.
 TABLE_STARTS = "<!-- The claims: tools/docs/definitions.py writes this table -->"
 TABLE_ENDS = "<!-- The end of the claims -->"
@@ -57,10 +62,17 @@ NOTATION = [
     ("`option_map f o`, `replicate n x`", "f of what is there, or none; n times x"),
     ("`.. → Type 0`", "a statement, which holds or doesn't, or a type; its name has a capital letter"),
     ("`pub record N .. where`", "a type with these fields; of a statement the fields are what has to hold together"),
-    ("`a ≡ b`, `a × b`, `a ↔ b`, `⊥`", "a equals b; both; one just if the other; what never holds"),
+    ("`a ≡ b`, `a ≢ b`; `a × b`, `a ⊎ b`, `a ↔ b`, `⊥`", "a equals b, or doesn't; both, one or the other, one just if the other, what never holds"),
     ("`(x : A) → ..`, `(x : A) × ..`", "for each x; there is an x"),
+    ("`All P xs`, `AllPairs R xs`, `Contains xs x`", "P of each item; R of each item with each later one; x is among the items"),
+    ("`map f xs`, `filter p xs`, `find p xs`, `fold f s xs`", "as the iterators of Rust; `fold` from the left, starting at s"),
+    ("`x +ℤ y`, `nat_le m n`, `int_lt x y`, `unsigned_abs x`", "a sum of integers; whether m ≤ n, whether x < y; the size of x"),
     ("`requires`, `ensures`", "in a contract: what a caller has to keep; what then holds"),
     ("`self.old`, `self.new`, `x.now`, `result`", "in a contract: the value before the call and after it, the argument x, the answer"),
+    ("`IfOk r P`, `IfErr r P`, `IfSome o P`", "P of what r or o has, if it is Ok, Err or Some"),
+    ("`OnOk r a`, `OnErr r a`; `IsOkUnless r e`", "a, if r is Ok, or Err; r is Ok or else Err of e"),
+    ("`MatchResult r P Q`, `MatchBool b P Q`", "P of the value or else Q of the error; P if b is true, else Q"),
+    ("`v.items`, `arc_value x`", "the items of a Vec; what an Arc has"),
 ]
 CONTENTS = """The claims of this repository rest on the definitions of these chapters and on no others: they are what a reviewer reads and trusts. A
 chapter begins with its contracts, and then has the definitions by file. Each name leads to its definition. [PROVED](../PROVED.md#in-short) has
@@ -134,7 +146,7 @@ class Pages:
         """The head of a function and its clauses."""
         head, short = function.head, function.name.split("::")[-1]
         start = re.search(rf"\bfn {short}\b", head).end() - len(short)
-        marks = [Mark(start, start + len(short), f'<a id="{function.name}">'), *self.links(page, self.reach.places_of_head(function))]
+        marks = [Mark(start, start + len(short), f'<a id="fn.{function.name}">'), *self.links(page, self.reach.places_of_head(function))]
         lines = [marked(head, marks).replace(f">{short}</a>", f">{function.name}</a>", 1)]
         lines += ["    " + marked(clause, self.links(page, self.reach.places_of_clause(function, clause))) for clause in clauses]
         return lines + [""]
@@ -222,7 +234,7 @@ class Pages:
         functions = self.book.functions_of(contract)
         if len(functions) >= MANY:
             return f"[{len(functions)} functions of `{contract.crate}`]({page}#contracts)"
-        links = [f"[`{function.name}`]({page}#{function.name})" for function in functions]
+        links = [f"[`{function.name}`]({page}#fn.{function.name})" for function in functions]
         said = [clauses_said(function, contract) for function in functions]
         if len(set(said)) == 1:
             return f"{', '.join(links)}: {said[0]}"
@@ -283,12 +295,24 @@ def with_table(text, table):
     return "\n".join([before + TABLE_STARTS, "", *table, "", TABLE_ENDS + rest.partition(TABLE_ENDS)[2]])
 
 
+def with_targets(book, path):
+    """A page with the places to which its definitions lead."""
+    body, found = path.read_text(encoding="utf-8").partition(TARGETS)[0].rstrip("\n"), {}
+    for file, name in NAMED.findall(body):
+        if (file, name) not in book.page_of:
+            sys.exit(f"{path.relative_to(TOP)} leads to {file}.{name}, which no chapter has")
+        page, anchor = book.page_of[file, name], book.anchor_of[file, name]
+        found[f"{file}.{name}"] = f"definitions/{page}.md#{anchor}"
+    return "\n".join([body, "", TARGETS, "", *(f"[`{name}`]: {target}" for name, target in sorted(found.items()))]) + "\n"
+
+
 def made_pages(book):
     """Each page by its path, as it should be."""
     pages, reach = Pages(book), book.reach
     made = {BOOK / f"{chapter.page}.md": pages.chapter_text(chapter) for chapter in CHAPTERS}
     made[BOOK / "README.md"] = pages.contents_text()
     made[PROVED] = with_table(PROVED.read_text(encoding="utf-8"), pages.table_lines())
+    made.update({path: with_targets(book, path) for path in LEADING})
     return made
 
 
