@@ -6,14 +6,17 @@
  * keeps a pointer that it was passed, ends the process, starts a thread or takes a lock. The library has no state of its own.
  *
  * What a caller owes; nothing checks it:
- *   1. A dm_world begins as DM_NONE (all bytes 0), and only this library writes it. It may be moved, as by memcpy, if the old bytes
- *      aren't used any more. Two copies of one that are both used are a double free. Close it at the end.
+ *   1. A dm_world begins as DM_NONE (all bytes 0), or by dm_new, and only this library writes it. It may be moved, as by memcpy, if the
+ *      old bytes aren't used any more. Two copies of one that are both used are a double free. Close it at the end.
  *   2. One call at a time for each world. A world may go from thread to thread, ordered by a lock, a join or the like. Worlds of
  *      their own need no order: so a program uses several threads by a world each. No call from a signal handler, nor in the forked
  *      child of a process with threads.
  *   3. Each pointer is good for its type and count, and isn't null, also where the count is 0 (pass any aligned address). What a call
  *      writes overlaps nothing else that it was passed. dm_copy gets two worlds.
  *   4. malloc, realloc and free are of one allocator, and align as C says.
+ *   5. A call has 128 KB of stack (LIMITS.md).
+ *   6. An object of type dm_world isn't const, also where a call takes a const dm_world *: such a call changes nothing that another one can
+ *      tell, and yet writes to the struct for a while. So it is one call at a time for these too.
  *
  * A step by workers and the mirror for readers aren't here: a library for C may neither start a thread nor take a lock.
  *
@@ -27,6 +30,15 @@
 #include <stdint.h>
 #ifdef __cplusplus
 extern "C" {
+#endif
+
+/* An answer that isn't to be dropped: without it nobody knows whether what a pointer names was written. */
+#if (defined(__cplusplus) && __cplusplus >= 201703L) || (defined(__STDC_VERSION__) && __STDC_VERSION__ >= 202311L)
+#define DM_KEEP [[nodiscard]]
+#elif defined(__GNUC__)
+#define DM_KEEP __attribute__((warn_unused_result))
+#else
+#define DM_KEEP
 #endif
 
 #define DM_VERSION 1
@@ -62,7 +74,8 @@ typedef struct { void *at; } dm_world;
 
 typedef struct { int64_t x, y; } dm_vec;
 typedef struct { int64_t c, s; } dm_rot;                  /* upright: { 1 << 30, 0 } */
-typedef struct { uint32_t slot, generation; } dm_handle;  /* the id of a body or of a joint; { 0, 0 } names nothing, ever */
+typedef struct { uint32_t slot, generation; } dm_handle;  /* the id of a body or of a joint; { 0, 0 } names nothing, ever. It holds numbers
+  * alone: an id of another world, or of a joint where a body's is wanted, means what has these numbers here */
 typedef struct { uint32_t slot, index; } dm_shape_id;     /* the slot of its body, and its place among the body's shapes */
 typedef struct { dm_shape_id first, second; } dm_pair;    /* two shapes, the lesser first */
 typedef struct { dm_vec lo, hi; } dm_box;
@@ -123,27 +136,27 @@ typedef struct {
 } dm_hit;                    /* 16 bytes */
 
 /* ---- a world's life ---- */
-dm_status dm_open(dm_world *world, dm_vec gravity);      /* an empty world; what was held is dropped. 5, 1 */
-void dm_close(dm_world *world);                          /* drops it, if there is one; twice is harmless */
-dm_status dm_copy(dm_world *from, dm_world *to);         /* a world of its own; `to` is another dm_world. 32, 1 */
-dm_status dm_settle(dm_world *world);                    /* sums up what was booked. 32. See dm_step */
+DM_KEEP dm_status dm_open(dm_world *world, dm_vec gravity);    /* an empty world; what was held is dropped. 5, 1 */
+void dm_close(dm_world *world);                                /* drops it, if there is one; twice is harmless */
+DM_KEEP dm_status dm_copy(const dm_world *from, dm_world *to); /* a world of its own; `to` is another dm_world. 32, 1 */
+dm_status dm_settle(dm_world *world);                          /* sums up what was booked. 32. See dm_step */
 
 /* ---- commands: one call of the world each. What a pointer names is written only where the status is 0. Each may answer 32 (no world),
  * 10 before all else, and 1 after all else. ---- */
-dm_status dm_create_body(dm_world *world, const dm_body_def *def, const dm_shape *shapes, size_t shapes_len, dm_handle *made); /* 33, 4, 5, 3 */
-dm_status dm_destroy_body(dm_world *world, dm_handle body);                            /* with its joints. 2 */
-dm_status dm_create_joint(dm_world *world, const dm_joint_def *def, dm_handle *made);  /* 2, 7, 8, 5, 3 */
-dm_status dm_destroy_joint(dm_world *world, dm_handle joint);                          /* 2 */
-dm_status dm_push(dm_world *world, dm_handle body, dm_vec by);                         /* an impulse, on a mover, which wakes. 2, 6, 8, 5, 9 */
-dm_status dm_push_at(dm_world *world, dm_handle body, dm_vec by, dm_vec offset);       /* at an offset from the centre. 2, 6, 8, 5, 9 */
-dm_status dm_set_pose(dm_world *world, dm_handle body, dm_vec at, dm_rot facing);      /* 2, 5 */
-dm_status dm_set_velocity(dm_world *world, dm_handle body, dm_vec velocity, int64_t spin); /* of a kinematic body. 2, 15, 8, 5 */
-dm_status dm_set_gravity(dm_world *world, dm_vec gravity);                             /* 5 */
-dm_status dm_disable(dm_world *world, dm_handle body);                                 /* 2, 8 */
-dm_status dm_enable(dm_world *world, dm_handle body);                                  /* 2 */
-dm_status dm_wake(dm_world *world, dm_handle body);                                    /* 2, 6, 8 */
-dm_status dm_sleep(dm_world *world, dm_handle body);                                   /* 2, 6, 8 */
-dm_status dm_step(dm_world *world, int64_t ticks, uint64_t *step);                     /* 1 to 8 ticks; *step: its number, from 1. 5.
+DM_KEEP dm_status dm_create_body(dm_world *world, const dm_body_def *def, const dm_shape *shapes, size_t shapes_len, dm_handle *made); /* 33, 4, 5, 3 */
+dm_status dm_destroy_body(dm_world *world, dm_handle body);                                   /* with its joints and, untold, its contacts. 2 */
+DM_KEEP dm_status dm_create_joint(dm_world *world, const dm_joint_def *def, dm_handle *made); /* 2, 7, 8, 5, 3 */
+dm_status dm_destroy_joint(dm_world *world, dm_handle joint);                                 /* 2 */
+dm_status dm_push(dm_world *world, dm_handle body, dm_vec by);                                /* an impulse, on a mover, which wakes. 2, 6, 8, 5, 9 */
+dm_status dm_push_at(dm_world *world, dm_handle body, dm_vec by, dm_vec offset);              /* at an offset from the centre. 2, 6, 8, 5, 9 */
+dm_status dm_set_pose(dm_world *world, dm_handle body, dm_vec at, dm_rot facing);             /* 2, 5 */
+dm_status dm_set_velocity(dm_world *world, dm_handle body, dm_vec velocity, int64_t spin);    /* of a kinematic body. 2, 15, 8, 5 */
+dm_status dm_set_gravity(dm_world *world, dm_vec gravity);                                    /* 5 */
+dm_status dm_disable(dm_world *world, dm_handle body);                                        /* 2, 8 */
+dm_status dm_enable(dm_world *world, dm_handle body);                                         /* 2 */
+dm_status dm_wake(dm_world *world, dm_handle body);                                           /* 2, 6, 8 */
+dm_status dm_sleep(dm_world *world, dm_handle body);                                          /* 2, 6, 8 */
+DM_KEEP dm_status dm_step(dm_world *world, int64_t ticks, uint64_t *step);                    /* 1 to 8 ticks; *step: its number, from 1. 5.
   * A world books what its momentum gains. A program calls dm_settle now and then, as after each step: that takes no memory, and changes
   * nothing that a call answers, nor the digest. Without it up to some hundred bytes are kept for each step. */
 
@@ -182,31 +195,33 @@ size_t dm_apply_all(dm_world *world, const dm_command *commands, size_t commands
                     dm_answer *answers, size_t answers_len);
 
 /* ---- reading: nothing changes. Each answers how many there are, and writes the first of them, as many as fit; the rest of `out` stays ---- */
-size_t dm_poses(dm_world *world, dm_pose *out, size_t out_len);      /* of the bodies, by slot */
-size_t dm_moved(dm_world *world, dm_pose *out, size_t out_len);      /* of those that a step may move: awake movers, kinematic bodies */
-size_t dm_begun(dm_world *world, dm_pair *out, size_t out_len);      /* the pairs that began to touch in the last step, ascending */
-size_t dm_ended(dm_world *world, dm_pair *out, size_t out_len);      /* those that ceased to touch */
-size_t dm_slept(dm_world *world, dm_handle *out, size_t out_len);    /* the bodies that fell asleep in the last step, ascending */
-size_t dm_woke(dm_world *world, dm_handle *out, size_t out_len);     /* those that woke */
-dm_status dm_body(dm_world *world, dm_handle body, dm_view *out);    /* 32, 2 */
-uint64_t dm_steps(dm_world *world);                                  /* how many steps were accepted */
-dm_vec dm_gravity(dm_world *world);
+size_t dm_poses(const dm_world *world, dm_pose *out, size_t out_len);           /* of the bodies, by slot */
+size_t dm_moved(const dm_world *world, dm_pose *out, size_t out_len);           /* of those that a step may move: awake movers, kinematic bodies */
+size_t dm_begun(const dm_world *world, dm_pair *out, size_t out_len);           /* the pairs that began to touch in the last step, ascending */
+size_t dm_ended(const dm_world *world, dm_pair *out, size_t out_len);           /* those that ceased to touch */
+size_t dm_slept(const dm_world *world, dm_handle *out, size_t out_len);         /* the bodies that fell asleep in the last step, ascending */
+size_t dm_woke(const dm_world *world, dm_handle *out, size_t out_len);          /* those that woke */
+DM_KEEP dm_status dm_body(const dm_world *world, dm_handle body, dm_view *out); /* 32, 2 */
+uint64_t dm_steps(const dm_world *world);                                       /* how many steps were accepted */
+dm_vec dm_gravity(const dm_world *world);
 
 /* ---- questions. What takes memory to find is kept in the world, and fetched by a second call ---- */
-dm_status dm_ray(dm_world *world, dm_vec from, dm_vec along, dm_hit *out);           /* the first shape on the way. 32, 5 */
-dm_status dm_region(dm_world *world, const dm_box *bounds, size_t *count);           /* the shapes over a region. 32, 5, 1 */
-size_t dm_region_found(dm_world *world, dm_shape_id *out, size_t out_len);           /* those that the last dm_region found, ascending */
-dm_status dm_contacts(dm_world *world, size_t *count);                               /* the contacts of near shapes. 32, 1 */
-size_t dm_contacts_listed(dm_world *world, dm_contact *out, size_t out_len);         /* those that the last dm_contacts found, ascending */
+DM_KEEP dm_status dm_ray(const dm_world *world, dm_vec from, dm_vec along, dm_hit *out); /* the first shape on the way. 32, 5 */
+DM_KEEP dm_status dm_region(dm_world *world, const dm_box *bounds, size_t *count);       /* the shapes over a region. 32, 5, 1 */
+size_t dm_region_found(const dm_world *world, dm_shape_id *out, size_t out_len);         /* those that the last dm_region found, ascending */
+DM_KEEP dm_status dm_contacts(dm_world *world, size_t *count);                           /* the contacts of near shapes. 32, 1 */
+size_t dm_contacts_listed(const dm_world *world, dm_contact *out, size_t out_len);       /* those that the last dm_contacts found, ascending */
 
 /* ---- keeping ---- */
-dm_status dm_save(dm_world *world, size_t *bytes);                                   /* the world as JSON, kept in it. 32, 1 */
-size_t dm_saved(dm_world *world, uint8_t *out, size_t out_len);                      /* the text of the last dm_save */
-dm_status dm_load(dm_world *world, const uint8_t *text, size_t text_len, uint32_t *clause); /* 35; 12, with the number of the clause; 1 */
+DM_KEEP dm_status dm_save(dm_world *world, size_t *bytes);                                          /* the world as JSON, kept in it. 32, 1 */
+size_t dm_saved(const dm_world *world, uint8_t *out, size_t out_len);                               /* the text of the last dm_save */
+DM_KEEP dm_status dm_load(dm_world *world, const uint8_t *text, size_t text_len, uint32_t *clause); /* 35; 12, with the number of the clause; 1 */
 #define DM_DIGEST_SIZE 32
-dm_status dm_digest(dm_world *world, uint8_t *out, size_t out_len);                  /* docs/WORLD.md says of what. 32, 1 */
+DM_KEEP dm_status dm_digest(const dm_world *world, uint8_t *out, size_t out_len); /* docs/WORLD.md says of what. 32, 1 */
 
 #ifdef __cplusplus
 }
 #endif
+
+#include "dillmonth_inline.h" /* defaults, units, ids and texts, which aren't calls of the library */
 #endif

@@ -1,6 +1,6 @@
 /* A game's loop over a world, in C: it prints what the program falling_game prints.
  *
- *     cc falling_game.c -I.. ../out/libdillmonth.a -o falling_game && ./falling_game
+ *     cc bindings/c/falling_game.c -Ibindings/c bindings/out/libdillmonth.a -o falling_game && ./falling_game
  */
 #include "dillmonth.h"
 #include <inttypes.h>
@@ -10,45 +10,38 @@
 enum { FLOOR, RAMP, BALL, STICK, COIN, LIFT, BODIES };
 static const char *const names[BODIES] = {"the floor", "the ramp", "the ball", "the stick", "the coin", "the lift"};
 
-static const int64_t METRE = 1 << 20, HALF = 1 << 19;
+static const int64_t METRE = DM_METRE, HALF = DM_METRE / 2;
 
 /* A refusal that the game doesn't reckon with ends it. */
 static void must(dm_status status) {
   if (status != DM_DONE) {
-    fprintf(stderr, "the world refused: %" PRIu32 "\n", status);
+    fprintf(stderr, "the world refused: %s\n", dm_status_text(status));
     exit(1);
   }
 }
 
-static dm_shape shape(uint32_t form, dm_vec first, dm_vec second, int64_t radius, int64_t friction) {
-  dm_shape made = {form, 0, first, second, radius, friction, 0, 1, UINT64_MAX};
-  return made;
-}
-
-static dm_handle add(dm_world *world, dm_body_def def, dm_shape form) {
-  dm_handle made = {0, 0};
-  must(dm_create_body(world, &def, &form, 1, &made));
+static dm_handle add(dm_world *world, dm_body_def def, dm_shape shape, double friction) {
+  dm_handle made = DM_NOBODY;
+  shape.friction = dm_share(friction);
+  must(dm_add_body(world, def, shape, &made));
   return made;
 }
 
 static void make_scene(dm_world *world, dm_handle cast[BODIES]) {
-  const dm_rot upright = {1 << 30, 0}, slope = {1030792151, -300647711};
-  const dm_vec none = {0, 0};
-  dm_body_def floor = {DM_STATIC, 0, {0, 0}, upright, 0, 0, none, 0};
-  dm_body_def ramp = {DM_STATIC, 0, {-4 * METRE, 2 * METRE}, slope, 0, 0, none, 0};
-  dm_body_def ball = {DM_DYNAMIC, 0, {-5 * METRE, 4 * METRE}, upright, 201, 27625229647872, none, 0};
-  dm_body_def stick = {DM_DYNAMIC, 0, {3 * METRE, 3 * METRE}, upright, 77, 10585347671942, none, 0};
-  dm_body_def coin = {DM_DYNAMIC, 0, {0, METRE / 8}, upright, 13, 111669149696, none, 0};
-  dm_body_def lift = {DM_KINEMATIC, 0, {0, 6 * METRE}, upright, 0, 0, {4369, 0}, 0};
-  dm_body_def movers[3] = {ball, stick, coin};
+  const int64_t density = DM_KILOGRAM; /* a square metre */
+  const dm_shape bar = dm_capsule_shape((dm_vec){-HALF, 0}, (dm_vec){HALF, 0}, HALF / 4);
+  dm_body_def ramp = dm_static_def(dm_at(-4, 2));
+  ramp.facing = (dm_rot){1030792151, -300647711};
+  dm_body_def movers[3] = {dm_dynamic_def(dm_at(-5, 4), dm_circle_mass(HALF, density)), dm_dynamic_def(dm_at(3, 3), dm_capsule_mass(HALF, HALF / 4, density)),
+                           dm_dynamic_def(dm_at(0, 0.125), dm_circle_mass(HALF / 4, density))};
   for (int i = 0; i < 3; i++)
     printf("%s has the mass %" PRId64 " and the inertia %" PRId64 "\n", names[BALL + i], movers[i].mass, movers[i].inertia);
-  cast[FLOOR] = add(world, floor, shape(DM_SEGMENT, (dm_vec){-16 * HALF, 0}, (dm_vec){16 * HALF, 0}, 0, 128));
-  cast[RAMP] = add(world, ramp, shape(DM_SEGMENT, (dm_vec){-4 * HALF, 0}, (dm_vec){4 * HALF, 0}, 0, 128));
-  cast[BALL] = add(world, ball, shape(DM_CIRCLE, none, none, HALF, 128));
-  cast[STICK] = add(world, stick, shape(DM_CAPSULE, (dm_vec){-HALF, 0}, (dm_vec){HALF, 0}, HALF / 4, 128));
-  cast[COIN] = add(world, coin, shape(DM_CIRCLE, none, none, HALF / 4, 0));
-  cast[LIFT] = add(world, lift, shape(DM_CAPSULE, (dm_vec){-HALF, 0}, (dm_vec){HALF, 0}, HALF / 4, 128));
+  cast[FLOOR] = add(world, dm_static_def(dm_at(0, 0)), dm_segment_shape(dm_at(-8, 0), dm_at(8, 0)), 0.5);
+  cast[RAMP] = add(world, ramp, dm_segment_shape(dm_at(-2, 0), dm_at(2, 0)), 0.5);
+  cast[BALL] = add(world, movers[0], dm_circle_shape(HALF), 0.5);
+  cast[STICK] = add(world, movers[1], bar, 0.5);
+  cast[COIN] = add(world, movers[2], dm_circle_shape(HALF / 4), 0);
+  cast[LIFT] = add(world, dm_kinematic_def(dm_at(0, 6), dm_velocity(1, 0, DM_RATE)), bar, 0.5);
 }
 
 static const char *name_of(const dm_handle cast[BODIES], uint32_t slot) {
@@ -99,16 +92,14 @@ static void show_all(dm_world *world, const dm_handle cast[BODIES]) {
 }
 
 int main(void) {
-  dm_world world = DM_NONE;
+  dm_world world;
   dm_handle cast[BODIES];
-  uint64_t step = 0;
   if (dm_version() != DM_VERSION) return 2;
-  must(dm_open(&world, (dm_vec){0, -179}));
+  must(dm_new(&world, dm_gravity_of(0, -9.81, DM_RATE)));
   make_scene(&world, cast);
   for (int frame = 1; frame <= 240; frame++) {
     control(&world, cast, frame);
-    must(dm_step(&world, 4, &step));
-    must(dm_settle(&world));
+    must(dm_advance(&world, 4));
     hear(&world, cast, frame);
     if (frame % 40 == 0) {
       printf("%d:\n", frame);
