@@ -3,38 +3,34 @@
 #[path = "../rust/dillmonth.rs"]
 mod dillmonth;
 
-use dillmonth::{Box2, Command, Form, Handle, Joint, Kind, Refused, Reply, Rot, Set, Shape, UPRIGHT, Vec2, World};
-
-const METRE: i64 = 1 << 20;
-const NOBODY: Handle = Handle { slot: 0, generation: 0 };
+use dillmonth::{gravity, BodyDef, BodyId, Box2, Command, Joint, Mass, Refused, Reply, Rot, Set, Shape, Vec2, World, METRE, NOBODY, RATE, UPRIGHT};
+use std::collections::{BTreeSet, HashMap};
 
 fn at(x: i64, y: i64) -> Vec2 {
     Vec2 { x, y }
 }
 
 fn circle(radius: i64) -> Shape {
-    Shape::new(Form::Circle { center: at(0, 0), radius }).friction(128)
+    Shape::circle(radius).friction(0.5)
 }
 
 struct Scene {
     world: World,
-    balls: Vec<Handle>,
-    platform: Handle,
+    balls: Vec<BodyId>,
+    platform: BodyId,
 }
 
 fn make_scene() -> Result<Scene, Refused> {
-    let mut world = World::new(at(0, -179))?;
-    let floor = Shape::new(Form::Segment { first: at(-8 * METRE, 0), second: at(8 * METRE, 0) }).friction(128);
-    world.create_body(Kind::Static, at(0, 0), UPRIGHT, &[floor])?;
+    let mut world = World::new(gravity(0.0, -9.81, RATE))?;
+    let floor = Shape::segment(at(-8 * METRE, 0), at(8 * METRE, 0)).friction(0.5);
+    world.create_body(&BodyDef::fixed(at(0, 0)), &[floor])?;
     let mut balls = Vec::new();
     for i in 0..5 {
-        let kind = Kind::Dynamic { mass: 200, inertia: 27_000_000_000_000 };
-        balls.push(world.create_body(kind, at((i - 2) * METRE + i * 1000, METRE), UPRIGHT, &[circle(METRE / 2)])?);
+        let mass = Mass { mass: 200, inertia: 27_000_000_000_000 };
+        balls.push(world.create_body(&BodyDef::dynamic(at((i - 2) * METRE + i * 1000, METRE), mass), &[circle(METRE / 2)])?);
     }
-    let capsule = Form::Capsule { first: at(-METRE, 0), second: at(METRE, 0), radius: METRE / 4 };
-    let capsule = Shape { restitution: 64, ..Shape::new(capsule).friction(128) };
-    let lift = Kind::Kinematic { velocity: at(1000, 0), spin: 0 };
-    let platform = world.create_body(lift, at(0, 6 * METRE), UPRIGHT, &[capsule])?;
+    let capsule = Shape::capsule(at(-METRE, 0), at(METRE, 0), METRE / 4).friction(0.5).restitution(0.25);
+    let platform = world.create_body(&BodyDef::kinematic(at(0, 6 * METRE), at(1000, 0)), &[capsule])?;
     Ok(Scene { world, balls, platform })
 }
 
@@ -51,16 +47,8 @@ fn play(world: &mut World, count: usize) -> Result<(), Refused> {
     Ok(())
 }
 
-fn number_of(refused: Refused) -> u32 {
-    match refused {
-        Refused::StaleHandle => 2,
-        Refused::BadFile(_) => 12,
-        other => panic!("{other}"),
-    }
-}
-
-fn text_of(handle: Handle) -> String {
-    format!("{}.{}", handle.slot, handle.generation)
+fn text_of(packed: u64) -> String {
+    format!("{}.{}", packed as u32, packed >> 32)
 }
 
 fn command_each(scene: &mut Scene) -> Result<(), Refused> {
@@ -69,24 +57,24 @@ fn command_each(scene: &mut Scene) -> Result<(), Refused> {
     let made = world.create_joint(&Joint { a: (balls[0], anchor), b: (balls[1], anchor), length: METRE, collide: true })?;
     world.push(balls[2], at(20_000, 40_000))?;
     world.push_at(balls[3], at(1000, 0), at(0, METRE / 4))?;
-    world.set_pose(balls[4], at(3 * METRE, 5 * METRE), Rot { c: 0, s: 1 << 30 })?;
+    world.set_pose(balls[4], at(3 * METRE, 5 * METRE), Rot::degrees(90.0))?;
     world.set_velocity(*platform, at(2000, 0), 1000)?;
     world.set_gravity(at(0, -157))?;
     world.disable(balls[1])?;
     world.enable(balls[1])?;
     world.sleep(balls[3])?;
     world.wake(balls[3])?;
-    let refused = world.push(NOBODY, at(1, 1)).map_or_else(number_of, |()| 0);
-    println!("joint {}, refused {refused}", text_of(made));
+    let refused = world.push(NOBODY, at(1, 1)).map_or_else(Refused::status, |()| 0);
+    println!("joint {}, refused {refused}", text_of(made.packed()));
     Ok(())
 }
 
 fn command_all(scene: &mut Scene) -> Result<(), Refused> {
     let Scene { world, balls, platform } = scene;
-    let kind = Kind::Dynamic { mass: 50, inertia: 1_000_000_000_000 };
-    let joint = Joint { a: (balls[2], at(0, 0)), b: (balls[3], at(0, 0)), length: 2 * METRE, collide: false };
+    let body = BodyDef::dynamic(at(-4 * METRE, 3 * METRE), Mass { mass: 50, inertia: 1_000_000_000_000 });
+    let joint = Joint::between(balls[2], balls[3], 2 * METRE);
     let answers = world.apply_all(&[
-        Command::CreateBody { kind, at: at(-4 * METRE, 3 * METRE), facing: UPRIGHT, shapes: &[circle(METRE / 4)] },
+        Command::CreateBody { body, shapes: &[circle(METRE / 4)] },
         Command::Push(NOBODY, at(0, 0)),
         Command::CreateJoint(joint),
         Command::SetPose { body: balls[0], at: at(-6 * METRE, 2 * METRE), facing: UPRIGHT },
@@ -94,22 +82,26 @@ fn command_all(scene: &mut Scene) -> Result<(), Refused> {
         Command::DestroyBody(balls[4]),
         Command::Step(4),
     ]);
-    let [Ok(Reply::Body(body)), Err(refused), Ok(Reply::Joint(joint)), Ok(Reply::Done), Ok(Reply::Done), Ok(Reply::Done), Ok(Reply::Step(step))] = answers[..] else {
-        panic!("{answers:?}");
+    let (body, refused, joint, step) = match answers[..] {
+        [Ok(Reply::Body(body)), Err(refused), Ok(Reply::Joint(joint)), Ok(Reply::Done), Ok(Reply::Done), Ok(Reply::Done), Ok(Reply::Step(step))] => (body, refused, joint, step),
+        _ => panic!("{answers:?}"),
     };
-    println!("a body {}, a joint {}, step {step}, refused {}", text_of(body), text_of(joint), number_of(refused));
+    println!("a body {}, a joint {}, step {step}, refused {}", text_of(body.packed()), text_of(joint.packed()), refused.status());
     world.destroy_joint(joint)?;
     world.destroy_body(body)
 }
 
-fn look(scene: &mut Scene) -> Result<(), Refused> {
+fn look(scene: &Scene) -> Result<(), Refused> {
     let Scene { world, balls, .. } = scene;
+    let world: &World = world; // each question takes a shared reference
     let contacts = world.contacts()?;
     let points: u32 = contacts.iter().map(|contact| contact.points).sum();
     let found = world.region(Box2 { lo: at(-9 * METRE, -METRE), hi: at(0, 9 * METRE) })?.len();
     let (shape, fraction) = world.ray(at(0, 20 * METRE), at(0, -40 * METRE))?.expect("the ray hits");
     let view = world.body(balls[2]).expect("the body is there");
     assert!(world.body(balls[4]).is_none());
+    let names: HashMap<BodyId, usize> = balls.iter().copied().zip(0..).collect();
+    assert_eq!((names[&balls[2]], balls.iter().collect::<BTreeSet<_>>().len()), (2, 5));
     let (poses, moved) = (world.poses().len(), world.moved().len());
     println!("{poses} poses, {moved} moved, {} contacts of {points} points, {found} in a region", contacts.len());
     println!("a ray hits {}.{} at {fraction}", shape.slot, shape.index);
@@ -119,14 +111,14 @@ fn look(scene: &mut Scene) -> Result<(), Refused> {
     Ok(())
 }
 
-fn keep(mut world: World) -> Result<(), Refused> {
+fn keep(world: World) -> Result<(), Refused> {
     let digest = world.digest()?;
     let text = world.save()?;
     assert_eq!(World::load(&text)?.digest()?, digest);
-    assert_eq!(world.copy()?.digest()?, digest);
-    let Err(refused) = World::load("{}") else { panic!("that is no world") };
-    let Refused::BadFile(clause) = refused else { panic!("{refused}") };
-    println!("{} bytes, refused {} by clause {clause}", text.len(), number_of(refused));
+    assert_eq!(world.try_clone()?.digest()?, digest);
+    let refused = World::load("{}").err().expect("that is no world");
+    let clause = if let Refused::BadFile(clause) = refused { clause } else { 0 };
+    println!("{} bytes, refused {} by clause {clause}", text.len(), refused.status());
     println!("{}", digest.map(|byte| format!("{byte:02x}")).concat());
     Ok(())
 }
