@@ -1,26 +1,44 @@
-"""dillmonth.py: worlds of rigid bodies for Python, over libdillmonth.so.
+"""Worlds of rigid bodies for Python, over libdillmonth.so (dillmonth.dll, libdillmonth.dylib).
 
-    import dillmonth
-    world = dillmonth.World((0, -179))
-    ball = world.create_body(dillmonth.Body.dynamic((0, 1 << 20), 201, 27625229647872), [dillmonth.circle(1 << 19)])
-    world.step(4)
-    for pose in world.poses():
-        print(pose.handle.slot, pose.at.x, pose.at.y)
+    from dillmonth import Body, World, at, circle, circle_mass, gravity, in_metres, metres, segment, share
 
-Needs Python 3.8 and nothing else. The library is looked for in the environment variable DILLMONTH, beside this file, and in out/ there.
-A refused call raises `Refused`, and has changed nothing. Lists of poses, events and contacts come as ctypes arrays, which NumPy takes as they
-are: `numpy.frombuffer(world.poses(), dtype=dillmonth.POSE)`. A call takes one to three microseconds: many commands go best by `apply_all`.
+    with World(gravity(0, -9.81)) as world:
+        world.create_body(Body.static(), [segment(at(-8, 0), at(8, 0))])
+        ball = world.create_body(Body.dynamic(at(0, 4), *circle_mass(metres(0.5))), [circle(metres(0.5), restitution=share(0.75))])
+        for frame in range(240):
+            for tick in range(4):
+                world.step(1)
+            print(in_metres(world.body(ball).pose.at.y))
+
+It needs Python 3.8 and nothing else. The library is looked for in the environment variable DILLMONTH, beside this file, and where `bindings/build`
+leaves it.
+
+- A refused call raises `Refused`, and has changed nothing. A number that doesn't fit its bits raises OverflowError, before it could wrap.
+- An id that names nothing any more: a question about it answers None, and a command is refused with STALE_HANDLE.
+- Lists of poses, events and contacts come as ctypes arrays, which NumPy takes as they are: `numpy.frombuffer(world.poses(), dtype=dillmonth.POSE)`.
+- A call takes some microseconds. Many commands go best by `apply_all`, which takes NumPy arrays too.
+- Threads: each world has a lock, so calls of one world come one after another. Steps of several worlds run at once, since the call lets go of
+  Python's own lock. A question that is answered in several calls, as a loop over `poses`, isn't one call.
+- Worlds can be copied (`copy.deepcopy`) and pickled, as the text of `save`: so they go to other processes.
 """
 
 import ctypes
+import functools
+import operator
 import os
+import platform
+import sys
+import threading
 from ctypes import POINTER, byref, c_int32, c_int64, c_size_t, c_uint8, c_uint32, c_uint64
 from enum import IntEnum
 from pathlib import Path
+from typing import Any, Dict, Iterator, NamedTuple, Optional, Sequence, Tuple, Union
 
-VERSION = 1
+VERSION = 1  # of the calls
+RATE = 240  # ticks a second, on all pages: a frame of 60 a second is four steps of one tick. A world doesn't know it
 METRE = 1 << 20
-ONE = 1 << 30
+ONE = 1 << 30  # a cosine or a sine of 1
+KILOGRAM = 256  # the choice of these helpers for the unit of mass, which is free
 ALL = (1 << 64) - 1
 
 
@@ -44,36 +62,167 @@ class Status(IntEnum):
     BAD_TEXT = 35
 
 
-class Refused(Exception):
-    """A call was refused, and has changed nothing."""
+class Kind(IntEnum):
+    """Of a body."""
 
-    def __init__(self, status, clause=0):
-        self.status, self.clause = Status(status), clause
-        super().__init__(f"{self.status.name} ({int(status)})" + (f", clause {clause}" if clause else ""))
+    STATIC = 0
+    KINEMATIC = 1
+    DYNAMIC = 2
+
+
+class Form(IntEnum):
+    """Of a shape. Segments are for static bodies."""
+
+    CIRCLE = 0
+    CAPSULE = 1
+    SEGMENT = 2
+
+
+class Set(IntEnum):
+    """In which a body is."""
+
+    STATIC = 0
+    DISABLED = 1
+    AWAKE = 2
+    ASLEEP = 3
+
+
+class Do(IntEnum):
+    """The kind of a command, and what it takes; `joint.a` is the body of all but joints."""
+
+    CREATE_BODY = 0  # body, shapes_from, shapes_count
+    DESTROY_BODY = 1  # joint.a
+    CREATE_JOINT = 2  # joint
+    DESTROY_JOINT = 3  # joint.a is the joint
+    PUSH = 4  # joint.a, by
+    PUSH_AT = 5  # joint.a, by, offset
+    SET_POSE = 6  # joint.a, body.at, body.facing
+    SET_VELOCITY = 7  # joint.a, body.velocity, body.spin
+    SET_GRAVITY = 8  # by
+    DISABLE = 9  # joint.a
+    ENABLE = 10  # joint.a
+    WAKE = 11  # joint.a
+    SLEEP = 12  # joint.a
+    STEP = 13  # ticks
+
+
+TEXTS = {
+    Status.NO_MEMORY: "there is no memory",
+    Status.STALE_HANDLE: "the id names nothing that lives",
+    Status.TOO_MANY: "no slot can be given out",
+    Status.BAD_SHAPE: "no shape or more than eight, or one that isn't allowed",
+    Status.OUT_OF_RANGE: "a number is outside its limit",
+    Status.NOT_A_MOVER: "the body isn't dynamic",
+    Status.SAME_BODY: "both ends of the joint are one body",
+    Status.BODY_DISABLED: "the body is disabled",
+    Status.TOO_FAST: "the momentum would come beyond its limit",
+    Status.WORN_OUT: "the world has accepted all the calls that it may",
+    Status.BAD_FILE: "the saved world breaks a clause of its format",
+    Status.NOT_KINEMATIC: "the body isn't kinematic",
+    Status.NO_WORLD: "there is no world: it was closed",
+    Status.BAD_KIND: "a kind or a form that is none",
+    Status.BAD_SPAN: "the command names shapes beyond those of the batch",
+    Status.BAD_TEXT: "the text is no JSON",
+}
+
+
+class Refused(Exception):
+    """A call was refused, and has changed nothing. `status` says why; `clause` is the one that a saved world breaks, or 0."""
+
+    def __init__(self, status: int, clause: int = 0) -> None:
+        known = status in Status._value2member_map_
+        self.status: Union[Status, int] = Status(status) if known else status
+        self.clause = clause
+        name = f"{self.status.name} ({int(status)}): {TEXTS.get(self.status, '')}" if known else str(status)
+        super().__init__(name + (f", clause {clause}" if clause else ""))
+
+    def __reduce__(self) -> Tuple[Any, ...]:
+        return Refused, (int(self.status), self.clause)
+
+
+LIMITS = {c_int32: (-(1 << 31), (1 << 31) - 1), c_int64: (-(1 << 63), (1 << 63) - 1), c_uint32: (0, (1 << 32) - 1), c_uint64: (0, (1 << 64) - 1)}
+
+
+def fitting(value: Any, form: Any, name: str) -> int:
+    """A whole number that fits the bits of a form of ctypes, which by itself would let it wrap."""
+    low, high = LIMITS[form]
+    number = operator.index(value)
+    if not low <= number <= high:
+        raise OverflowError(f"{name} is {number}, which isn't {low} to {high}")
+    return number
 
 
 class Struct(ctypes.Structure):
-    def __repr__(self):
+    """A struct of the library. Its numbers are tested as they are set; two are equal where all their bytes are."""
+
+    _limited_: Dict[str, Any] = {}
+
+    def __init_subclass__(cls, **named: Any) -> None:
+        super().__init_subclass__(**named)
+        cls._limited_ = {name: form for name, form in cls.__dict__.get("_fields_", ()) if form in LIMITS}
+
+    def __setattr__(self, name: str, value: Any) -> None:
+        form = self._limited_.get(name)
+        super().__setattr__(name, value if form is None else fitting(value, form, f"{type(self).__name__}.{name}"))
+
+    def __eq__(self, other: object) -> bool:
+        return type(self) is type(other) and bytes(self) == bytes(other)  # type: ignore[call-overload]
+
+    def __hash__(self) -> int:
+        return hash(bytes(self))  # type: ignore[call-overload]
+
+    def __repr__(self) -> str:
         return f"{type(self).__name__}({', '.join(f'{name}={getattr(self, name)!r}' for name, *_ in self._fields_)})"
 
+    def __reduce__(self) -> Tuple[Any, ...]:
+        return type(self).from_buffer_copy, (bytes(self),)  # type: ignore[call-overload]
 
-class Vec(Struct):
+
+class Numbers(Struct):
+    """A struct of numbers alone, which can be taken apart: `x, y = vec`."""
+
+    def __iter__(self) -> Iterator[int]:
+        return (getattr(self, name) for name, *_ in self._fields_)
+
+
+class Vec(Numbers):
+    """A place or a way in u, or a velocity in u/tick."""
+
     _fields_ = [("x", c_int64), ("y", c_int64)]
 
 
-class Rot(Struct):
+class Rot(Numbers):
+    """A facing: cosine and sine of the turn, times 2^30."""
+
     _fields_ = [("c", c_int64), ("s", c_int64)]
 
 
-class Handle(Struct):
+class Handle(Numbers):
+    """The id of a body or of a joint: numbers alone, so in another world it means what has these numbers there. It can be a key of a dict."""
+
     _fields_ = [("slot", c_uint32), ("generation", c_uint32)]
 
+    def packed(self) -> int:
+        """In one number: the slot, and the generation times 2^32."""
+        return self.generation << 32 | self.slot
 
-class ShapeId(Struct):
+    @classmethod
+    def unpacked(cls, packed: int) -> "Handle":
+        return cls(packed & 0xFFFFFFFF, packed >> 32)
+
+
+NOBODY = Handle(0, 0)
+
+
+class ShapeId(Numbers):
+    """The slot of a body, and the place among its shapes."""
+
     _fields_ = [("slot", c_uint32), ("index", c_uint32)]
 
 
-class Pair(Struct):
+class Pair(Numbers):
+    """Two shapes, the lesser first."""
+
     _fields_ = [("first", ShapeId), ("second", ShapeId)]
 
 
@@ -81,7 +230,13 @@ class Box(Struct):
     _fields_ = [("lo", Vec), ("hi", Vec)]
 
 
+Place = Union[Vec, Sequence[int]]
+Turn = Union[Rot, Sequence[int]]
+
+
 class Shape(Struct):
+    """A shape of a body: friction and restitution in 256ths. `circle`, `capsule` and `segment` make them."""
+
     _fields_ = [("form", c_uint32), ("group", c_int32), ("first", Vec), ("second", Vec), ("radius", c_int64),
                 ("friction", c_int64), ("restitution", c_int64), ("category", c_uint64), ("mask", c_uint64)]
 
@@ -93,20 +248,20 @@ class Body(Struct):
                 ("velocity", Vec), ("spin", c_int64)]
 
     @classmethod
-    def static(cls, at=(0, 0), facing=(ONE, 0)):
-        return cls(0, 0, at, facing)
+    def static(cls, at: Place = (0, 0), facing: Turn = (ONE, 0)) -> "Body":
+        return cls(Kind.STATIC, 0, tuple(at), tuple(facing))
 
     @classmethod
-    def kinematic(cls, at=(0, 0), velocity=(0, 0), spin=0, facing=(ONE, 0)):
-        return cls(1, 0, at, facing, 0, 0, velocity, spin)
+    def kinematic(cls, at: Place = (0, 0), velocity: Place = (0, 0), spin: int = 0, facing: Turn = (ONE, 0)) -> "Body":
+        return cls(Kind.KINEMATIC, 0, tuple(at), tuple(facing), 0, 0, tuple(velocity), spin)
 
     @classmethod
-    def dynamic(cls, at, mass, inertia, facing=(ONE, 0)):
-        return cls(2, 0, at, facing, mass, inertia)
+    def dynamic(cls, at: Place, mass: int, inertia: int, facing: Turn = (ONE, 0)) -> "Body":
+        return cls(Kind.DYNAMIC, 0, tuple(at), tuple(facing), mass, inertia)
 
 
 class Joint(Struct):
-    """A joint to be made."""
+    """A joint to be made: each body with its anchor in the body's own axes."""
 
     _fields_ = [("a", Handle), ("b", Handle), ("from_", Vec), ("to", Vec), ("length", c_int64), ("collide", c_uint32), ("unused", c_uint32)]
 
@@ -116,11 +271,13 @@ class Pose(Struct):
 
 
 class View(Struct):
+    """What is seen of a body: its pose, the momentum `p`, the angular momentum `l`, and of a kinematic body velocity and spin."""
+
     _fields_ = [("pose", Pose), ("p", Vec), ("l_low", c_uint64), ("l_high", c_int64), ("velocity", Vec), ("spin", c_int64),
                 ("set", c_uint32), ("island", c_uint32)]
 
     @property
-    def l(self):
+    def l(self) -> int:  # noqa: E743
         """The angular momentum."""
         return (self.l_high << 64) + self.l_low
 
@@ -135,41 +292,194 @@ class Hit(Struct):
 
 
 class Command(Struct):
+    """A command of a batch. `Do` says what each kind takes; the rest isn't read."""
+
     _fields_ = [("kind", c_uint32), ("shapes_from", c_uint32), ("shapes_count", c_uint32), ("unused", c_uint32), ("body", Body),
                 ("joint", Joint), ("by", Vec), ("offset", Vec), ("ticks", c_int64)]
 
 
 class Answer(Struct):
+    """To a command of a batch."""
+
     _fields_ = [("status", c_uint32), ("unused", c_uint32), ("made", Handle), ("step", c_uint64)]
 
 
-# The fields of a pose for NumPy: `numpy.dtype(POSE)`.
+# The fields of lists for NumPy: `numpy.dtype(POSE)`. A pose's are flat, all others as the structs are.
 POSE = [("slot", "<u4"), ("generation", "<u4"), ("x", "<i8"), ("y", "<i8"), ("c", "<i8"), ("s", "<i8")]
 
 
-def circle(radius, center=(0, 0), friction=0, restitution=0, group=0, category=1, mask=ALL):
-    return Shape(0, group, center, (0, 0), radius, friction, restitution, category, mask)
+def fields_of(form: Any) -> Any:
+    """The fields of a struct as NumPy takes them: numpy.dtype(fields_of(Command))."""
+    names = {c_uint32: "<u4", c_int32: "<i4", c_uint64: "<u8", c_int64: "<i8"}
+    return [(name, names[kind] if kind in names else fields_of(kind)) for name, kind in form._fields_]
 
 
-def capsule(first, second, radius, friction=0, restitution=0, group=0, category=1, mask=ALL):
-    return Shape(1, group, first, second, radius, friction, restitution, category, mask)
+HANDLE, PAIR, CONTACT, COMMAND, ANSWER, SHAPE = map(fields_of, (Handle, Pair, Contact, Command, Answer, Shape))
 
 
-def segment(first, second, friction=0, restitution=0, group=0, category=1, mask=ALL):
-    return Shape(2, group, first, second, 0, friction, restitution, category, mask)
+# ---- units: each is one rounding, to the nearest and halves away from zero, so that peers with the same numbers get the same ones ----
+
+
+def nearest(value: float) -> int:
+    whole = int(value)
+    rest = value - whole
+    return whole + (rest >= 0.5) - (rest <= -0.5)
+
+
+def metres(value: float) -> int:
+    """Metres in u."""
+    return nearest(value * 1048576.0)
+
+
+def in_metres(u: int) -> float:
+    """u in metres, to draw."""
+    return u / 1048576.0
+
+
+def at(x: float, y: float) -> Vec:
+    """A place or a way that is given in metres."""
+    return Vec(metres(x), metres(y))
+
+
+def kilograms(value: float) -> int:
+    return nearest(value * 256.0)
+
+
+def share(value: float) -> int:
+    """A share of 1 in 256ths: of friction and restitution."""
+    return nearest(value * 256.0)
+
+
+def ticks(seconds: float, rate: int = RATE) -> int:
+    return nearest(seconds * float(rate))
+
+
+def speed(metres_a_second: float, rate: int = RATE) -> int:
+    """Metres a second in u/tick."""
+    return nearest(metres_a_second * 1048576.0 / rate)
+
+
+def velocity(x: float, y: float, rate: int = RATE) -> Vec:
+    """Metres a second in u/tick."""
+    return Vec(speed(x, rate), speed(y, rate))
+
+
+def gravity(x: float, y: float, rate: int = RATE) -> Vec:
+    """Metres a second a second in u/tick²."""
+    square = float(rate) * rate
+    return Vec(nearest(x * 1048576.0 / square), nearest(y * 1048576.0 / square))
+
+
+def push_of(mass: int, x: float, y: float, rate: int = RATE) -> Vec:
+    """The push that gives a body of this mass so much of a velocity, which is in metres a second."""
+    return Vec(nearest(float(mass) * (x * 1048576.0) / rate), nearest(float(mass) * (y * 1048576.0) / rate))
+
+
+def spin(degrees_a_second: float, rate: int = RATE) -> int:
+    """Degrees a second as a spin of a kinematic body."""
+    return nearest(degrees_a_second * 18740330.145169 / rate)
+
+
+EIGHTH = 45 << 32
+COSINE = (4294967296, 1324675879, 68093890, 1400124, 15423, 106)
+SINE = (3373259426, 346799334, 10696163, 157094, 1346, 8)
+
+
+def eighth(part: int, terms: Sequence[int]) -> int:
+    """An eighth of a turn times `part`, which is in 2^31sts: its cosine or sine in 2^32nds, by Taylor's series with these terms."""
+    square, total = part * part >> 31, terms[5]
+    for term in terms[4::-1]:
+        total = term - (total * square >> 31)
+    return total
+
+
+def degrees(turn: float) -> Rot:
+    """The facing of a turn by so many degrees, counterclockwise: each part is the nearest whole number or next to it."""
+    angle = int(float(turn) * 4294967296.0) % (8 * EIGHTH)
+    quarter = (angle + EIGHTH) // (2 * EIGHTH)
+    rest = angle - quarter * 2 * EIGHTH
+    part = (abs(rest) + 45) // 90
+    c, s = eighth(part, COSINE) + 2 >> 2, (eighth(part, SINE) * part >> 31) + 2 >> 2
+    s = -s if rest < 0 else s
+    return (Rot(c, s), Rot(-s, c), Rot(-c, -s), Rot(s, -c))[quarter % 4]
+
+
+# ---- definitions ----
+
+
+def circle(radius: int, center: Place = (0, 0), friction: int = 0, restitution: int = 0, group: int = 0, category: int = 1, mask: int = ALL) -> Shape:
+    return Shape(Form.CIRCLE, group, tuple(center), (0, 0), radius, friction, restitution, category, mask)
+
+
+def capsule(first: Place, second: Place, radius: int, friction: int = 0, restitution: int = 0, group: int = 0, category: int = 1, mask: int = ALL) -> Shape:
+    return Shape(Form.CAPSULE, group, tuple(first), tuple(second), radius, friction, restitution, category, mask)
+
+
+def segment(first: Place, second: Place, friction: int = 0, restitution: int = 0, group: int = 0, category: int = 1, mask: int = ALL) -> Shape:
+    return Shape(Form.SEGMENT, group, tuple(first), tuple(second), 0, friction, restitution, category, mask)
+
+
+class Mass(NamedTuple):
+    """What a dynamic body weighs, and its inertia about its centre in mass·u²."""
+
+    mass: int
+    inertia: int
+
+
+UNDER = 113 << 40  # 2^40 square u are a square metre, and π is 355/113
+
+
+def circle_mass(radius: int, density: int = KILOGRAM) -> Mass:
+    """Of a disc: density·π·r², and mass·r²/2. The density is mass a square metre. Refused OUT_OF_RANGE for a radius beyond 2^24 u, a density beyond 32 bits,
+    a mass that isn't 1 to 2^20, or an inertia beyond 2^60."""
+    fit(density, radius)
+    square = radius * radius
+    return mass_within((2 * 355 * density * square + UNDER) // (2 * UNDER), 2 * square, 2)
+
+
+def capsule_mass(half: int, radius: int, density: int = KILOGRAM) -> Mass:
+    """Of a capsule whose core is `half` long to either side of the body's centre: density·(4·r·h + π·r²), and
+    mass·(8·h·(h² + 3·r²) + 3·π·r·(r² + 2·h²)) / (6·(4·h + π·r)). Refused as `circle_mass`."""
+    fit(density, half, radius)
+    if radius == 0:
+        raise Refused(Status.OUT_OF_RANGE)
+    girth = 452 * half + 355 * radius
+    bulk = 904 * half * (half * half + 3 * radius * radius) + 1065 * radius * (radius * radius + 2 * half * half)
+    return mass_within((2 * radius * girth * density + UNDER) // (2 * UNDER), 2 * bulk, 6 * girth)
+
+
+def fit(density: int, *lengths: int) -> None:
+    if not 0 <= density < 1 << 32 or not all(0 <= length <= 1 << 24 for length in lengths):
+        raise Refused(Status.OUT_OF_RANGE)
+
+
+def mass_within(mass: int, twice_over: int, under: int) -> Mass:
+    inertia = (mass * twice_over + under) // (2 * under)
+    if not 1 <= mass <= 1 << 20 or inertia > 1 << 60:
+        raise Refused(Status.OUT_OF_RANGE)
+    return Mass(mass, inertia)
+
+
+# ---- the library ----
 
 
 class Held(ctypes.Structure):
     _fields_ = [("at", ctypes.c_void_p)]
 
 
-def find_library():
-    here = Path(__file__).resolve().parent
-    places = [os.environ.get("DILLMONTH"), here / "libdillmonth.so", here.parent / "out" / "libdillmonth.so"]
+def library_name() -> str:
+    return {"win32": "dillmonth.dll", "darwin": "libdillmonth.dylib"}.get(sys.platform, "libdillmonth.so")
+
+
+def find_library() -> str:
+    here, name = Path(__file__).resolve().parent, library_name()
+    processor = {"AMD64": "x86_64", "arm64": "aarch64"}.get(platform.machine(), platform.machine())
+    system = {"win32": "w64-mingw32", "darwin": "apple-macos"}.get(sys.platform, "linux-gnu")
+    places = [os.environ.get("DILLMONTH"), here / name, here.parent / "out" / name, here.parent / "lib" / f"{processor}-{system}" / name]
     for place in places:
         if place and Path(place).is_file():
             return str(place)
-    raise OSError("libdillmonth.so isn't there: build it by bindings/build")
+    raise OSError(f"{name} isn't there: a wheel has it, and bindings/build makes it")
 
 
 W, S, U32 = POINTER(Held), c_size_t, c_uint32
@@ -201,205 +511,268 @@ CALLS = {
 }
 
 
-def load_library(path=None):
+@functools.lru_cache(None)
+def load_library(path: Optional[str] = None) -> ctypes.CDLL:
+    """The library, which is looked for when the first world is made."""
     library = ctypes.CDLL(path or find_library())
     for name, (result, arguments) in CALLS.items():
         call = getattr(library, name)
         call.restype, call.argtypes = result, arguments
     if library.dm_version() != VERSION:
-        raise OSError("libdillmonth.so is of another version")
+        raise OSError(f"{library_name()} is of another version")
     return library
 
 
-LIBRARY = load_library()
-
-
-def vec(pair):
+def vec(pair: Place) -> Vec:
     return pair if isinstance(pair, Vec) else Vec(*pair)
 
 
-def array_of(form, items):
-    """An array for the library, and how many items there are."""
+def rot(pair: Turn) -> Rot:
+    return pair if isinstance(pair, Rot) else Rot(*pair)
+
+
+def array_of(form: Any, items: Any) -> Tuple[Any, int]:
+    """An array for the library, and how many items there are: of structs, a ctypes array or any buffer with the structs' bytes, as NumPy's."""
     if isinstance(items, ctypes.Array):
+        if items._type_ is not form:
+            raise TypeError(f"an array of {items._type_.__name__} isn't one of {form.__name__}")
         return items, len(items)
-    return (form * max(len(items), 1))(*items), len(items)
+    if isinstance(items, (list, tuple)):
+        return (form * max(len(items), 1))(*items), len(items)
+    with memoryview(items) as view:
+        count, rest = divmod(view.nbytes, ctypes.sizeof(form))
+        if rest or not view.c_contiguous:
+            raise ValueError(f"the buffer isn't one of {form.__name__}s, which have {ctypes.sizeof(form)} bytes each")
+        if view.readonly or not count:
+            return (form * max(count, 1)).from_buffer_copy(view.tobytes() or bytes(ctypes.sizeof(form))), count
+    return (form * count).from_buffer(items), count
 
 
-def must(status):
+def must(status: int, clause: int = 0) -> None:
     if status:
-        raise Refused(status)
+        raise Refused(status, clause)
 
 
 class World:
     """A world. It is closed when nothing names it any more, or by `close`, or at the end of a `with`."""
 
-    def __init__(self, gravity=(0, 0)):
-        self.held = Held()
-        must(LIBRARY.dm_open(byref(self.held), vec(gravity)))
+    def __init__(self, gravity: Place = (0, 0)) -> None:
+        self._begin()
+        must(self._ask(self._calls.dm_open, vec(gravity)))
+
+    def _begin(self) -> None:
+        self._calls, self._lock, self.held = load_library(), threading.RLock(), Held()
+
+    def _ask(self, call: Any, *values: Any) -> Any:
+        with self._lock:
+            return call(byref(self.held), *values)
 
     @classmethod
-    def load(cls, text):
+    def _none(cls) -> "World":
+        made = cls.__new__(cls)
+        made._begin()
+        return made
+
+    @classmethod
+    def load(cls, text: Union[str, bytes]) -> "World":
         """The world of a text that `save` made."""
         text = text.encode() if isinstance(text, str) else bytes(text)
-        made, clause = cls.__new__(cls), U32()
-        made.held = Held()
-        bytes_ = (c_uint8 * max(len(text), 1)).from_buffer_copy(text or b"\0")
-        status = LIBRARY.dm_load(byref(made.held), bytes_, len(text), byref(clause))
-        if status:
-            raise Refused(status, clause.value)
+        made, clause = cls._none(), U32()
+        given = (c_uint8 * max(len(text), 1)).from_buffer_copy(text or b"\0")
+        status = made._ask(made._calls.dm_load, given, len(text), byref(clause))
+        must(status, clause.value if status == Status.BAD_FILE else 0)
         return made
 
-    def copy(self):
-        made = type(self).__new__(type(self))
-        made.held = Held()
-        must(LIBRARY.dm_copy(byref(self.held), byref(made.held)))
+    def copy(self) -> "World":
+        """A world of its own that is the same."""
+        made = self._none()
+        must(self._ask(self._calls.dm_copy, byref(made.held)))
         return made
 
-    def close(self):
-        LIBRARY.dm_close(byref(self.held))
+    __copy__ = copy
 
-    def __enter__(self):
+    def __deepcopy__(self, known: Any) -> "World":
+        return self.copy()
+
+    def __reduce__(self) -> Tuple[Any, ...]:
+        return type(self).load, (self.save(),)
+
+    def close(self) -> None:
+        self._ask(self._calls.dm_close)
+
+    def __enter__(self) -> "World":
         return self
 
-    def __exit__(self, *_):
+    def __exit__(self, *_: Any) -> None:
         self.close()
 
-    def __del__(self):
-        if getattr(self, "held", None) is not None and LIBRARY is not None:
+    def __del__(self) -> None:
+        if getattr(self, "held", None) is not None:
             self.close()
 
-    def create_body(self, body, shapes):
+    # ---- commands ----
+
+    def create_body(self, body: Body, shapes: Any) -> Handle:
+        """A body with one to eight shapes."""
         made = Handle()
-        must(LIBRARY.dm_create_body(byref(self.held), byref(body), *array_of(Shape, shapes), byref(made)))
+        must(self._ask(self._calls.dm_create_body, byref(body), *array_of(Shape, shapes), byref(made)))
         return made
 
-    def create_joint(self, joint):
+    def create_joint(self, joint: Joint) -> Handle:
+        """A joint that holds two points at a distance."""
         made = Handle()
-        must(LIBRARY.dm_create_joint(byref(self.held), byref(joint), byref(made)))
+        must(self._ask(self._calls.dm_create_joint, byref(joint), byref(made)))
         return made
 
-    def destroy_body(self, body):
-        must(LIBRARY.dm_destroy_body(byref(self.held), body))
+    def destroy_body(self, body: Handle) -> None:
+        """Takes a body away, with its joints. Its contacts end untold."""
+        must(self._ask(self._calls.dm_destroy_body, body))
 
-    def destroy_joint(self, joint):
-        must(LIBRARY.dm_destroy_joint(byref(self.held), joint))
+    def destroy_joint(self, joint: Handle) -> None:
+        must(self._ask(self._calls.dm_destroy_joint, joint))
 
-    def push(self, body, by, offset=None):
+    def push(self, body: Handle, by: Place, offset: Optional[Place] = None) -> None:
+        """An impulse on a dynamic body in mass·u/tick, at its centre or at an offset from it."""
         if offset is None:
-            must(LIBRARY.dm_push(byref(self.held), body, vec(by)))
+            must(self._ask(self._calls.dm_push, body, vec(by)))
         else:
-            must(LIBRARY.dm_push_at(byref(self.held), body, vec(by), vec(offset)))
+            must(self._ask(self._calls.dm_push_at, body, vec(by), vec(offset)))
 
-    def set_pose(self, body, at, facing=(ONE, 0)):
-        must(LIBRARY.dm_set_pose(byref(self.held), body, vec(at), Rot(*facing)))
+    def set_pose(self, body: Handle, at: Place, facing: Turn = (ONE, 0)) -> None:
+        must(self._ask(self._calls.dm_set_pose, body, vec(at), rot(facing)))
 
-    def set_velocity(self, body, velocity, spin=0):
-        must(LIBRARY.dm_set_velocity(byref(self.held), body, vec(velocity), spin))
+    def set_velocity(self, body: Handle, velocity: Place, spin: int = 0) -> None:
+        """Of a kinematic body."""
+        must(self._ask(self._calls.dm_set_velocity, body, vec(velocity), fitting(spin, c_int64, "spin")))
 
-    def set_gravity(self, gravity):
-        must(LIBRARY.dm_set_gravity(byref(self.held), vec(gravity)))
+    def set_gravity(self, gravity: Place) -> None:
+        must(self._ask(self._calls.dm_set_gravity, vec(gravity)))
 
-    def disable(self, body):
-        must(LIBRARY.dm_disable(byref(self.held), body))
+    def disable(self, body: Handle) -> None:
+        """Takes a body out of the world for a while."""
+        must(self._ask(self._calls.dm_disable, body))
 
-    def enable(self, body):
-        must(LIBRARY.dm_enable(byref(self.held), body))
+    def enable(self, body: Handle) -> None:
+        must(self._ask(self._calls.dm_enable, body))
 
-    def wake(self, body):
-        must(LIBRARY.dm_wake(byref(self.held), body))
+    def wake(self, body: Handle) -> None:
+        must(self._ask(self._calls.dm_wake, body))
 
-    def sleep(self, body):
-        must(LIBRARY.dm_sleep(byref(self.held), body))
+    def sleep(self, body: Handle) -> None:
+        must(self._ask(self._calls.dm_sleep, body))
 
-    def step(self, ticks=4):
+    def step(self, ticks: int = 1) -> int:
+        """Lets 1 to 8 ticks pass, settles what was booked, and answers the number of the step."""
         number = c_uint64()
-        must(LIBRARY.dm_step(byref(self.held), ticks, byref(number)))
-        self.settle()
+        with self._lock:
+            must(self._ask(self._calls.dm_step, fitting(ticks, c_int64, "ticks"), byref(number)))
+            self.settle()
         return number.value
 
-    def settle(self):
+    def settle(self) -> None:
         """Sums up what was booked, so that no memory is kept for it. `step` and `apply_all` do it."""
-        LIBRARY.dm_settle(byref(self.held))
+        self._ask(self._calls.dm_settle)
 
-    def apply_all(self, commands, shapes=()):
-        """Does a list of commands, and answers an array of answers, one for each: a refused one changes nothing, and the next follows."""
-        answers = (Answer * len(commands))()
-        LIBRARY.dm_apply_all(byref(self.held), *array_of(Command, commands), *array_of(Shape, shapes), answers, len(answers))
-        self.settle()
+    def apply_all(self, commands: Any, shapes: Any = ()) -> Any:
+        """Does commands one after another, and answers an array of answers, one for each: a refused one changes nothing, and the next follows. Both may be lists
+        of structs, ctypes arrays, or buffers such as NumPy's arrays of COMMAND and SHAPE."""
+        given, count = array_of(Command, commands)
+        answers = (Answer * count)()
+        with self._lock:
+            if self._ask(self._calls.dm_apply_all, given, count, *array_of(Shape, shapes), answers, count) != count:
+                raise Refused(Status.NO_WORLD)
+            self.settle()
         return answers
 
-    def _all(self, call, form, room=64):
+    # ---- reading ----
+
+    def _all(self, call: Any, form: Any, room: int = 64) -> Any:
         out = (form * room)()
-        count = call(byref(self.held), out, room)
-        if count > room:
-            return self._all(call, form, count)
+        with self._lock:
+            count = self._ask(call, out, room)
+            if count > room:
+                return self._all(call, form, count)
         return (form * count).from_buffer(out)
 
-    def poses(self):
-        return self._all(LIBRARY.dm_poses, Pose)
+    def poses(self) -> Any:
+        """The poses of all bodies, by slot."""
+        return self._all(self._calls.dm_poses, Pose)
 
-    def poses_into(self, out):
-        """Writes the poses into an array of Pose that the caller keeps, as many as fit; answers how many there are."""
-        return LIBRARY.dm_poses(byref(self.held), out, len(out))
+    def poses_into(self, out: Any) -> int:
+        """Writes the poses into an array of Pose, or a buffer with room for some, that the caller keeps: as many as fit. Answers how many there are."""
+        return self._ask(self._calls.dm_poses, *array_of(Pose, out))
 
-    def moved(self):
-        return self._all(LIBRARY.dm_moved, Pose)
+    def moved(self) -> Any:
+        """The poses of those bodies that a step may move: awake dynamic ones, and kinematic ones."""
+        return self._all(self._calls.dm_moved, Pose)
 
-    def begun(self):
-        return self._all(LIBRARY.dm_begun, Pair)
+    def begun(self) -> Any:
+        """The pairs of shapes that began to touch in the last step."""
+        return self._all(self._calls.dm_begun, Pair)
 
-    def ended(self):
-        return self._all(LIBRARY.dm_ended, Pair)
+    def ended(self) -> Any:
+        """The pairs of shapes that ceased to touch in the last step."""
+        return self._all(self._calls.dm_ended, Pair)
 
-    def slept(self):
-        return self._all(LIBRARY.dm_slept, Handle)
+    def slept(self) -> Any:
+        """The bodies that fell asleep in the last step."""
+        return self._all(self._calls.dm_slept, Handle)
 
-    def woke(self):
-        return self._all(LIBRARY.dm_woke, Handle)
+    def woke(self) -> Any:
+        """The bodies that woke in the last step."""
+        return self._all(self._calls.dm_woke, Handle)
 
-    def contacts(self):
+    def contacts(self) -> Any:
+        """The contacts of near shapes."""
         count = S()
-        must(LIBRARY.dm_contacts(byref(self.held), byref(count)))
-        return self._all(LIBRARY.dm_contacts_listed, Contact, max(count.value, 1))
+        with self._lock:
+            must(self._ask(self._calls.dm_contacts, byref(count)))
+            return self._all(self._calls.dm_contacts_listed, Contact, max(count.value, 1))
 
-    def region(self, lo, hi):
+    def region(self, lo: Place, hi: Place) -> Any:
+        """The shapes whose boxes meet a box."""
         count = S()
-        must(LIBRARY.dm_region(byref(self.held), byref(Box(vec(lo), vec(hi))), byref(count)))
-        return self._all(LIBRARY.dm_region_found, ShapeId, max(count.value, 1))
+        with self._lock:
+            must(self._ask(self._calls.dm_region, byref(Box(vec(lo), vec(hi))), byref(count)))
+            return self._all(self._calls.dm_region_found, ShapeId, max(count.value, 1))
 
-    def ray(self, start, along):
+    def ray(self, start: Place, along: Place) -> Optional[Hit]:
         """The first hit, or None."""
         hit = Hit()
-        must(LIBRARY.dm_ray(byref(self.held), vec(start), vec(along), byref(hit)))
+        must(self._ask(self._calls.dm_ray, vec(start), vec(along), byref(hit)))
         return hit if hit.is_hit else None
 
-    def body(self, handle):
+    def body(self, handle: Handle) -> Optional[View]:
         """What is seen of a body, or None where the id names none."""
         view = View()
-        status = LIBRARY.dm_body(byref(self.held), handle, byref(view))
+        status = self._ask(self._calls.dm_body, handle, byref(view))
         if status == Status.STALE_HANDLE:
             return None
         must(status)
         return view
 
     @property
-    def steps(self):
-        return LIBRARY.dm_steps(byref(self.held))
+    def steps(self) -> int:
+        """How many steps were accepted."""
+        return self._ask(self._calls.dm_steps)
 
     @property
-    def gravity(self):
-        return LIBRARY.dm_gravity(byref(self.held))
+    def gravity(self) -> Vec:
+        return self._ask(self._calls.dm_gravity)
 
-    def save(self):
+    # ---- keeping ----
+
+    def save(self) -> str:
         """The world as a text of JSON."""
         count = S()
-        must(LIBRARY.dm_save(byref(self.held), byref(count)))
-        out = (c_uint8 * count.value)()
-        LIBRARY.dm_saved(byref(self.held), out, count.value)
+        with self._lock:
+            must(self._ask(self._calls.dm_save, byref(count)))
+            out = (c_uint8 * count.value)()
+            self._ask(self._calls.dm_saved, out, count.value)
         return bytes(out).decode()
 
-    def digest(self):
+    def digest(self) -> bytes:
         """32 bytes: worlds with the same plain lists, counts and totals have the same."""
         out = (c_uint8 * 32)()
-        must(LIBRARY.dm_digest(byref(self.held), out, 32))
+        must(self._ask(self._calls.dm_digest, out, 32))
         return bytes(out)

@@ -7,7 +7,8 @@ import sys
 from pathlib import Path
 
 sys.path.insert(0, str(Path(__file__).resolve().parent))
-from dillmonth import METRE, Body, Refused, Status, World, capsule, circle, segment  # noqa: E402
+from dillmonth import (METRE, Body, Refused, Set, Status, World, at, capsule, capsule_mass, circle, circle_mass, gravity, segment, share,  # noqa: E402
+                       velocity)
 
 HALF = METRE // 2
 CENTIMETRE = METRE // 100
@@ -16,18 +17,20 @@ SLOPE = (1030792151, -300647711)
 
 def make_scene(world):
     """The bodies by name."""
+    rough = share(0.5)
+    bar = capsule(at(-0.5, 0), at(0.5, 0), HALF // 4, friction=rough)
     movers = {
-        "the ball": (Body.dynamic((-5 * METRE, 4 * METRE), 201, 27625229647872), circle(HALF, friction=128)),
-        "the stick": (Body.dynamic((3 * METRE, 3 * METRE), 77, 10585347671942), capsule((-HALF, 0), (HALF, 0), HALF // 4, friction=128)),
-        "the coin": (Body.dynamic((0, METRE // 8), 13, 111669149696), circle(HALF // 4)),
+        "the ball": (Body.dynamic(at(-5, 4), *circle_mass(HALF)), circle(HALF, friction=rough)),
+        "the stick": (Body.dynamic(at(3, 3), *capsule_mass(HALF, HALF // 4)), bar),
+        "the coin": (Body.dynamic(at(0, 0.125), *circle_mass(HALF // 4)), circle(HALF // 4)),
     }
     for name, (body, _) in movers.items():
         print(f"{name} has the mass {body.mass} and the inertia {body.inertia}")
     scene = {
-        "the floor": (Body.static(), segment((-16 * HALF, 0), (16 * HALF, 0), friction=128)),
-        "the ramp": (Body.static((-4 * METRE, 2 * METRE), SLOPE), segment((-4 * HALF, 0), (4 * HALF, 0), friction=128)),
+        "the floor": (Body.static(), segment(at(-8, 0), at(8, 0), friction=rough)),
+        "the ramp": (Body.static(at(-4, 2), SLOPE), segment(at(-2, 0), at(2, 0), friction=rough)),
         **movers,
-        "the lift": (Body.kinematic((0, 6 * METRE), (4369, 0)), capsule((-HALF, 0), (HALF, 0), HALF // 4, friction=128)),
+        "the lift": (Body.kinematic(at(0, 6), velocity(1, 0)), bar),
     }
     return {name: world.create_body(body, [shape]) for name, (body, shape) in scene.items()}
 
@@ -38,7 +41,7 @@ def whole(number, unit):
 
 
 def main():
-    world = World((0, -179))
+    world = World(gravity(0, -9.81))
     cast = make_scene(world)
     names = {handle.slot: name for name, handle in cast.items()}
     for frame in range(1, 241):
@@ -63,7 +66,7 @@ def main():
         if frame % 40 == 0:
             print(f"{frame}:")
             for pose in world.poses():
-                if world.body(pose.handle).set != 0:
+                if world.body(pose.handle).set != Set.STATIC:
                     print(f"   {names[pose.handle.slot]} is at {whole(pose.at.x, CENTIMETRE)}, {whole(pose.at.y, CENTIMETRE)} cm")
 
 

@@ -1,21 +1,21 @@
 #!/usr/bin/env python3
 """The calls of tour.c, by the owner for Python."""
 
+import pickle
 import sys
 from pathlib import Path
 
 sys.path.insert(0, str(Path(__file__).resolve().parent.parent / "python"))
-from dillmonth import METRE, ONE, Body, Command, Handle, Joint, Pose, Refused, Rot, Vec, World, capsule, circle, segment  # noqa: E402
-
-NOBODY = Handle(0, 0)
+from dillmonth import (METRE, NOBODY, ONE, Body, Command, Do, Joint, Pose, Refused, Rot, Set, Vec, World, at, capsule, circle, degrees, gravity,  # noqa: E402
+                       segment, share)
 
 
 def make_scene():
-    world = World((0, -179))
-    world.create_body(Body.static(), [segment((-8 * METRE, 0), (8 * METRE, 0), friction=128)])
-    disc = [circle(METRE // 2, friction=128)]
+    world = World(gravity(0, -9.81))
+    world.create_body(Body.static(), [segment(at(-8, 0), at(8, 0), friction=share(0.5))])
+    disc = [circle(METRE // 2, friction=share(0.5))]
     balls = [world.create_body(Body.dynamic(((i - 2) * METRE + i * 1000, METRE), 200, 27 * 10**12), disc) for i in range(5)]
-    core = [capsule((-METRE, 0), (METRE, 0), METRE // 4, friction=128, restitution=64)]
+    core = [capsule(at(-1, 0), at(1, 0), METRE // 4, friction=share(0.5), restitution=share(0.25))]
     return world, balls, world.create_body(Body.kinematic((0, 6 * METRE), velocity=(1000, 0)), core)
 
 
@@ -45,7 +45,7 @@ def command_each(world, balls, platform):
     made = world.create_joint(Joint(balls[0], balls[1], (0, METRE // 4), (0, METRE // 4), METRE, 1, 0))
     world.push(balls[2], (20000, 40000))
     world.push(balls[3], (1000, 0), (0, METRE // 4))
-    world.set_pose(balls[4], (3 * METRE, 5 * METRE), (0, ONE))
+    world.set_pose(balls[4], at(3, 5), degrees(90))
     world.set_velocity(platform, (2000, 0), 1000)
     world.set_gravity((0, -157))
     world.disable(balls[1])
@@ -56,7 +56,7 @@ def command_each(world, balls, platform):
 
 
 def command_all(world, balls, platform):
-    commands = [Command(kind=kind) for kind in (0, 4, 2, 6, 7, 1, 13)]
+    commands = [Command(kind=kind) for kind in (Do.CREATE_BODY, Do.PUSH, Do.CREATE_JOINT, Do.SET_POSE, Do.SET_VELOCITY, Do.DESTROY_BODY, Do.STEP)]
     commands[0].shapes_count, commands[0].body = 1, Body.dynamic((-4 * METRE, 3 * METRE), 50, 10**12)
     commands[2].joint = Joint(balls[2], balls[3], (0, 0), (0, 0), 2 * METRE, 0, 0)
     commands[3].joint.a, commands[3].body.at, commands[3].body.facing = balls[0], Vec(-6 * METRE, 2 * METRE), Rot(ONE, 0)
@@ -73,17 +73,18 @@ def look(world, balls):
     points = sum(contact.points for contact in contacts)
     found, hit = world.region((-9 * METRE, -METRE), (0, 9 * METRE)), world.ray((0, 20 * METRE), (0, -40 * METRE))
     view, gone = world.body(balls[2]), world.body(balls[4])
-    assert gone is None and world.poses_into((Pose * 3)()) == len(world.poses())
+    assert gone is None and world.poses_into((Pose * 3)()) == world.poses_into(bytearray(400)) == len(world.poses())
     print(f"{len(world.poses())} poses, {len(world.moved())} moved, {len(contacts)} contacts of {points} points, {len(found)} in a region")
     print(f"a ray hits {hit.shape.slot}.{hit.shape.index} at {hit.fraction}")
-    print(f"a body at {view.pose.at.x}, {view.pose.at.y} with {view.p.x}, {view.p.y} and {view.l}, awake {int(view.set == 2)}")
+    print(f"a body at {view.pose.at.x}, {view.pose.at.y} with {view.p.x}, {view.p.y} and {view.l}, awake {int(view.set == Set.AWAKE)}")
     print(f"{world.steps} steps, gravity {world.gravity.y}")
 
 
 def keep(world):
     digest, text = world.digest(), world.save()
     with World.load(text) as other:
-        assert other.digest() == digest and world.copy().digest() == digest
+        assert other.digest() == digest and world.copy().digest() == digest and pickle.loads(pickle.dumps(world)).digest() == digest
+    assert status_of(lambda: other.step(1)) == (32, 0) and other.poses_into(bytearray(40)) == 0  # (it is closed)
     status, clause = status_of(World.load, "{}")
     print(f"{len(text)} bytes, refused {status} by clause {clause}")
     print(digest.hex())
