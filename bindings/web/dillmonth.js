@@ -1,24 +1,31 @@
 // The library `dillmonth` as a WebAssembly module: worlds for JavaScript.
 //
 //     const library = await Library.load(fetch("dillmonth.wasm"));
-//     const world = library.open({ x: 0n, y: -157n });
-//     const ball = world.createBody({ kind: DYNAMIC, at: { x: 0n, y: 0n }, mass: 256n, inertia: 0n }, [circle(1n << 19n)]);
-//     world.step(4n);
-//     world.body(ball).at.y;
+//     const world = library.open(gravity(0, -9.81));
+//     world.createBody(staticBody(at(0, 0)), [segment(at(-8, 0), at(8, 0))]);
+//     const ball = world.createBody(dynamicBody(at(0, 4), circleMass(metres(0.5))), [circle(metres(0.5), { restitution: share(0.75) })]);
+//     world.step(1);
+//     inMetres(world.body(ball).at.y);
 //     world.close();
 //
-// Each call is one of `bindings/c/dillmonth.h`, which tells units, limits and refusals. The world's numbers are whole and need 64 bits, so they
-// are BigInt here. An id is one too: its slot, and its generation times 2^32. A call that is refused throws `Refused` and has changed nothing.
+// Each call is one of `dillmonth.h`, which tells units, limits and refusals. The world's numbers are whole and need 64 bits, so what a world answers is BigInt;
+// what it is given may be a Number too, if that is whole. A number that doesn't fit its bits throws RangeError, before it could wrap. An id is a BigInt: its slot, and
+// its generation times 2^32. So it can be a key of a Map.
+//
+// A call that is refused throws `Refused` and has changed nothing. An id that names nothing any more: a question about it answers null, and a command is refused
+// with 2. Metres, seconds, kilograms and degrees become whole numbers by one rounding, so that peers with the same numbers get the same ones.
 
 export const METRE = 1n << 20n;
 export const ONE = 1n << 30n; // of cosines and sines
+export const KILOGRAM = 256n; // the choice of these helpers for the unit of mass, which is free
 export const ALL = (1n << 64n) - 1n;
+export const RATE = 240; // ticks a second, on all pages: a frame of 60 a second is four steps of one tick. A world doesn't know it
 export const STATIC = 0, KINEMATIC = 1, DYNAMIC = 2;
 export const CIRCLE = 0, CAPSULE = 1, SEGMENT = 2;
 export const SETS = ["static", "disabled", "awake", "asleep"];
 export const VERSION = 1; // of the calls
+export const NOBODY = 0n; // names no body and no joint, ever
 
-export const circle = (radius, more = {}) => ({ form: CIRCLE, first: ORIGIN, second: ORIGIN, radius, ...more });
 export const handleOf = (slot, generation) => BigInt(slot) | (BigInt(generation) << 32n);
 export const slotOf = (handle) => Number(handle & 0xffffffffn);
 export const generationOf = (handle) => Number(handle >> 32n);
@@ -29,10 +36,130 @@ const SHAPE_BYTES = 80, POSE_BYTES = 40, CONTACT_BYTES = 88, PAIR_BYTES = 16, ID
 const BODY = 16, AT = 24, FACING = 40, VELOCITY = 72, SPIN = 88, JOINT = 96, ID = 96, BY = 160, OFFSET = 176, TICKS = 192; // places in a command
 const NO_WORLD = 32;
 
+const LEAST = -(1n << 63n), GREATEST = (1n << 63n) - 1n;
+
+/** A whole number of 64 bits with a sign, of a BigInt or a whole Number. */
+function int64(value) {
+  const number = typeof value === "bigint" ? value : BigInt(value);
+  if (number < LEAST || number > GREATEST) throw new RangeError(`${number} doesn't fit 64 bits`);
+  return number;
+}
+
+/** The same without a sign. */
+function uint64(value) {
+  const number = typeof value === "bigint" ? value : BigInt(value);
+  if (number < 0n || number > ALL) throw new RangeError(`${number} doesn't fit 64 bits without a sign`);
+  return number;
+}
+
+// ---- units ----
+
+const SCALE = 1048576;
+
+/** The nearest whole number, halves away from zero. */
+function nearest(value) {
+  const whole = Math.trunc(value), rest = value - whole;
+  return int64(whole + (rest >= 0.5) - (rest <= -0.5));
+}
+
+export const metres = (value) => nearest(value * SCALE);
+export const inMetres = (u) => Number(u) / SCALE;
+export const at = (x, y) => ({ x: metres(x), y: metres(y) });
+export const kilograms = (value) => nearest(value * 256);
+/** A share of 1 in 256ths: of friction and restitution. */
+export const share = (value) => nearest(value * 256);
+export const ticks = (seconds, rate = RATE) => nearest(seconds * rate);
+/** Metres a second in u/tick. */
+export const speed = (metresASecond, rate = RATE) => nearest((metresASecond * SCALE) / rate);
+export const velocity = (x, y, rate = RATE) => ({ x: speed(x, rate), y: speed(y, rate) });
+/** Metres a second a second in u/tick². */
+export const gravity = (x, y, rate = RATE) => ({ x: nearest((x * SCALE) / (rate * rate)), y: nearest((y * SCALE) / (rate * rate)) });
+/** The push that gives a body of this mass so much of a velocity, which is in metres a second. */
+export const pushOf = (mass, x, y, rate = RATE) => ({ x: nearest((Number(mass) * (x * SCALE)) / rate), y: nearest((Number(mass) * (y * SCALE)) / rate) });
+/** Degrees a second as a spin of a kinematic body. */
+export const spin = (degreesASecond, rate = RATE) => nearest((degreesASecond * 18740330.145169) / rate);
+
+const EIGHTH = 45n << 32n;
+const COSINE = [4294967296n, 1324675879n, 68093890n, 1400124n, 15423n, 106n], SINE = [3373259426n, 346799334n, 10696163n, 157094n, 1346n, 8n];
+
+/** An eighth of a turn times `part`, which is in 2^31sts: its cosine or sine in 2^32nds, by Taylor's series with these terms. */
+function eighth(part, terms) {
+  const square = (part * part) >> 31n;
+  return terms.reduceRight((sum, term) => term - ((sum * square) >> 31n));
+}
+
+/** The facing of a turn by so many degrees, counterclockwise: each part is the nearest whole number or next to it. */
+export function degrees(turn) {
+  const cut = BigInt(Math.trunc(turn * 4294967296)) % (8n * EIGHTH), angle = cut < 0n ? cut + 8n * EIGHTH : cut;
+  const quarter = (angle + EIGHTH) / (2n * EIGHTH), rest = angle - quarter * 2n * EIGHTH;
+  const part = ((rest < 0n ? -rest : rest) + 45n) / 90n, c = (eighth(part, COSINE) + 2n) >> 2n, size = (((eighth(part, SINE) * part) >> 31n) + 2n) >> 2n;
+  const s = rest < 0n ? -size : size;
+  return [{ c, s }, { c: -s, s: c }, { c: -c, s: -s }, { c: s, s: -c }][Number(quarter % 4n)];
+}
+
+// ---- definitions that are valid as they are made: upright, of category 1, meeting all, without friction and restitution ----
+
+export const circle = (radius, more = {}) => ({ form: CIRCLE, first: ORIGIN, second: ORIGIN, radius, ...more });
+export const capsule = (first, second, radius, more = {}) => ({ form: CAPSULE, first, second, radius, ...more });
+/** For static bodies. */
+export const segment = (first, second, more = {}) => ({ form: SEGMENT, first, second, ...more });
+export const staticBody = (place, more = {}) => ({ kind: STATIC, at: place, ...more });
+export const kinematicBody = (place, its, more = {}) => ({ kind: KINEMATIC, at: place, velocity: its, ...more });
+export const dynamicBody = (place, { mass, inertia }, more = {}) => ({ kind: DYNAMIC, at: place, mass, inertia, ...more });
+/** From centre to centre, or between anchors that are named in `more`. Its two bodies don't collide. */
+export const jointBetween = (a, b, length, more = {}) => ({ a, b, from: ORIGIN, to: ORIGIN, length, ...more });
+
+const UNDER = 113n << 40n; // 2^40 square u are a square metre, and π is 355/113
+const OUT_OF_RANGE = 5;
+
+/**
+ * What a disc weighs: density·π·r², and mass·r²/2. The density is mass a square metre. Refused 5 for a radius beyond 2^24 u, a density beyond 32 bits, a mass that
+ * isn't 1 to 2^20, or an inertia beyond 2^60.
+ */
+export function circleMass(radius, density = KILOGRAM) {
+  const [r, weight] = sizes(density, radius), square = r * r;
+  return massWithin((2n * 355n * weight * square + UNDER) / (2n * UNDER), 2n * square, 2n);
+}
+
+/**
+ * What a capsule weighs whose core is `half` long to either side of the body's centre: density·(4·r·h + π·r²), and
+ * mass·(8·h·(h² + 3·r²) + 3·π·r·(r² + 2·h²)) / (6·(4·h + π·r)). Refused as circleMass.
+ */
+export function capsuleMass(half, radius, density = KILOGRAM) {
+  const [h, r, weight] = sizes(density, half, radius);
+  if (r === 0n) throw new Refused(OUT_OF_RANGE);
+  const girth = 452n * h + 355n * r, bulk = 904n * h * (h * h + 3n * r * r) + 1065n * r * (r * r + 2n * h * h);
+  return massWithin((2n * r * girth * weight + UNDER) / (2n * UNDER), 2n * bulk, 6n * girth);
+}
+
+function sizes(density, ...lengths) {
+  const [weight, ...wide] = [density, ...lengths].map(BigInt);
+  if (weight < 0n || weight >= 1n << 32n || wide.some((length) => length < 0n || length > 1n << 24n)) throw new Refused(OUT_OF_RANGE);
+  return [...wide, weight];
+}
+
+function massWithin(mass, twiceOver, under) {
+  const inertia = (mass * twiceOver + under) / (2n * under);
+  if (mass < 1n || mass > 1n << 20n || inertia > 1n << 60n) throw new Refused(OUT_OF_RANGE);
+  return { mass, inertia };
+}
+
+// ---- refusals ----
+
+const STALE_HANDLE = 2;
+const TEXTS = {
+  1: "there is no memory", 2: "the id names nothing that lives", 3: "no slot can be given out", 4: "no shape or more than eight, or one that isn't allowed",
+  5: "a number is outside its limit", 6: "the body isn't dynamic", 7: "both ends of the joint are one body", 8: "the body is disabled",
+  9: "the momentum would come beyond its limit", 10: "the world has accepted all the calls that it may", 12: "the saved world breaks a clause of its format",
+  15: "the body isn't kinematic", 32: "there is no world: it was closed", 33: "a kind or a form that is none",
+  34: "the command names shapes beyond those of the batch", 35: "the text is no JSON",
+};
+
 /** A call that was refused: its status, and the clause that a text to be loaded breaks, or 0. */
 export class Refused extends Error {
   constructor(status, clause = 0) {
-    super(clause ? `refused ${status}, clause ${clause}` : `refused ${status}`);
+    super(`refused ${status}${clause ? `, clause ${clause}` : ""}: ${TEXTS[status] ?? ""}`);
+    this.name = "Refused";
     this.status = status;
     this.clause = clause;
   }
@@ -46,8 +173,8 @@ class Writer {
   }
   u32(value) { this.view.setUint32(this.at, value, true); this.at += 4; }
   i32(value) { this.view.setInt32(this.at, value, true); this.at += 4; }
-  i64(value) { this.view.setBigInt64(this.at, value, true); this.at += 8; }
-  u64(value) { this.view.setBigUint64(this.at, value, true); this.at += 8; }
+  i64(value) { this.view.setBigInt64(this.at, int64(value), true); this.at += 8; }
+  u64(value) { this.view.setBigUint64(this.at, uint64(value), true); this.at += 8; }
   vec({ x, y }) { this.i64(x); this.i64(y); }
   rot({ c, s }) { this.i64(c); this.i64(s); }
   shape(shape) {
@@ -171,9 +298,11 @@ export class Library {
   /** From a response, the promise of one, or the module's bytes. */
   static async load(source) {
     source = await source;
-    const isBytes = source instanceof ArrayBuffer || ArrayBuffer.isView(source);
-    const bytes = isBytes ? source : await source.arrayBuffer();
-    const { instance } = await WebAssembly.instantiate(bytes, {});
+    if (source instanceof ArrayBuffer || ArrayBuffer.isView(source)) return new Library((await WebAssembly.instantiate(source, {})).instance);
+    if (source.ok === false) throw new Error(`the module can't be had: ${source.url} answers ${source.status}`);
+    // (a server that doesn't know the kind of the file can't stream it)
+    const streams = source.headers?.get("content-type") === "application/wasm" && WebAssembly.instantiateStreaming;
+    const { instance } = await (streams ? WebAssembly.instantiateStreaming(source, {}) : WebAssembly.instantiate(await source.arrayBuffer(), {}));
     return new Library(instance);
   }
 
@@ -181,12 +310,22 @@ export class Library {
   view() { return new DataView(this.calls.memory.buffer); }
   bytes(at, count) { return new Uint8Array(this.calls.memory.buffer, at, count); }
 
+  /** The memory as words of 32 bits, which is kept for as long as it doesn't grow. */
+  words() {
+    if (!this.kept || this.kept.buffer !== this.calls.memory.buffer) this.kept = new Uint32Array(this.calls.memory.buffer);
+    return this.kept;
+  }
+
   take(bytes) {
     const at = this.calls.page_alloc(BigInt(Math.max(bytes, 16)));
     if (at === 0n) throw new Refused(1);
     return Number(at);
   }
   give(at) { this.calls.page_free(BigInt(at)); }
+  drop(at) {
+    this.calls.dm_close(BigInt(at));
+    this.give(at);
+  }
 
   /** Room number `number` of the page's own, for a call's arguments and answers, with so many bytes at least. */
   room(number, bytes) {
@@ -208,25 +347,33 @@ export class Library {
 
 const done = (status, clause = 0) => { if (status !== 0) throw new Refused(status >>> 0, clause); };
 
-/** A world, or none once it is closed. */
+/** Gives back what a world holds that nobody names any more. */
+const dropped = typeof FinalizationRegistry === "undefined" ? null : new FinalizationRegistry(({ library, at }) => library.drop(at));
+
+/** A world, until it is closed. A world that nobody names any more is closed at some time by itself: `close` does it now, and so does `using`. */
 export class World {
   constructor(library) {
     this.library = library;
     this.calls = library.calls;
     this.at = library.take(16);
     library.view().setBigUint64(this.at, 0n, true);
-    this.world = BigInt(this.at);
+    dropped?.register(this, { library, at: this.at }, this);
+  }
+
+  /** Its address in the module's memory. */
+  get world() {
+    if (this.at === 0) throw new Refused(NO_WORLD);
+    return BigInt(this.at);
   }
 
   /** An empty world in place of what was held. */
-  reopened(gravity) { done(this.calls.dm_open(this.world, gravity.x, gravity.y)); return this; }
+  reopened(gravity) { done(this.calls.dm_open(this.world, int64(gravity.x), int64(gravity.y))); return this; }
 
   close() {
     if (this.at === 0) return;
-    this.calls.dm_close(this.world);
-    this.library.give(this.at);
+    dropped?.unregister(this);
+    this.library.drop(this.at);
     this.at = 0;
-    this.world = 0n;
   }
 
   copy() {
@@ -255,22 +402,24 @@ export class World {
     return library.view().getBigUint64(at + 80, true);
   }
 
-  destroyBody(body) { done(this.calls.dm_destroy_body(this.world, body)); }
-  destroyJoint(joint) { done(this.calls.dm_destroy_joint(this.world, joint)); }
-  push(body, by) { done(this.calls.dm_push(this.world, body, by.x, by.y)); }
-  pushAt(body, by, offset) { done(this.calls.dm_push_at(this.world, body, by.x, by.y, offset.x, offset.y)); }
-  setPose(body, at, facing) { done(this.calls.dm_set_pose(this.world, body, at.x, at.y, facing.c, facing.s)); }
-  setVelocity(body, velocity, spin) { done(this.calls.dm_set_velocity(this.world, body, velocity.x, velocity.y, spin)); }
-  setGravity(gravity) { done(this.calls.dm_set_gravity(this.world, gravity.x, gravity.y)); }
-  disable(body) { done(this.calls.dm_disable(this.world, body)); }
-  enable(body) { done(this.calls.dm_enable(this.world, body)); }
-  wake(body) { done(this.calls.dm_wake(this.world, body)); }
-  sleep(body) { done(this.calls.dm_sleep(this.world, body)); }
+  destroyBody(body) { done(this.calls.dm_destroy_body(this.world, uint64(body))); }
+  destroyJoint(joint) { done(this.calls.dm_destroy_joint(this.world, uint64(joint))); }
+  push(body, by) { done(this.calls.dm_push(this.world, uint64(body), int64(by.x), int64(by.y))); }
+  pushAt(body, by, offset) { done(this.calls.dm_push_at(this.world, uint64(body), int64(by.x), int64(by.y), int64(offset.x), int64(offset.y))); }
+  setPose(body, place, facing = UPRIGHT) {
+    done(this.calls.dm_set_pose(this.world, uint64(body), int64(place.x), int64(place.y), int64(facing.c), int64(facing.s)));
+  }
+  setVelocity(body, its, turning = 0n) { done(this.calls.dm_set_velocity(this.world, uint64(body), int64(its.x), int64(its.y), int64(turning))); }
+  setGravity(by) { done(this.calls.dm_set_gravity(this.world, int64(by.x), int64(by.y))); }
+  disable(body) { done(this.calls.dm_disable(this.world, uint64(body))); }
+  enable(body) { done(this.calls.dm_enable(this.world, uint64(body))); }
+  wake(body) { done(this.calls.dm_wake(this.world, uint64(body))); }
+  sleep(body) { done(this.calls.dm_sleep(this.world, uint64(body))); }
 
   /** Lets 1 to 8 ticks pass, and answers the step's number. What was booked is summed up, which keeps memory from growing. */
-  step(ticks) {
+  step(ticks = 1) {
     const at = this.library.room(0, 96);
-    done(this.calls.dm_step(this.world, ticks, BigInt(at)));
+    done(this.calls.dm_step(this.world, int64(ticks), BigInt(at)));
     this.calls.dm_settle(this.world);
     return this.library.view().getBigUint64(at, true);
   }
@@ -316,10 +465,28 @@ export class World {
   woke() { return this.list(this.calls.dm_woke, ID_BYTES, (reader) => reader.u64()); }
   steps() { return this.calls.dm_steps(this.world); }
 
-  /** What is known of a body: its pose, momenta, set and island. */
+  /**
+   * The poses of all bodies, by slot, for a loop that draws: x and y in metres, cosine and sine of the turn, one body behind another, as many as fit into an array of
+   * floats that the caller keeps. Their slots go into `slots`, if that is given. It makes no object for a body, and answers how many bodies there are.
+   */
+  posesInto(floats, slots = null) {
+    const { library } = this, fits = Math.floor(floats.length / 4), room = library.room(1, POSE_BYTES * fits);
+    const count = Number(this.calls.dm_poses(this.world, BigInt(room), BigInt(fits))), words = library.words(), written = Math.min(count, fits);
+    for (let body = 0, from = room >> 2, to = 0; body < written; body++, from += 10) {
+      if (slots) slots[body] = words[from];
+      for (let part = 2; part < 10; part += 2, to++) {
+        const value = (words[from + part + 1] | 0) * 4294967296 + words[from + part];
+        floats[to] = value / (part < 6 ? SCALE : 1073741824);
+      }
+    }
+    return count;
+  }
+
+  /** What is known of a body: its pose, momenta, set and island; null where the id names none. */
   body(handle) {
-    const at = this.library.room(0, 104);
-    done(this.calls.dm_body(this.world, handle, BigInt(at)));
+    const at = this.library.room(0, 104), status = this.calls.dm_body(this.world, uint64(handle), BigInt(at));
+    if (status === STALE_HANDLE) return null;
+    done(status);
     return new Reader(this.library.view(), at).view104();
   }
 
@@ -334,7 +501,7 @@ export class World {
   /** The first shape on the way, and how far along it in 2^24ths; null where there is none. */
   ray(from, along) {
     const at = this.library.room(0, 96);
-    done(this.calls.dm_ray(this.world, from.x, from.y, along.x, along.y, BigInt(at)));
+    done(this.calls.dm_ray(this.world, int64(from.x), int64(from.y), int64(along.x), int64(along.y), BigInt(at)));
     const reader = new Reader(this.library.view(), at), isHit = reader.u32() !== 0, fraction = reader.u32();
     return isHit ? { fraction, shape: reader.id() } : null;
   }
@@ -380,3 +547,5 @@ export class World {
     return Array.from(this.library.bytes(at, 32), (byte) => byte.toString(16).padStart(2, "0")).join("");
   }
 }
+
+if (Symbol.dispose) World.prototype[Symbol.dispose] = function dispose() { this.close(); };

@@ -87,7 +87,9 @@ export class Run {
 
 /** The push of a hand that holds a body at a point, told in metres in the body's own axes, and pulls it to a place in the world; null for none. */
 export function pull(world, body, hold, target, ticks) {
-  const view = world.body(body.handle), { mass, inertia } = body, [c, s] = [Number(view.facing.c) / UNIT, Number(view.facing.s) / UNIT];
+  const view = world.body(body.handle);
+  if (!view) return null;
+  const { mass, inertia } = body, [c, s] = [Number(view.facing.c) / UNIT, Number(view.facing.s) / UNIT];
   const offset = { x: (c * hold.x - s * hold.y) * METRE, y: (s * hold.x + c * hold.y) * METRE };
   const spin = inertia ? Number(view.l) / inertia : 0;
   const velocity = { x: Number(view.p.x) / mass - spin * offset.y, y: Number(view.p.y) / mass + spin * offset.x };

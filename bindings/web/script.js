@@ -124,10 +124,24 @@ function ledger(world) {
   return { causes, total };
 }
 
-/** What is thrown where a request can't be made. */
+/** The keys that a request can't do without. */
+const KEYS = {
+  create: ["kind", "at", "shapes"], destroy: ["body"], joint: ["a", "b", "from", "to", "length"], unjoin: ["joint"], push: ["body", "by"],
+  push_at: ["body", "by", "offset"], set_pose: ["body", "at", "facing"], set_velocity: ["body", "velocity", "spin"], gravity: ["by"], disable: ["body"],
+  enable: ["body"], wake: ["body"], sleep: ["body"], step: ["ticks"], show: ["body"], ray: ["from", "along"], region: ["lo", "hi"], load: ["world"],
+};
+
+/** What is thrown where a request can't be made, with the line of the script in which it stands, if that is known. */
 function badLine(line, error) {
-  const isOfTypes = error instanceof TypeError || error instanceof SyntaxError;
-  return isOfTypes ? new BadLine(`${line.do}: a key is missing, or its value is of another type`) : error;
+  if (!(error instanceof TypeError || error instanceof SyntaxError || error instanceof RangeError)) return error;
+  const missing = KEYS[line.do]?.find((key) => line[key] === undefined), place = placeOf(line);
+  return new BadLine(`${place}${line.do}: ${missing ? `the key "${missing}" is missing` : "a key's value is of another type"}`);
+}
+
+const places = new WeakMap(); // requests of a script, and the numbers of their lines
+
+function placeOf(line) {
+  return places.has(line) ? `line ${places.get(line)}: ` : "";
 }
 
 /** A world that answers the lines of a script. */
@@ -141,6 +155,7 @@ export class Player {
 
   show(line) {
     const view = this.world.body(handleOfText(line.body));
+    if (!view) throw new Refused(2);
     const set = view.set < 3 ? SETS[view.set] : `sleeping ${view.island}`;
     const answer = { at: pair(view.at), facing: [view.facing.c, view.facing.s], l: view.l.toString(), p: pair(view.p), set };
     if (this.kinds.get(line.body) === "kinematic") Object.assign(answer, { velocity: pair(view.velocity), spin: view.spin });
@@ -262,7 +277,9 @@ export function requestsOf(text) {
   return text.split("\n").flatMap((each, number) => {
     if (!each.trim()) return [];
     try {
-      return [requestOf(each)];
+      const request = requestOf(each);
+      places.set(request, number + 1);
+      return [request];
     } catch (error) {
       throw new BadLine(`line ${number + 1}: ${error.message}`);
     }

@@ -85,7 +85,7 @@ function files(page) {
   page.open(saved.replace('"version":2', '"version":7'));
   check("a bad file is refused and changes nothing", at("note").textContent.includes("clause 1") && digestOf(page) === next, at("note").textContent);
   page.open('{"do":"push","by":[1,1]}');
-  check("a bad script is refused and changes nothing", at("note").textContent.startsWith("push") && digestOf(page) === next, at("note").textContent);
+  check("a bad script is refused and changes nothing", at("note").textContent === 'line 1: push: the key "body" is missing' && digestOf(page) === next, at("note").textContent);
   at("note").hidden = true;
 }
 
