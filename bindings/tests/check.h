@@ -17,7 +17,7 @@
 
 typedef struct { uint8_t bytes[DM_DIGEST_SIZE]; } digest_t;
 
-static inline digest_t digest_of(dm_world *world) {
+static inline digest_t digest_of(const dm_world *world) {
   digest_t digest;
   WANT(dm_digest(world, digest.bytes, DM_DIGEST_SIZE) == DM_DONE);
   return digest;
