@@ -14,7 +14,7 @@
  *   3. Each pointer is good for its type and count, and isn't null, also where the count is 0 (pass any aligned address). What a call
  *      writes overlaps nothing else that it was passed. dm_copy gets two worlds.
  *   4. malloc, realloc and free are of one allocator, and align as C says.
- *   5. A call has 128 KB of stack (LIMITS.md).
+ *   5. A call has 256 KB of stack (EMBEDDING_C.md).
  *   6. An object of type dm_world isn't const, also where a call takes a const dm_world *: such a call changes nothing that another one can
  *      tell, and yet writes to the struct for a while. So it is one call at a time for these too.
  *

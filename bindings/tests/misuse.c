@@ -2,7 +2,9 @@
 #include "check.h"
 #include <pthread.h>
 
-enum { STACK = 128 * 1024 };
+#ifndef STACK
+#define STACK (256 * 1024)
+#endif
 
 static dm_world world = DM_NONE, other = DM_NONE;
 static digest_t before;
@@ -31,7 +33,7 @@ static void wrong_definitions(void) {
   REFUSED(dm_create_body(&world, &def, shapes, 0, &made), DM_BAD_SHAPE);
   REFUSED(dm_create_body(&world, &def, shapes, 9, &made), DM_BAD_SHAPE);
   REFUSED(dm_add_body(&world, def, line, &made), DM_BAD_SHAPE); /* a segment of a body that moves */
-  REFUSED(dm_add_body(&world, def, dm_circle_shape(0), &made), DM_BAD_SHAPE);
+  REFUSED(dm_add_body(&world, def, dm_circle_shape(-1), &made), DM_BAD_SHAPE);
   REFUSED(dm_add_body(&world, none, shape, &made), DM_OUT_OF_RANGE); /* which has no facing */
   REFUSED(dm_add_body(&world, dm_dynamic_def(dm_at(0, 0), dm_circle_mass(-1, 256)), shape, &made), DM_OUT_OF_RANGE);
   REFUSED(dm_add_body(&world, dm_dynamic_def(dm_at(1e300, 0), mass), shape, &made), DM_OUT_OF_RANGE);

@@ -34,7 +34,7 @@ def digests_by_program(script):
 
 
 def digests_by_library(script):
-    sys.path.insert(0, str(TOP / "bindings/python"))
+    sys.path.insert(0, str(TOP / "bindings"))
     from scripts import Player
 
     player = Player()
