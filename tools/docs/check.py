@@ -12,11 +12,12 @@ It tests that each of these is there:
 
 and that a number of crates or of definitions is one that the sources have, and a version the one that the program prints. A section that is
 meant to name every crate does, and the headline is the same sentence on each page that has it.
-What fails is printed with its page and line.
+What fails is printed with its page and line. Where dist/ is of other sources than the tree's, a line says so, and fails nothing.
 The last line is `N passed, M failed`.
 """
 
 import re
+import subprocess
 import sys
 from pathlib import Path
 
@@ -249,10 +250,21 @@ def pages(words):
     return sorted(page for folder in (".", "docs", "docs/definitions", "examples", "tools") for page in (TOP / folder).glob("*.md"))
 
 
+def tell_of_dist():
+    """A line where dist/ is of other sources than the tree's. That fails nothing: dist/ is made anew for a release."""
+    origin, sources = TOP / "dist" / "ORIGIN", TOP / "bindings" / "packaging" / "sources.py"
+    if not origin.is_file():
+        return
+    told = subprocess.run([sys.executable, sources, origin], capture_output=True, text=True, check=True).stdout
+    if "other sources" in told:
+        print("dist/ is of other sources than the tree's: bindings/package makes it anew")
+
+
 def main(words):
     check = Check(Repository())
     for page in pages(words):
         check.page(page)
+    tell_of_dist()
     print(f"{check.passed} passed, {check.failed} failed")
     sys.exit(1 if check.failed or not check.passed else 0)
 
