@@ -1,6 +1,6 @@
 /* dillmonth.h: a world of rigid bodies in whole numbers, for C, C++ and whatever calls C.
  *
- * Build the library by bindings/build, and link libdillmonth.a (or .so). docs/EMBEDDING_C.md tells more.
+ * Link libdillmonth.a, or .so: dist/ has it built, and bindings/build builds it. docs/EMBEDDING_C.md tells more.
  *
  * A call does all of what it says, or answers a status other than 0 and has changed nothing that it was given. No call prints,
  * keeps a pointer that it was passed, ends the process, starts a thread or takes a lock. The library has no state of its own.
