@@ -1,5 +1,4 @@
-/* Eight threads, each with a world of its own, and one world that goes from thread to thread under a lock. With -DUNLOCKED there is no lock: a sanitizer has to see
- * that. */
+/* Eight threads, each with a world of its own, and one world that goes from thread to thread under a lock. */
 #include "check.h"
 #include <pthread.h>
 
@@ -10,18 +9,13 @@ static digest_t digests[8];
 static void *work(void *argument) {
   int seat = (int)(intptr_t)argument;
   dm_world own = DM_NONE;
-  uint64_t step = 0;
   make_heap(&own, 10, 60);
   digests[seat] = digest_of(&own);
   dm_close(&own);
   for (int i = 0; i < 20; i++) {
-#ifndef UNLOCKED
     pthread_mutex_lock(&lock);
-#endif
-    WANT(dm_step(&shared, 4, &step) == DM_DONE);
-#ifndef UNLOCKED
+    WANT(dm_advance(&shared, 4) == DM_DONE);
     pthread_mutex_unlock(&lock);
-#endif
   }
   return 0;
 }
