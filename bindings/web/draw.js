@@ -1,58 +1,78 @@
 // Draws a world on a canvas. Lengths are metres here, with y upward, and doubles: nothing that is drawn goes back into the world.
 
+import { slotOf } from "./dillmonth.js";
+import { contentsOf, solverOf } from "./inside.js";
+
 const METRE = 1 << 20, UNIT = 1 << 30;
 const GOLDEN = 137.508; // degrees between the hues of neighbouring numbers
 const LARGE = 300; // bodies
+const SELDOM = 120; // milliseconds between two readings of the solver's part, for each 300 bodies
+const DISABLED = 1, ASLEEP = 3; // sets
+export const OVERFLOW = 24; // after the solver's colours
 
 const metres = (value) => Number(value) / METRE;
 const hue = (number) => (10 + number * GOLDEN) % 360;
 const islandHue = (number) => 60 + ((140 + (number * GOLDEN * 260) / 222.5) % 260); // not the reds, which contacts have
 
-/** What a saved world has to be drawn: shapes and joints. Poses come from the world itself. */
+/** What is to be drawn of a world: shapes and joints of when the set of bodies was last changed, and poses, islands and contacts of now. */
 export class Picture {
-  constructor(saved) {
-    this.bodies = new Map();
-    saved.bodies.forEach((slot, number) => {
-      if (slot.body) this.bodies.set(number, new PictureBody(slot.body));
-    });
-    this.joints = saved.joints.flatMap((slot) => (slot.joint ? [new PictureJoint(slot.joint)] : []));
+  constructor(world) {
+    const { bodies, joints } = contentsOf(world);
+    this.bodies = new Map([...bodies].map(([slot, body]) => [slot, new PictureBody(body)]));
+    this.joints = joints.map((joint) => new PictureJoint(joint));
+    for (const { handle } of world.poses()) {
+      const body = this.bodies.get(slotOf(handle));
+      if (body) body.handle = handle;
+    }
+    this.poses = new Float64Array(4 * this.bodies.size);
+    this.slots = new Uint32Array(this.bodies.size);
     this.contacts = [];
-    this.colours = coloursOf(saved);
+    this.solver = { islands: [], contacts: new Map(), joints: [] };
     this.frames = 0;
+    this.asked = 0; // when the solver's part was read
   }
 
-  /** Takes the poses of now, and contacts where they are shown. Islands and colours are those of a save, which in large worlds is seldom made. */
-  follow(world, { contacts }) {
-    for (const pose of world.poses()) this.bodies.get(Number(pose.handle & 0xffffffffn))?.follow(pose);
+  /** Takes the poses of now, and contacts where they are shown. In large worlds a picture asks for the sets of some bodies only. */
+  follow(world, { contacts }, isRunning) {
+    const count = Math.min(world.posesInto(this.poses, this.slots), this.slots.length), rounds = Math.ceil(this.bodies.size / LARGE);
+    for (let number = 0; number < count; number++) {
+      const body = this.bodies.get(this.slots[number]);
+      body?.follow(this.poses, 4 * number);
+      if (body?.handle && (!isRunning || this.frames === 0 || (number + this.frames) % rounds === 0)) body.note(world.body(body.handle));
+    }
     this.contacts = contacts ? world.contacts().filter((contact) => contact.offsets.length > 0) : [];
+    const now = performance.now();
+    if (!isRunning || now - this.asked > SELDOM * rounds) this.ask(world, now);
     this.frames += 1;
-    if (this.bodies.size > LARGE && this.frames % 10 !== 1) return;
-    const saved = JSON.parse(world.save());
-    saved.bodies.forEach((slot, number) => {
-      if (slot.body) this.bodies.get(number)?.note(slot.body);
-    });
-    this.colours = coloursOf(saved);
   }
 
-  /** A box with all bodies that move, and what is round them of those that don't. */
+  /** Takes the islands of those that are awake, and the solver's colours. */
+  ask(world, now) {
+    this.solver = solverOf(world);
+    this.asked = now;
+    for (const [slot, body] of this.bodies) body.island = this.solver.islands[slot];
+  }
+
+  /** A box with all bodies that move, and those round them that don't: all of these where they are about as large, or else what is near. */
   bounds() {
-    const bodies = [...this.bodies.values()], movers = bodies.filter((body) => body.kind !== "static");
-    if (movers.length === 0) return boxOf(bodies) ?? { left: -4, right: 4, bottom: -3, top: 3 };
-    const box = boxOf(movers), margin = 0.6 + 0.06 * Math.max(box.right - box.left, box.top - box.bottom);
-    const around = { left: box.left - margin, right: box.right + margin, bottom: box.bottom - margin, top: box.top + margin };
+    const bodies = [...this.bodies.values()], movers = boxOf(bodies.filter((body) => body.kind !== "static"));
     const fixed = boxOf(bodies.filter((body) => body.kind === "static"));
-    if (!fixed) return around;
-    return {
-      left: Math.min(box.left, Math.max(fixed.left, around.left - margin)), right: Math.max(box.right, Math.min(fixed.right, around.right + margin)),
-      bottom: Math.min(box.bottom, Math.max(fixed.bottom, around.bottom - 4 * margin)), top: Math.max(box.top, Math.min(fixed.top, around.top + margin)),
-    };
+    if (!movers || !fixed) return movers ?? fixed ?? { left: -4, right: 4, bottom: -3, top: 3 };
+    const [x, y] = [near(movers.left, movers.right, fixed.left, fixed.right), near(movers.bottom, movers.top, fixed.bottom, fixed.top)];
+    return { left: x[0], right: x[1], bottom: y[0], top: y[1] };
   }
 
-  /** The body at a place, one that moves before one that doesn't; null where there is none. */
-  bodyAt(point, slack) {
-    const found = [...this.bodies.values()].filter((body) => body.shapes.some((shape) => distance(body, shape, point) <= slack));
-    return found.find((body) => body.kind === "dynamic") ?? found[0] ?? null;
+  /** The slot of the body at a place, of one that moves before one that doesn't; null where there is none. */
+  slotAt(point, slack) {
+    const found = [...this.bodies].filter(([, body]) => body.shapes.some((shape) => distance(body, shape, point) <= slack));
+    return (found.find(([, body]) => body.kind === "dynamic") ?? found[0])?.[0] ?? null;
   }
+}
+
+/** A stretch with all of one from `low` to `high`, and of another what is at most three times as far away as the first is long, or four metres. */
+function near(low, high, otherLow, otherHigh) {
+  const reach = Math.max(4, 3 * (high - low));
+  return [Math.min(low, Math.max(otherLow, low - reach)), Math.max(high, Math.min(otherHigh, high + reach))];
 }
 
 /** The least box with all shapes of some bodies; null without any. */
@@ -80,19 +100,25 @@ class PictureBody {
     this.at = { x: metres(saved.at[0]), y: metres(saved.at[1]) };
     this.facing = { c: saved.facing[0] / UNIT, s: saved.facing[1] / UNIT };
     this.handle = null;
-    this.note(saved);
-  }
-
-  note(saved) {
     this.isEnabled = saved.enabled;
     this.isAsleep = saved.asleep;
     this.island = saved.island;
   }
 
-  follow(pose) {
-    this.handle = pose.handle;
-    this.at = { x: metres(pose.at.x), y: metres(pose.at.y) };
-    this.facing = { c: Number(pose.facing.c) / UNIT, s: Number(pose.facing.s) / UNIT };
+  /** Takes the set and the island of a view. */
+  note(view) {
+    if (!view) return;
+    this.isEnabled = view.set !== DISABLED;
+    this.isAsleep = view.set === ASLEEP;
+    if (this.isAsleep) this.island = view.island;
+  }
+
+  /** Takes the pose that stands at a place among those of all bodies. */
+  follow(poses, from) {
+    this.at.x = poses[from];
+    this.at.y = poses[from + 1];
+    this.facing.c = poses[from + 2];
+    this.facing.s = poses[from + 3];
   }
 
   inWorld({ x, y }) {
@@ -114,6 +140,7 @@ class PictureShape {
     const ends = saved.circle ? [saved.circle] : saved.capsule ?? saved.segment;
     this.ends = ends.map(([x, y]) => ({ x: metres(x), y: metres(y) }));
     this.radius = metres(saved.radius ?? 0);
+    this.saved = saved;
   }
 }
 
@@ -122,12 +149,6 @@ class PictureJoint {
     [this.a, this.b] = [saved.a, saved.b].map((id) => Number(id.split(".")[0]));
     [this.from, this.to] = [saved.from, saved.to].map(([x, y]) => ({ x: metres(x), y: metres(y) }));
   }
-}
-
-/** The graph colours of contacts, by the names of their shapes, and of joints, in their order. */
-function coloursOf(saved) {
-  const contacts = new Map(saved.contacts.map((contact) => [`${contact.a} ${contact.b}`, contact.colour]));
-  return { contacts, joints: saved.joints.flatMap((slot) => (slot.joint ? [slot.joint.colour] : [])) };
 }
 
 /** How far a place is from a shape; below 0 inside. */
@@ -148,11 +169,18 @@ export class Camera {
     this.height = 1;
   }
 
+  /** Shows a box, above the bar and with some room round it. */
   fit({ left, bottom, right, top }) {
-    const room = { x: Math.max(this.width - 80, 50), y: Math.max(this.height - 190, 50) };
+    const bar = 118, room = { x: Math.max(this.width - 48, 50), y: Math.max(this.height - bar - 48, 50) };
     this.scale = Math.min(room.x / Math.max(right - left, 1), room.y / Math.max(top - bottom, 1), 160);
     this.x = (left + right) / 2;
-    this.y = (bottom + top) / 2 - 22 / this.scale;
+    this.y = (bottom + top) / 2 - (bar - 12) / 2 / this.scale;
+  }
+
+  /** Moves what is seen by so many pixels. */
+  pan(dx, dy) {
+    this.x -= dx / this.scale;
+    this.y += dy / this.scale;
   }
 
   toScreen({ x, y }) { return { x: this.width / 2 + (x - this.x) * this.scale, y: this.height / 2 - (y - this.y) * this.scale }; }
@@ -170,9 +198,25 @@ export class Camera {
 /** The colours of the page, as its style sheet has them. */
 function colours() {
   const style = getComputedStyle(document.documentElement);
-  const names = ["ground", "ink", "soft", "faint", "grid", "grid-strong", "static", "static-edge", "joint", "contact", "kinematic", "card", "accent"];
+  const names = ["ground", "ink", "soft", "faint", "grid", "grid-strong", "static", "static-edge", "joint", "contact", "kinematic", "card", "accent", "idle-soft"];
   const found = Object.fromEntries(names.map((name) => [name, style.getPropertyValue(`--${name}`).trim()]));
   return { ...found, isDark: style.colorScheme === "dark" };
+}
+
+const nameOf = (colour) => (colour >= OVERFLOW ? "o" : colour);
+
+/** What stands for one of the solver's colours. */
+function tintOf(colour, theme) {
+  return colour >= OVERFLOW ? theme.ink : `hsl(${hue(colour)} 85% ${theme.isDark ? 66 : 33}%)`;
+}
+
+/** How many contacts and joints have each of the solver's colours: the colour, what stands for it, and the count. */
+export function legendOf(picture) {
+  const counts = new Map(), theme = colours();
+  for (const colour of [...picture.solver.contacts.values(), ...picture.solver.joints]) {
+    if (colour !== null && colour !== undefined) counts.set(colour, (counts.get(colour) ?? 0) + 1);
+  }
+  return [...counts].sort(([a], [b]) => a - b).map(([colour, count]) => ({ colour, tint: tintOf(colour, theme), count }));
 }
 
 export class Painter {
@@ -185,6 +229,7 @@ export class Painter {
 
   resized() {
     const { canvas, camera } = this, ratio = window.devicePixelRatio || 1;
+    if (canvas.clientWidth === 0) return; // it isn't shown
     camera.width = canvas.clientWidth;
     camera.height = canvas.clientHeight;
     canvas.width = Math.round(camera.width * ratio);
@@ -192,19 +237,53 @@ export class Painter {
     this.ratio = ratio;
   }
 
-  paint(picture, shown, hand) {
-    const { pen, camera } = this;
+  /** Draws a picture, with the pull of a hand and a ring round the body that is told of, where there are such. */
+  paint(picture, shown, { hand, told } = {}) {
+    const { pen, camera } = this, bodies = [...picture.bodies.values()];
     this.theme = colours();
     pen.setTransform(this.ratio, 0, 0, this.ratio, 0, 0);
     pen.fillStyle = this.theme.ground;
     pen.fillRect(0, 0, camera.width, camera.height);
     pen.lineJoin = pen.lineCap = "round";
     this.grid();
-    for (const body of picture.bodies.values()) if (body.kind === "static") this.body(body, shown);
-    for (const body of picture.bodies.values()) if (body.kind !== "static") this.body(body, shown);
-    if (shown.joints) picture.joints.forEach((joint, number) => this.joint(picture, joint, shown.colours && picture.colours.joints[number]));
+    for (const body of bodies) if (body.kind === "static") this.body(body, shown);
+    for (const body of bodies) if (body.kind !== "static") this.body(body, shown);
+    if (told) this.ring(told);
+    if (shown.joints) picture.joints.forEach((joint, number) => this.joint(picture, joint, shown.colours && picture.solver.joints[number]));
     if (shown.contacts) for (const contact of picture.contacts) this.contact(picture, contact, shown);
+    if (shown.numbers) for (const body of bodies) this.number(body);
     if (hand) this.hand(hand);
+  }
+
+  /** The number of a body's island, where there is room for it. */
+  number(body) {
+    if (!body.isMover() || this.camera.scale < 12) return;
+    this.label(this.camera.toScreen(body.at), body.island, this.theme.ink);
+  }
+
+  label({ x, y }, text, colour) {
+    const { pen, theme } = this;
+    pen.font = "600 11px system-ui, sans-serif";
+    pen.textAlign = "center";
+    pen.textBaseline = "middle";
+    pen.lineWidth = 3;
+    pen.strokeStyle = theme.ground;
+    pen.fillStyle = colour;
+    pen.strokeText(text, x, y);
+    pen.fillText(text, x, y);
+  }
+
+  /** A line round all shapes of a body. */
+  ring(body) {
+    const { pen, theme } = this;
+    for (const [width, colour] of [[8, theme.ground], [4, theme.accent]]) {
+      pen.lineWidth = width;
+      pen.strokeStyle = colour;
+      for (const shape of body.shapes) {
+        this.outline(body, shape);
+        pen.stroke();
+      }
+    }
   }
 
   grid() {
@@ -231,38 +310,43 @@ export class Painter {
     const tone = shown.islands ? islandHue(body.island) : 212;
     if (body.isAsleep) {
       return theme.isDark
-        ? { fill: `hsl(${tone} 22% 22%)`, edge: `hsl(${tone} 20% 48%)`, dash: [4, 3] }
-        : { fill: `hsl(${tone} 38% 91%)`, edge: `hsl(${tone} 20% 55%)`, dash: [4, 3] };
+        ? { fill: `hsl(${tone} 22% 20%)`, edge: `hsl(${tone} 22% 60%)`, dash: [4, 3] }
+        : { fill: `hsl(${tone} 38% 93%)`, edge: `hsl(${tone} 22% 38%)`, dash: [4, 3] };
     }
-    return theme.isDark ? { fill: `hsl(${tone} 42% 40%)`, edge: `hsl(${tone} 65% 78%)` } : { fill: `hsl(${tone} 66% 74%)`, edge: `hsl(${tone} 55% 30%)` };
+    return theme.isDark ? { fill: `hsl(${tone} 42% 40%)`, edge: `hsl(${tone} 65% 82%)` } : { fill: `hsl(${tone} 66% 74%)`, edge: `hsl(${tone} 55% 26%)` };
   }
 
   body(body, shown) {
-    const { pen, camera } = this, look = this.look(body, shown);
+    const { pen } = this, look = this.look(body, shown);
     pen.setLineDash(look.dash ?? []);
+    pen.strokeStyle = look.edge;
+    pen.fillStyle = look.fill;
     for (const shape of body.shapes) {
-      const [a, b = a] = shape.ends.map((end) => camera.toScreen(body.inWorld(end))), radius = shape.radius * camera.scale;
       pen.lineWidth = look.width ?? (shape.form === "segment" ? 3 : 1.5);
-      pen.strokeStyle = look.edge;
-      pen.fillStyle = look.fill;
-      pen.beginPath();
-      if (shape.form === "segment") {
-        pen.moveTo(a.x, a.y);
-        pen.lineTo(b.x, b.y);
-      } else {
-        const angle = Math.atan2(b.y - a.y, b.x - a.x), quarter = Math.PI / 2;
-        if (shape.form === "circle") pen.arc(a.x, a.y, radius, 0, 4 * quarter);
-        else {
-          pen.arc(a.x, a.y, radius, angle + quarter, angle - quarter);
-          pen.arc(b.x, b.y, radius, angle - quarter, angle + quarter);
-        }
-        pen.closePath();
-        pen.fill();
-      }
+      this.outline(body, shape);
+      if (shape.form !== "segment") pen.fill();
       pen.stroke();
     }
     pen.setLineDash([]);
     if (body.kind !== "static" && body.isEnabled) this.facing(body, look);
+  }
+
+  /** The way round a shape. */
+  outline(body, shape) {
+    const { pen, camera } = this, [a, b = a] = shape.ends.map((end) => camera.toScreen(body.inWorld(end)));
+    const radius = shape.radius * camera.scale, angle = Math.atan2(b.y - a.y, b.x - a.x), quarter = Math.PI / 2;
+    pen.beginPath();
+    if (shape.form === "segment") {
+      pen.moveTo(a.x, a.y);
+      pen.lineTo(b.x, b.y);
+      return;
+    }
+    if (shape.form === "circle") pen.arc(a.x, a.y, radius, 0, 4 * quarter);
+    else {
+      pen.arc(a.x, a.y, radius, angle + quarter, angle - quarter);
+      pen.arc(b.x, b.y, radius, angle - quarter, angle + quarter);
+    }
+    pen.closePath();
   }
 
   /** A line from each circle's centre that shows how the body is turned. */
@@ -280,11 +364,7 @@ export class Painter {
     }
   }
 
-  ofColour(colour) {
-    if (colour === null || colour === undefined) return this.theme.faint;
-    if (colour >= 24) return this.theme.ink; // the overflow
-    return `hsl(${hue(colour)} 85% ${this.theme.isDark ? 64 : 42}%)`;
-  }
+  ofColour(colour) { return colour === null || colour === undefined ? this.theme.faint : tintOf(colour, this.theme); }
 
   joint(picture, joint, colour) {
     const { pen, camera } = this, [a, b] = [picture.bodies.get(joint.a), picture.bodies.get(joint.b)];
@@ -297,6 +377,7 @@ export class Painter {
     pen.lineTo(to.x, to.y);
     pen.stroke();
     for (const end of [from, to]) this.dot(end, 3);
+    if (typeof colour === "number") this.label({ x: (from.x + to.x) / 2, y: (from.y + to.y) / 2 }, nameOf(colour), pen.fillStyle);
   }
 
   dot({ x, y }, radius) {
@@ -311,14 +392,16 @@ export class Painter {
     if (!body || !other) return;
     const movers = [body, other].filter((each) => each.isMover()), isActing = movers.some((each) => !each.isAsleep);
     const mass = Math.min(...movers.map((each) => each.mass)), normal = { x: Number(contact.normal.x) / UNIT, y: Number(contact.normal.y) / UNIT };
-    const colour = shown.colours ? this.ofColour(picture.colours.contacts.get(`${contact.a} ${contact.b}`)) : theme.contact;
-    contact.offsets.forEach((offset, number) => {
+    const number = shown.colours ? picture.solver.contacts.get(`${contact.a} ${contact.b}`) : null;
+    const colour = shown.colours ? this.ofColour(number) : theme.contact;
+    contact.offsets.forEach((offset, point) => {
       const at = camera.toScreen({ x: body.at.x + metres(offset.x), y: body.at.y + metres(offset.y) });
-      const speed = Number(contact.impulses[number]) / mass / 157; // in ticks of the usual gravity
+      const speed = Number(contact.impulses[point]) / mass / 157; // in ticks of the usual gravity
       const length = isActing ? Math.min(4 + 5 * Math.sqrt(speed), 20) : 0, radius = isActing ? 3 : 1.8;
       const along = { x: normal.x * length, y: -normal.y * length };
       if (isActing) this.needle(at, along, radius + 1.5, 4.5, theme.ground);
       this.needle(at, along, radius, 1.75, isActing ? colour : theme.faint);
+      if (typeof number === "number" && isActing && camera.scale > 24) this.label({ x: at.x + 9, y: at.y - 8 }, nameOf(number), colour);
     });
   }
 
@@ -349,22 +432,28 @@ export class Painter {
   }
 }
 
-/** A colour for each step's digest: above those of the page, below those of the native program. */
+/** A colour for each step's digest, in two rows, and a bar through both where they differ. */
 export function paintStrip(canvas, pairs) {
   const ratio = window.devicePixelRatio || 1, width = canvas.clientWidth, height = canvas.clientHeight;
   canvas.width = Math.round(width * ratio);
   canvas.height = Math.round(height * ratio);
-  const pen = canvas.getContext("2d"), columns = Math.floor(width / 4), theme = getComputedStyle(document.documentElement);
+  const pen = canvas.getContext("2d"), columns = Math.floor(width / 4), theme = colours();
   pen.scale(ratio, ratio);
-  pen.fillStyle = theme.getPropertyValue("--idle-soft");
+  pen.fillStyle = theme["idle-soft"];
   pen.fillRect(0, 0, width, height / 2 - 1);
   pen.fillRect(0, height / 2 + 1, width, height / 2 - 1);
-  const colour = (digest) => `hsl(${parseInt(digest.slice(0, 4), 16) % 360} ${45 + (parseInt(digest.slice(4, 6), 16) % 40)}% ${40 + (parseInt(digest.slice(6, 8), 16) % 30)}%)`;
-  pairs.slice(-columns).forEach(([ours, native], number) => {
-    for (const [digest, top] of [[ours, 0], [native, height / 2 + 1]]) {
+  pairs.slice(-columns).forEach(([ours, other], number) => {
+    for (const [digest, top] of [[ours, 0], [other, height / 2 + 1]]) {
       if (!digest) continue;
-      pen.fillStyle = colour(digest);
+      pen.fillStyle = tintOfDigest(digest);
       pen.fillRect(4 * number, top, 3, height / 2 - 1);
     }
+    pen.fillStyle = theme.ink;
+    if (other && other !== ours) pen.fillRect(4 * number + 1, 2, 1.5, height - 4);
   });
+}
+
+function tintOfDigest(digest) {
+  const [first, second, third] = [digest.slice(0, 4), digest.slice(4, 6), digest.slice(6, 8)].map((digits) => parseInt(digits, 16));
+  return `hsl(${first % 360} ${45 + (second % 40)}% ${40 + (third % 30)}%)`;
 }

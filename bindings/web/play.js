@@ -1,9 +1,27 @@
-// A script that is being played, step by step, and what the native program said of each step.
+// A script that is being played, step by step, and what the native program said of each step. Its last ten seconds can be gone back to.
 
 import { Player, REBUILDS, writeExact } from "./script.js";
 
 export const TICKS_A_SECOND = 256;
+const KEPT = 10 * TICKS_A_SECOND; // ticks that one can go back
+const BETWEEN = TICKS_A_SECOND / 4, BETWEEN_LARGE = TICKS_A_SECOND; // ticks from one kept world to the next
+const LARGE = 500; // bodies
 const METRE = 1 << 20, UNIT = 1 << 30;
+
+/** Where a run stands. */
+const BEGINNING = {
+  entries: 0,          // of the journal that are done
+  next: 0,             // of the script's lines
+  steps: 0,
+  time: 0,             // ticks since the beginning
+  ticks: 1n,           // of the last step
+  version: 0,          // of the bodies, shapes and joints
+  refusals: 0,
+  isOurs: true,        // so far the script alone was played
+  touched: null,       // the step after which somebody took part
+  same: 0,             // how many of the script's steps have the native digest
+  firstDifference: 0,
+};
 
 /** A run of a script from its beginning. Once its lines are over, or where somebody takes part, it goes on by itself. */
 export class Run {
@@ -12,24 +30,36 @@ export class Run {
     this.player = new Player(library);
     this.requests = requests;
     this.native = native;
-    this.next = 0;
-    this.ticks = 1n;
-    this.journal = [];
-    this.refusals = 0;
-    this.isOurs = true;      // so far the script alone was played
-    this.pairs = [];         // the digest of each step, and the native one or null
-    this.same = 0;           // how many of the script's steps have the native digest
-    this.firstDifference = 0;
-    this.touched = 0;        // the step after which somebody took part
-    this.version = 0;        // of what is to be drawn: bodies, shapes and joints
+    this.journal = [];       // each request that was made, and how many lines of the script were over then
+    this.digests = [];       // of each step, here and by the native program, or null
+    this.now = { ...BEGINNING };
+    this.versions = 0;       // that were given out
+    this.headTime = 0;       // ticks from the beginning to the last step that was ever come to
+    this.kept = [];          // worlds of the last seconds, each with where the run stood
+    this.ownTicks = null;    // of each step, in place of the script's
     this.cost = 0;           // milliseconds of a step, smoothed
+    this.relived = 0;        // the step after which the same requests gave another digest than the first time, which must not be
   }
 
   get world() { return this.player.world; }
-  get isOver() { return this.next >= this.requests.length; }
-  close() { this.player.close(); }
+  get isOver() { return this.now.next >= this.requests.length; }
+  get steps() { return this.now.steps; }
+  /** The last step that was ever come to, and the first that can be gone back to. */
+  get head() { return this.digests.length; }
+  get oldest() { return this.kept[0]?.now.steps ?? this.now.steps; }
+  /** The digests up to where the run stands. */
+  get pairs() { return this.isBehind ? this.digests.slice(0, this.now.steps) : this.digests; }
+  /** Whether the journal goes on from here. */
+  get isBehind() { return this.now.entries < this.journal.length; }
 
-  /** Makes a request, and keeps it in the journal. */
+  close() {
+    this.forget(this.kept.length);
+    this.player.close();
+  }
+
+  // ---- requests ----
+
+  /** Makes a request, and writes it into the journal. */
   ask(line) {
     const answer = this.player.ask(line);
     this.note(line, answer);
@@ -37,52 +67,132 @@ export class Run {
   }
 
   note(line, answer) {
-    this.journal.push(line);
-    if (answer.refused) this.refusals += 1;
-    if (REBUILDS.has(line.do)) this.version += 1;
+    const { now } = this;
+    if (!this.isBehind) this.journal.push({ line, next: now.next });
+    now.entries += 1;
+    if (answer.refused) now.refusals += 1;
+    if (REBUILDS.has(line.do)) now.version = this.versions += 1;
+    if (line.do === "step" && !answer.refused) this.stepped(line.ticks);
   }
 
-  /** A request of somebody's own: from here on the world isn't the script's. */
+  /** A request of somebody's own: from here on the world isn't the script's, and what was played after here is forgotten. */
   interfere(line) {
-    if (this.isOurs) this.touched = this.pairs.length;
-    this.isOurs = false;
+    this.takePart();
     return this.ask(line);
+  }
+
+  takePart() {
+    const { now, kept } = this, beyond = kept.filter((each) => each.now.entries > now.entries).length;
+    this.forget(beyond, kept.length - beyond);
+    this.journal.length = now.entries;
+    this.digests.length = now.steps;
+    this.headTime = now.time;
+    now.touched ??= now.steps;
+    now.isOurs = false;
   }
 
   /** Plays the lines before the next step, their commands in one call. A bad one throws, and is passed by. */
   begin() {
-    let step = this.next;
+    let step = this.now.next;
     while (step < this.requests.length && this.requests[step].do !== "step") step += 1;
-    const answered = this.player.askInBatches(this.requests.slice(this.next, step));
-    while (this.next < step) {
-      this.next += 1;
+    const answered = this.player.askInBatches(this.requests.slice(this.now.next, step));
+    while (this.now.next < step) {
+      this.now.next += 1;
       this.note(...answered.next().value);
     }
   }
 
-  /** Plays the lines up to the next step, and that step; a step of its own where there are no more. */
+  // ---- steps ----
+
+  /** Plays what the journal still has up to a step, else the lines up to the next step and that step, or a step of its own where there are no more. */
   advance() {
+    if (this.isBehind) return this.repeat();
+    this.keep();
     this.begin();
-    const isScripted = !this.isOver, line = isScripted ? this.requests[this.next++] : { do: "step", ticks: this.ticks };
-    this.ticks = line.ticks;
-    if (!isScripted) this.isOurs = false;
-    const began = performance.now();
+    const isScripted = !this.isOver, scripted = this.requests[this.now.next], ticks = this.ownTicks ?? scripted?.ticks ?? this.now.ticks;
+    const line = ticks === scripted?.ticks ? scripted : { do: "step", ticks };
+    if (isScripted && line !== scripted) this.takePart();
+    if (isScripted) this.now.next += 1;
+    else this.now.isOurs = false;
+    const began = performance.now(), isFirst = this.now.steps === 0;
     this.ask(line);
-    this.cost = 0.95 * this.cost + 0.05 * (performance.now() - began);
-    if (this.pairs.length === 0) this.cost = performance.now() - began;
-    this.compare();
+    const took = performance.now() - began;
+    this.cost = isFirst ? took : 0.9 * this.cost + 0.1 * took;
   }
 
-  compare() {
-    const ours = this.world.digest(), number = this.pairs.length + 1, native = this.isOurs ? this.native[number - 1] ?? null : null;
-    this.pairs.push([ours, native]);
+  stepped(ticks) {
+    const { now } = this, digest = this.world.digest(), native = now.isOurs ? this.native[now.steps] ?? null : null;
+    now.ticks = ticks;
+    now.time += Number(ticks);
+    this.headTime = Math.max(this.headTime, now.time);
+    if (this.digests.length === now.steps) this.digests.push([digest, native]);
+    else if (this.digests[now.steps][0] !== digest) this.relived ||= now.steps + 1;
+    now.steps += 1;
     if (!native) return;
-    if (native === ours) this.same += 1;
-    else this.firstDifference ||= number;
+    if (native === digest) now.same += 1;
+    else now.firstDifference ||= now.steps;
   }
 
-  /** All requests so far, as lines of `world_script`. */
-  script() { return this.journal.map((line) => `${writeExact(line)}\n`).join(""); }
+  // ---- back in time ----
+
+  /** Keeps a copy of the world where the last one is old, and lets go of those that are older than can be gone back. */
+  keep() {
+    const { kept, now } = this, between = this.player.kinds.size > LARGE ? BETWEEN_LARGE : BETWEEN;
+    if (kept.length > 0 && now.time - kept.at(-1).now.time < between) return;
+    const old = kept.findIndex((each) => each.now.time > now.time - KEPT);
+    this.forget(Math.max(0, old - 1));
+    try {
+      kept.push({ world: this.world.copy(), now: { ...now } });
+    } catch {
+      this.forget(1); // there is no memory for one more
+    }
+  }
+
+  /** Lets go of some kept worlds. */
+  forget(count, from = 0) {
+    for (const { world } of this.kept.splice(from, count)) world.close();
+  }
+
+  /** The requests of the journal up to a step, once more. */
+  repeat() {
+    while (this.isBehind) {
+      const { line, next } = this.journal[this.now.entries];
+      this.now.next = next;
+      this.ask(line);
+      if (line.do === "step") return;
+    }
+  }
+
+  /**
+   * Goes to the world after a step: from the last kept one before it, by the same requests. It stops before that where the time is over, so that a hand at the slider
+   * needn't wait.
+   */
+  goTo(step, milliseconds = Infinity) {
+    const until = performance.now() + milliseconds, kept = this.kept.findLast((each) => each.now.steps <= step);
+    if (kept && (step < this.now.steps || kept.now.steps > this.now.steps)) this.restore(kept);
+    while (this.now.steps < step && this.isBehind && performance.now() < until) this.repeat();
+  }
+
+  restore(kept) {
+    const world = kept.world.copy();
+    this.world.close();
+    this.player.world = world;
+    this.now = { ...kept.now };
+  }
+
+  /** Becomes the same as another run, whose world comes as text, as one peer may send it to another. */
+  loadFrom(other) {
+    this.world.load(other.world.save());
+    this.forget(this.kept.length);
+    this.player.kinds = new Map(other.player.kinds);
+    this.journal = other.journal.slice(0, other.now.entries);
+    this.digests = other.digests.slice(0, other.now.steps);
+    this.headTime = other.now.time;
+    this.now = { ...other.now, version: (this.versions += 1) };
+  }
+
+  /** All requests up to here, as lines of `world_script`. */
+  script() { return this.journal.slice(0, this.now.entries).map(({ line }) => `${writeExact(line)}\n`).join(""); }
 }
 
 /** The push of a hand that holds a body at a point, told in metres in the body's own axes, and pulls it to a place in the world; null for none. */
