@@ -207,7 +207,7 @@ const nameOf = (colour) => (colour >= OVERFLOW ? "o" : colour);
 
 /** What stands for one of the solver's colours. */
 function tintOf(colour, theme) {
-  return colour >= OVERFLOW ? theme.ink : `hsl(${hue(colour)} 85% ${theme.isDark ? 66 : 33}%)`;
+  return colour >= OVERFLOW ? theme.ink : `hsl(${hue(colour)} 85% ${theme.isDark ? 66 : 30}%)`;
 }
 
 /** How many contacts and joints have each of the solver's colours: the colour, what stands for it, and the count. */

@@ -61,7 +61,6 @@ export class Page {
     this.peers = null;
     this.told = null;   // the body that is told of, and whether it stays so
     this.own = "";      // a script of one's own
-    this.spoken = "";
   }
 
   get run() { return this.sides[0].run; }
@@ -292,12 +291,19 @@ export class Page {
       islands(asleep), picture.joints.length, run.now.refusals,
     ];
     values.forEach((value, number) => write(`figure-${number}`, value));
+    if (!this.isRunning) this.describe(awake.length, asleep.length);
     const gravity = -run.world.gravity().y, { ticks } = run.now;
     write("gravity-shown", `${(Number(gravity) / METRES_A_TICK).toFixed(2)} m/s²`);
     write("ticks-shown", `${run.ownTicks ?? ticks} a step`);
     for (const [id, value] of [["gravity", gravity], ["ticks", run.ownTicks ?? ticks]]) if (at(id) !== document.activeElement) at(id).value = value;
     at("legend").hidden = !this.shown.colours;
     if (this.shown.colours) at("legend").innerHTML = legendOf(picture).map(({ colour, tint, count }) => `<li><i style="background:${tint}"></i>${colour >= OVERFLOW ? "overflow" : colour}: ${count}</li>`).join("");
+  }
+
+  /** What the canvases are called, for whoever can't see them. */
+  describe(awake, asleep) {
+    const [scene] = at("scene").selectedOptions, where = `${scene?.text ?? ""}, step ${this.run.steps}: ${awake} bodies awake, ${asleep} asleep`;
+    this.sides.forEach(({ canvas }, number) => canvas.setAttribute("aria-label", `${this.peers ? `peer ${"AB"[number]}, ` : ""}${where}`));
   }
 
   digests() {
@@ -337,7 +343,7 @@ export class Page {
 
   /** Says something to whoever can't see it, and shows it. */
   speak(text) {
-    at("live").textContent = this.spoken = text;
+    at("live").textContent = text;
     say(text, true);
   }
 
@@ -580,6 +586,7 @@ async function main() {
   const page = new Page(await Library.load(fetch("dillmonth.wasm")), scenes);
   await page.choose(scenes.some((scene) => scene.name === asked.get("scene")) ? asked.get("scene") : scenes[0].name);
   listen(page);
+  if (asked.has("peers")) page.setPeers(true);
   for (let count = Number(asked.get("steps") ?? 0); count > 0; count--) page.advance();
   page.refresh();
   if (asked.has("test")) return (await import("./tests.js")).main(page, asked);

@@ -30,7 +30,7 @@ export class Run {
     this.player = new Player(library);
     this.requests = requests;
     this.native = native;
-    this.journal = [];       // each request that was made, and how many lines of the script were over then
+    this.journal = [];       // each request that was made, and what was true then of the script
     this.digests = [];       // of each step, here and by the native program, or null
     this.now = { ...BEGINNING };
     this.versions = 0;       // that were given out
@@ -68,7 +68,7 @@ export class Run {
 
   note(line, answer) {
     const { now } = this;
-    if (!this.isBehind) this.journal.push({ line, next: now.next });
+    if (!this.isBehind) this.journal.push({ line, then: { next: now.next, isOurs: now.isOurs, touched: now.touched } });
     now.entries += 1;
     if (answer.refused) now.refusals += 1;
     if (REBUILDS.has(line.do)) now.version = this.versions += 1;
@@ -156,8 +156,8 @@ export class Run {
   /** The requests of the journal up to a step, once more. */
   repeat() {
     while (this.isBehind) {
-      const { line, next } = this.journal[this.now.entries];
-      this.now.next = next;
+      const { line, then } = this.journal[this.now.entries];
+      Object.assign(this.now, then);
       this.ask(line);
       if (line.do === "step") return;
     }

@@ -2,8 +2,9 @@
 """Serves the page that bindings/web/build made, on this machine alone.
 
     bindings/web/serve.py [PORT]                  on 8799 where no port is given
-    bindings/web/serve.py --test FOLDER [PORT]    for bindings/web/run: hands out FOLDER/cases.json, writes what the page posts to FOLDER/report, and lets the page's
-                                         picture be taken only then
+    bindings/web/serve.py --test FOLDER [PORT]    for bindings/web/run: the page stands under /any/place/, and the module is of no known type, as on a server that
+                                         knows nothing of it. It hands out FOLDER/cases.json, writes what the page posts to FOLDER/report, and lets
+                                         the page's picture be taken only then
 """
 
 import functools
@@ -14,6 +15,7 @@ from pathlib import Path
 
 SITE = Path(__file__).resolve().parent / "out"
 LONGEST = 300  # seconds that a page may take to report
+PLACE = "/any/place"  # of the page under test
 
 
 class Server(http.server.ThreadingHTTPServer):
@@ -28,7 +30,14 @@ class Handler(http.server.SimpleHTTPRequestHandler):
         self.send_header("Cache-Control", "no-store")
         super().end_headers()
 
+    def guess_type(self, path):
+        return "application/octet-stream" if self.server.test and path.endswith(".wasm") else super().guess_type(path)
+
     def do_GET(self):
+        if self.server.test:
+            if not self.path.startswith(f"{PLACE}/"):
+                return self.send_error(404)
+            self.path = self.path.removeprefix(PLACE)
         # A picture is taken once a page is loaded. A page under test has an image here, which isn't there before its report.
         if self.path == "/reported" and self.server.test:
             self.server.reported.wait(LONGEST)
@@ -39,7 +48,7 @@ class Handler(http.server.SimpleHTTPRequestHandler):
         return super().do_GET()
 
     def do_POST(self):
-        if self.path != "/report" or not self.server.test:
+        if self.path != f"{PLACE}/report" or not self.server.test:
             return self.send_error(404)
         body = self.rfile.read(int(self.headers["Content-Length"]))
         Path(self.server.test, "report").write_bytes(body)
