@@ -112,7 +112,7 @@ export class Hands {
     if (!this.held) return;
     const { page } = this, { side, slot, hold, target } = this.held, body = side.picture.bodies.get(slot);
     if (!body?.handle || !body.isMover()) return this.letGo();
-    const { run } = side, push = pull(run.world, body, hold, target, run.now.ticks * BigInt(1 + (page.peers?.delay ?? 0)));
+    const { run } = side, push = pull(run.world, body, hold, target, run.now.ticks, page.peers?.delay);
     if (push) page.interfere({ do: "push_at", body: textOf(body.handle), ...push });
   }
 }

@@ -380,6 +380,7 @@ export class Page {
     if (this.isRunning && told && told.slot === this.saidOf && now - this.saidAt < SLOW) return;
     const side = told && this.sides.includes(told.side) ? told.side : null, { picture, run } = side ?? {};
     const found = side && toldOf(run.world, picture, told.slot, this.shown.contacts ? picture.contacts : run.world.contacts());
+    if (found && told.slot !== this.saidOf) this.putAside(side, picture.bodies.get(told.slot));
     this.saidAt = now;
     this.saidOf = told?.slot;
     if (told && !found) this.told = null;
@@ -388,6 +389,12 @@ export class Page {
     at("inspector").classList.toggle("pinned", told.isPinned);
     write("told-name", found.name);
     found.texts.forEach((text, number) => write(`told-${number}`, text));
+  }
+
+  /** What is told of a body stands where the body isn't. */
+  putAside({ canvas }, body) {
+    const left = canvas.getBoundingClientRect().left - at("worlds").getBoundingClientRect().left + this.camera.toScreen(body.at).x;
+    at("inspector").classList.toggle("right", left < 330 && at("worlds").clientWidth > 660);
   }
 
   toldBody() { return this.told && this.told.side.picture.bodies.get(this.told.slot); }

@@ -195,8 +195,11 @@ export class Run {
   script() { return this.journal.slice(0, this.now.entries).map(({ line }) => `${writeExact(line)}\n`).join(""); }
 }
 
-/** The push of a hand that holds a body at a point, told in metres in the body's own axes, and pulls it to a place in the world; null for none. */
-export function pull(world, body, hold, target, ticks) {
+/**
+ * The push of a hand that holds a body at a point, told in metres in the body's own axes, and pulls it to a place in the world; null for none. Where the push is made some
+ * steps later, the hand pulls less, since what it sees is older, and carries the body's weight.
+ */
+export function pull(world, body, hold, target, ticks, delay = 0) {
   const view = world.body(body.handle);
   if (!view) return null;
   const { mass, inertia } = body, [c, s] = [Number(view.facing.c) / UNIT, Number(view.facing.s) / UNIT];
@@ -204,10 +207,11 @@ export function pull(world, body, hold, target, ticks) {
   const spin = inertia ? Number(view.l) / inertia : 0;
   const velocity = { x: Number(view.p.x) / mass - spin * offset.y, y: Number(view.p.y) / mass + spin * offset.x };
   const way = { x: target.x * METRE - Number(view.at.x) - offset.x, y: target.y * METRE - Number(view.at.y) - offset.y };
-  const share = Math.min(0.08, (1 << 17) / Math.max(1, Math.hypot(way.x, way.y))); // of the way in a tick: at most 2^17 u
+  const share = Math.min(0.08, (1 << 17) / Math.max(1, Math.hypot(way.x, way.y))) / (1 + delay); // of the way in a tick: at most 2^17 u
   const lever = inertia ? (mass * (offset.x ** 2 + offset.y ** 2)) / inertia : 0;
-  const felt = (0.7 * mass) / (1 + lever) / Math.max(1, Number(ticks) / 4);
-  const by = [share * way.x - velocity.x, share * way.y - velocity.y].map((change) => BigInt(Math.round(felt * change)));
+  const felt = (0.7 * mass) / (1 + lever) / Math.max(1, Number(ticks) / 4) / (1 + 3 * delay), gravity = world.gravity();
+  const weight = [gravity.x, gravity.y].map((each) => (delay ? mass * Number(each) * Number(ticks) : 0));
+  const by = [share * way.x - velocity.x, share * way.y - velocity.y].map((change, axis) => BigInt(Math.round(felt * change - weight[axis])));
   if (by[0] === 0n && by[1] === 0n) return null;
   return { by, offset: [BigInt(Math.round(offset.x)), BigInt(Math.round(offset.y))] };
 }
