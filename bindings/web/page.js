@@ -488,10 +488,12 @@ function listenToTime(page) {
     page.isScrubbing = true;
     page.goTo(Number(past.value), PATIENCE);
   };
-  past.onchange = () => {
+  const settle = () => {
+    if (!page.isScrubbing) return;
     page.isScrubbing = false;
     page.goTo(Number(past.value));
   };
+  for (const type of ["change", "pointerup", "pointercancel", "blur"]) past.addEventListener(type, settle);
 }
 
 function listenToWorld(page) {

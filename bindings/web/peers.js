@@ -3,13 +3,14 @@
 
 import { textOf } from "./script.js";
 
+const SHOWN = 200; // steps
+
 export class Peers {
   constructor(runs, delay) {
     this.runs = runs;
     this.delay = delay;   // steps
     this.waiting = [];    // requests of hands, and before which step they are made
     this.parted = 0;      // the step after which the digests weren't the same any more
-    this.lies = 0;
   }
 
   /** A request of a hand, for both. */
@@ -33,30 +34,30 @@ export class Peers {
     if (ours !== theirs) this.parted ||= this.runs[0].steps;
   }
 
-  /** For each step the digests of both. */
+  /** The digests of both, of the last steps. */
   get pairs() {
-    const [ours, theirs] = this.runs.map((run) => run.pairs);
+    const [ours, theirs] = this.runs.map((run) => run.pairs.slice(-SHOWN));
     return ours.map(([digest], number) => [digest, theirs[number]?.[0] ?? null]);
   }
 
   goTo(step, milliseconds) {
-    this.waiting = [];
-    for (const run of this.runs) run.goTo(step, milliseconds);
     const [ours, theirs] = this.runs;
-    if (theirs.steps !== ours.steps) theirs.goTo(ours.steps);
-    const differs = this.pairs.findIndex(([digest, other]) => digest !== other);
-    this.parted = differs + 1;
+    this.waiting = [];
+    ours.goTo(step, milliseconds);
+    theirs.goTo(ours.steps);
+    const [mine, other] = [ours.pairs, theirs.pairs];
+    this.parted = mine.findIndex(([digest], number) => digest !== other[number]?.[0]) + 1;
   }
 
   /** The second peer pushes a body by the least that there is, and tells nobody. */
   lie(handle) {
-    this.lies += 1;
     return this.runs[1].interfere({ do: "push", body: textOf(handle), by: [1n, 0n] });
   }
 
   /** The first peer sends its world, and the second one goes on with that. */
   mend() {
     const [ours, theirs] = this.runs;
+    ours.cut();
     theirs.loadFrom(ours);
     this.waiting = [];
     this.parted = 0;

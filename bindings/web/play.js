@@ -82,13 +82,18 @@ export class Run {
   }
 
   takePart() {
+    this.cut();
+    this.now.touched ??= this.now.steps;
+    this.now.isOurs = false;
+  }
+
+  /** Forgets what was played after here. */
+  cut() {
     const { now, kept } = this, beyond = kept.filter((each) => each.now.entries > now.entries).length;
     this.forget(beyond, kept.length - beyond);
     this.journal.length = now.entries;
     this.digests.length = now.steps;
     this.headTime = now.time;
-    now.touched ??= now.steps;
-    now.isOurs = false;
   }
 
   /** Plays the lines before the next step, their commands in one call. A bad one throws, and is passed by. */
