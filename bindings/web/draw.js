@@ -397,9 +397,10 @@ export class Painter {
     contact.offsets.forEach((offset, point) => {
       const at = camera.toScreen({ x: body.at.x + metres(offset.x), y: body.at.y + metres(offset.y) });
       const speed = Number(contact.impulses[point]) / mass / 157; // in ticks of the usual gravity
-      const length = isActing ? Math.min(4 + 5 * Math.sqrt(speed), 20) : 0, radius = isActing ? 3 : 1.8;
+      const size = Math.max(0.45, Math.min(1, camera.scale / 40)); // smaller where bodies are
+      const length = isActing ? size * Math.min(4 + 5 * Math.sqrt(speed), 20) : 0, radius = size * (isActing ? 3 : 1.8);
       const along = { x: normal.x * length, y: -normal.y * length };
-      if (isActing) this.needle(at, along, radius + 1.5, 4.5, theme.ground);
+      if (isActing) this.needle(at, along, radius + 1.5 * size, 1.75 + 2.75 * size, theme.ground);
       this.needle(at, along, radius, 1.75, isActing ? colour : theme.faint);
       if (typeof number === "number" && isActing && camera.scale > 24) this.label({ x: at.x + 9, y: at.y - 8 }, nameOf(number), colour);
     });

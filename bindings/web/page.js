@@ -595,7 +595,7 @@ async function main() {
   const page = new Page(await Library.load(fetch("dillmonth.wasm")), scenes);
   await page.choose(scenes.some((scene) => scene.name === asked.get("scene")) ? asked.get("scene") : scenes[0].name);
   listen(page);
-  if (asked.has("peers")) page.setPeers(true);
+  if (asked.has("peers") && !asked.has("test")) page.setPeers(true);
   for (let count = Number(asked.get("steps") ?? 0); count > 0; count--) page.advance();
   page.refresh();
   if (asked.has("test")) return (await import("./tests.js")).main(page, asked);

@@ -1,5 +1,5 @@
-// Tests of the page in a browser, for bindings/web/run: `index.html?test&scene=NAME&steps=N&theme=dark`. What they find is posted to /report, and then the
-// page shows the scene after that step, for a picture.
+// Tests of the page in a browser, for bindings/web/run: `?test&scene=NAME&steps=N&theme=dark&told=SLOT&peers`. What they find is posted to `report`, and
+// then the page shows the scene after that step, for a picture.
 
 import { Player, difference, requestOf } from "./script.js";
 import { Batch, DYNAMIC, KINEMATIC, METRE, Refused, circle, handleOf } from "./dillmonth.js";
@@ -400,6 +400,8 @@ export async function main(page, asked) {
   at("note").hidden = true;
   if (asked.has("colours")) at("show-colours").click();
   await page.choose(asked.get("scene") ?? page.scenes[0].name);
+  if (asked.has("peers")) page.setPeers(true);
+  if (asked.has("told")) page.tell(page.sides[0], Number(asked.get("told")));
   for (let count = Number(asked.get("steps") ?? 0); count > 0; count--) page.advance();
   page.refresh();
   page.fit();
