@@ -167,6 +167,7 @@ export class Camera {
     this.scale = 40;
     this.width = 1;
     this.height = 1;
+    this.isFitted = true; // nobody looks elsewhere
   }
 
   /** Shows a box, above the bar and with some room round it. */
@@ -175,10 +176,12 @@ export class Camera {
     this.scale = Math.min(room.x / Math.max(right - left, 1), room.y / Math.max(top - bottom, 1), 160);
     this.x = (left + right) / 2;
     this.y = (bottom + top) / 2 - (bar - 12) / 2 / this.scale;
+    this.isFitted = true;
   }
 
   /** Moves what is seen by so many pixels. */
   pan(dx, dy) {
+    this.isFitted = false;
     this.x -= dx / this.scale;
     this.y += dy / this.scale;
   }
@@ -187,6 +190,7 @@ export class Camera {
   toWorld({ x, y }) { return { x: this.x + (x - this.width / 2) / this.scale, y: this.y - (y - this.height / 2) / this.scale }; }
 
   zoom(by, { x, y }) {
+    this.isFitted = false;
     const before = this.toWorld({ x, y });
     this.scale = Math.max(2, Math.min(2000, this.scale * by));
     const after = this.toWorld({ x, y });

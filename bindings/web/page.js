@@ -546,7 +546,7 @@ function listen(page) {
   };
   new ResizeObserver(() => {
     for (const side of page.sides) side.painter.resized();
-    page.paint();
+    page.camera.isFitted ? page.fit() : page.paint();
   }).observe(at("worlds"));
   matchMedia("(prefers-color-scheme: dark)").addEventListener("change", () => page.refresh());
 }

@@ -46,10 +46,12 @@ function isInSight({ camera, picture, name }) {
   return places.every(({ x, y }) => x > 0 && x < camera.width && y > 0 && y < camera.height - low);
 }
 
-function pointer(type, place, more = {}) {
+function pointer(type, place, { time, ...more } = {}) {
   const canvas = at("world"), box = canvas.getBoundingClientRect();
   const how = { clientX: box.left + place.x, clientY: box.top + place.y, pointerId: 1, bubbles: true, ...more };
-  canvas.dispatchEvent(type === "dblclick" ? new MouseEvent(type, how) : new PointerEvent(type, how));
+  const event = type === "dblclick" ? new MouseEvent(type, how) : new PointerEvent(type, how);
+  if (time !== undefined) Object.defineProperty(event, "timeStamp", { value: time });
+  canvas.dispatchEvent(event);
 }
 
 const digestOf = (page) => page.run.world.digest();
@@ -98,7 +100,7 @@ function fingers(page) {
   check("the finger that stays moves what is seen", camera.x > before);
   pointer("pointerup", ball, finger(1));
   const ground = camera.toScreen({ x: -5, y: 3.5 }), count = page.picture.bodies.size;
-  for (let tap = 0; tap < 2; tap++) for (const type of ["pointerdown", "pointerup"]) pointer(type, ground, finger(1));
+  for (const time of [1000, 1200]) for (const type of ["pointerdown", "pointerup"]) pointer(type, ground, { ...finger(1), time });
   check("two taps drop a ball", page.picture.bodies.size === count + 1);
   page.fit();
 }
