@@ -1,5 +1,5 @@
-// What the page wants to know of a world and no call of the library answers: it is read in a saved world. So it is asked when the set of bodies has changed, or seldom, and not
-// for each picture. A call can take the place of each function here.
+// What the page wants to know of a world and no call of the library answers: it is read in a saved world. So it is asked when the set of bodies has changed, or
+// seldom, and not for each picture. A call can take the place of each function here.
 
 /** Of each body its kind, mass, inertia and shapes, by its slot, and of each joint its ends. */
 export function contentsOf(world) {

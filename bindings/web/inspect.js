@@ -23,9 +23,10 @@ function setOf(body) {
 
 /** How fast a body is and turns, by what it weighs; a kinematic one as it was told. */
 function motionOf(body, view) {
-  if (body.kind === "kinematic") return { velocity: pair(view.velocity, METRE / TICKS_A_SECOND, "m/s"), spin: (Number(view.spin) / UNIT) * TICKS_A_SECOND };
+  const speed = METRE / TICKS_A_SECOND;
   if (body.kind === "static") return { velocity: "none", spin: 0 };
-  return { velocity: pair(view.p, (METRE / TICKS_A_SECOND) * body.mass, "m/s"), spin: body.inertia ? (Number(view.l) / body.inertia) * TICKS_A_SECOND : 0 };
+  if (body.kind === "kinematic") return { velocity: pair(view.velocity, speed, "m/s"), spin: (Number(view.spin) / UNIT) * TICKS_A_SECOND };
+  return { velocity: pair(view.p, speed * body.mass, "m/s"), spin: body.inertia ? (Number(view.l) / body.inertia) * TICKS_A_SECOND : 0 };
 }
 
 function shapeText({ form, radius, ends, saved }) {

@@ -297,7 +297,7 @@ export class Page {
     write("ticks-shown", `${run.ownTicks ?? ticks} a step`);
     for (const [id, value] of [["gravity", gravity], ["ticks", run.ownTicks ?? ticks]]) if (at(id) !== document.activeElement) at(id).value = value;
     at("legend").hidden = !this.shown.colours;
-    if (this.shown.colours) at("legend").innerHTML = legendOf(picture).map(({ colour, tint, count }) => `<li><i style="background:${tint}"></i>${colour >= OVERFLOW ? "overflow" : colour}: ${count}</li>`).join("");
+    if (this.shown.colours) at("legend").innerHTML = legendOf(picture).map(({ colour, tint, count }) => legendItem(colour, tint, count)).join("");
   }
 
   /** What the canvases are called, for whoever can't see them. */
@@ -327,7 +327,8 @@ export class Page {
     if (now.touched !== null) return `You took part after step ${now.touched}. From there the world is your own.`;
     if (isOver && !now.isOurs && native.length) return "The script is over, and the world goes on by itself.";
     if (native.length) return "Each step's digest beside the one of the native program: the same bytes.";
-    return name === "own" ? "Save the script, and ask the native program for its digests." : "There are no native digests: bindings/web/build makes them where the program is built.";
+    if (name === "own") return "Save the script, and ask the native program for its digests.";
+    return "There are no native digests: bindings/web/build makes them where the program is built.";
   }
 
   showTime() {
@@ -434,6 +435,10 @@ export class Page {
     const free = [0, 1, -1, 2, -2, 3, -3].map((aside) => ({ x: top.x + 0.7 * aside, y: top.y })).find((point) => side.picture.slotAt(point, 0.3) === null);
     if (free) this.dropBall(side, free);
   }
+}
+
+function legendItem(colour, tint, count) {
+  return `<li><i style="background:${tint}"></i>${colour >= OVERFLOW ? "overflow" : colour}: ${count}</li>`;
 }
 
 function peersNote({ parted, delay }) {
