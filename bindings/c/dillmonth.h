@@ -2,8 +2,8 @@
  *
  * Link libdillmonth.a, or .so: dist/ has it built, and bindings/build builds it. docs/EMBEDDING_C.md tells more.
  *
- * A call does all of what it says, or answers a status other than 0 and has changed nothing that it was given. No call prints,
- * keeps a pointer that it was passed, ends the process, starts a thread or takes a lock. The library has no state of its own.
+ * A call does all of what it says, or answers a status other than 0 and has changed nothing that it was given (but *clause of
+ * dm_load). No call prints, keeps a pointer that it was passed, ends the process, starts a thread or takes a lock. The library has no state of its own.
  *
  * What a caller owes; nothing checks it:
  *   1. A dm_world begins as DM_NONE (all bytes 0), or by dm_new, and only this library writes it. It may be moved, as by memcpy, if the
@@ -135,14 +135,54 @@ typedef struct {
   dm_shape_id shape;
 } dm_hit;                    /* 16 bytes */
 
+#define DM_NO_ISLAND UINT32_MAX
+#define DM_NO_COLOUR UINT32_MAX
+typedef struct {
+  uint32_t kind;             /* DM_STATIC, DM_KINEMATIC or DM_DYNAMIC */
+  uint32_t enabled;          /* 0 where it is disabled */
+  int64_t mass, inertia;     /* 0 but of a dynamic body */
+  size_t shapes;             /* how many it has */
+  uint32_t island;           /* of a mover, awake or asleep: the island's name, its lowest slot; else DM_NO_ISLAND */
+  uint32_t unused;
+} dm_body_info;              /* 40 bytes */
+
+typedef struct {
+  dm_joint_def def;
+  int64_t impulse;           /* that it keeps, in mass*u/tick, above 0 where it pushes its bodies apart */
+  uint32_t colour;           /* while it acts, 0 to 23, or 24 in the overflow; else DM_NO_COLOUR */
+  uint32_t unused;
+} dm_joint_view;             /* 80 bytes */
+
+typedef struct {
+  size_t bodies, awake;      /* `awake` counts movers */
+  size_t joints;
+  size_t contacts, touching; /* `contacts` counts those of near shapes */
+  size_t islands;            /* of movers, awake or asleep */
+  size_t colours;            /* that some constraint has; the overflow counts as one */
+} dm_counts;                 /* 56 bytes */
+
+typedef struct {             /* a sum of impulses, in mass*u/tick: x is x_high * 2^64 + x_low, and y likewise */
+  uint64_t x_low;
+  int64_t x_high;
+  uint64_t y_low;
+  int64_t y_high;
+} dm_sum;                    /* 32 bytes */
+
+typedef struct {
+  dm_handle without;         /* a body whose shapes aren't seen, which has to live; { 0, 0 } leaves nobody out */
+  uint64_t mask;             /* the categories that are seen: a shape's has to have a bit in common with it */
+  uint32_t by_mask, unused;  /* 0 where each category is seen, and the mask isn't read */
+} dm_filter;                 /* 24 bytes; all bytes 0 let each shape through */
+
 /* ---- a world's life ---- */
-DM_KEEP dm_status dm_open(dm_world *world, dm_vec gravity);    /* an empty world; what was held is dropped. 5, 1 */
+DM_KEEP dm_status dm_open(dm_world *world, dm_vec gravity);    /* an empty world; what was held is dropped, with all that it kept. 5, 1 */
 void dm_close(dm_world *world);                                /* drops it, if there is one; twice is harmless */
-DM_KEEP dm_status dm_copy(const dm_world *from, dm_world *to); /* a world of its own; `to` is another dm_world. 32, 1 */
+DM_KEEP dm_status dm_copy(const dm_world *from, dm_world *to); /* a world of its own, which keeps no list and no text yet; `to` is another dm_world. 32, 1 */
 dm_status dm_settle(dm_world *world);                          /* sums up what was booked. 32. See dm_step */
 
 /* ---- commands: one call of the world each. What a pointer names is written only where the status is 0. Each may answer 32 (no world),
- * 10 before all else, and 1 after all else. ---- */
+ * 10 before all else, and 1 after all else. A body to be made is read first: so 33 and 34, and 1 where memory is wanting for its shapes, come
+ * before these. ---- */
 DM_KEEP dm_status dm_create_body(dm_world *world, const dm_body_def *def, const dm_shape *shapes, size_t shapes_len, dm_handle *made); /* 33, 4, 5, 3 */
 dm_status dm_destroy_body(dm_world *world, dm_handle body);                                   /* with its joints and, untold, its contacts. 2 */
 DM_KEEP dm_status dm_create_joint(dm_world *world, const dm_joint_def *def, dm_handle *made); /* 2, 7, 8, 5, 3 */
@@ -205,17 +245,43 @@ DM_KEEP dm_status dm_body(const dm_world *world, dm_handle body, dm_view *out); 
 uint64_t dm_steps(const dm_world *world);                                       /* how many steps were accepted */
 dm_vec dm_gravity(const dm_world *world);
 
-/* ---- questions. What takes memory to find is kept in the world, and fetched by a second call ---- */
+/* ---- what a body and a joint are: nothing changes. Where a call counts into *count, it writes the first of them, as many as fit ---- */
+DM_KEEP dm_status dm_info(const dm_world *world, dm_handle body, dm_body_info *out); /* kind, mass, number of shapes, island. 32, 2 */
+DM_KEEP dm_status dm_shapes(const dm_world *world, dm_handle body, dm_shape *out, size_t out_len, size_t *count); /* as dm_create_body takes them. 32, 2 */
+DM_KEEP dm_status dm_joints_of(const dm_world *world, dm_handle body, dm_handle *out, size_t out_len, size_t *count); /* of a body, by slot. 32, 2, 1 */
+DM_KEEP dm_status dm_contacts_of(const dm_world *world, dm_handle body, dm_contact *out, size_t out_len, size_t *count); /* ascending; all contacts are
+  * looked at. 32, 2, 1 */
+dm_handle dm_body_in(const dm_world *world, uint32_t slot);                          /* the id of the body in a slot, as of an event; else { 0, 0 } */
+dm_handle dm_joint_in(const dm_world *world, uint32_t slot);                         /* the same of joints */
+size_t dm_joints(const dm_world *world, dm_handle *out, size_t out_len);             /* all joints, by slot: answers how many there are */
+DM_KEEP dm_status dm_joint(const dm_world *world, dm_handle joint, dm_joint_view *out); /* its ends, anchors, length, impulse, colour. 32, 2 */
+
+/* ---- how much there is. Nothing changes ---- */
+DM_KEEP dm_status dm_count(const dm_world *world, dm_counts *out);                   /* all is looked at. 32, 1 */
+enum { DM_BY_COMMANDS = 0, DM_BY_GRAVITY = 1, DM_BY_IMMOVABLE = 2, DM_BY_CLAMP = 3, DM_BY_REST = 4, DM_BY_DEPARTED = 5 };
+DM_KEEP dm_status dm_total_of(const dm_world *world, uint32_t cause, dm_sum *out);   /* what a cause has given the movers. 32, 33 */
+DM_KEEP dm_status dm_total(const dm_world *world, dm_sum *out);                      /* what all have: the movers' momentum. 32 */
+uint32_t dm_rules(void);                                                             /* the number of the rules: peers have to have the same */
+
+/* ---- questions. What takes memory to find is kept in the world, and fetched by a second call. It stays until the next call that keeps its like, or
+ * until another world is put in its place: no command, no save and no other question changes it ---- */
 DM_KEEP dm_status dm_ray(const dm_world *world, dm_vec from, dm_vec along, dm_hit *out); /* the first shape on the way. 32, 5 */
 DM_KEEP dm_status dm_region(dm_world *world, const dm_box *bounds, size_t *count);       /* the shapes over a region. 32, 5, 1 */
-size_t dm_region_found(const dm_world *world, dm_shape_id *out, size_t out_len);         /* those that the last dm_region found, ascending */
+size_t dm_region_found(const dm_world *world, dm_shape_id *out, size_t out_len);         /* those that the last dm_region or dm_region_through found, ascending */
+DM_KEEP dm_status dm_ray_through(const dm_world *world, dm_vec from, dm_vec along, const dm_filter *filter, dm_hit *out); /* the first that is let
+  * through. 32, 5, 2 */
+DM_KEEP dm_status dm_ray_all(dm_world *world, dm_vec from, dm_vec along, const dm_filter *filter, size_t *count); /* all that are, a hit for each shape.
+  * A way of { 0, 0 } hits the shapes that the start lies in. 32, 5, 2, 1 */
+size_t dm_hits_found(const dm_world *world, dm_hit *out, size_t out_len);                /* those of the last dm_ray_all, the nearest first, then by name */
+DM_KEEP dm_status dm_region_through(dm_world *world, const dm_box *bounds, const dm_filter *filter, size_t *count); /* fetched as dm_region's. 32, 5, 2, 1 */
 DM_KEEP dm_status dm_contacts(dm_world *world, size_t *count);                           /* the contacts of near shapes. 32, 1 */
 size_t dm_contacts_listed(const dm_world *world, dm_contact *out, size_t out_len);       /* those that the last dm_contacts found, ascending */
 
 /* ---- keeping ---- */
 DM_KEEP dm_status dm_save(dm_world *world, size_t *bytes);                                          /* the world as JSON, kept in it. 32, 1 */
 size_t dm_saved(const dm_world *world, uint8_t *out, size_t out_len);                               /* the text of the last dm_save */
-DM_KEEP dm_status dm_load(dm_world *world, const uint8_t *text, size_t text_len, uint32_t *clause); /* 35; 12, with the number of the clause; 1 */
+DM_KEEP dm_status dm_load(dm_world *world, const uint8_t *text, size_t text_len, uint32_t *clause); /* 35, 12, 1. It keeps no list and no
+  * text yet. *clause is written always: the number of the broken clause where 12 is answered, else 0 */
 #define DM_DIGEST_SIZE 32
 DM_KEEP dm_status dm_digest(const dm_world *world, uint8_t *out, size_t out_len); /* docs/WORLD.md says of what. 32, 1 */
 

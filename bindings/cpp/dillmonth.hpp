@@ -281,6 +281,68 @@ class world {
     must(dm_ray(&held, from, along, &hit));
     return hit.is_hit ? std::optional<dm_hit>(hit) : std::nullopt;
   }
+  // Those through a filter: the shapes of one body aren't seen, or those alone of some categories.
+  [[nodiscard]] std::optional<dm_hit> ray(dm_vec from, dm_vec along, const dm_filter &filter) const {
+    dm_hit hit{};
+    must(dm_ray_through(&held, from, along, &filter, &hit));
+    return hit.is_hit ? std::optional<dm_hit>(hit) : std::nullopt;
+  }
+  // All hits on the way, the nearest first. A way of {0, 0} hits the shapes that the start lies in.
+  [[nodiscard]] std::vector<dm_hit> all_hits(dm_vec from, dm_vec along, const dm_filter &filter = {}) const {
+    std::size_t count = 0;
+    must(dm_ray_all(&held, from, along, &filter, &count));
+    return all<dm_hit>(dm_hits_found);
+  }
+  [[nodiscard]] std::vector<dm_shape_id> region(const dm_box &bounds, const dm_filter &filter) const {
+    std::size_t count = 0;
+    must(dm_region_through(&held, &bounds, &filter, &count));
+    return all<dm_shape_id>(dm_region_found);
+  }
+  // What a body is: its kind, its mass, how many shapes it has, its island; nothing where the id names none.
+  [[nodiscard]] std::optional<dm_body_info> info(body_id body) const {
+    dm_body_info info{};
+    const dm_status status = dm_info(&held, body.handle(), &info);
+    if (status == DM_STALE_HANDLE) return std::nullopt;
+    must(status);
+    return info;
+  }
+  [[nodiscard]] std::vector<dm_shape> shapes(body_id body) const { return all_of<dm_shape>(body, dm_shapes); }
+  [[nodiscard]] std::vector<dm_contact> contacts(body_id body) const { return all_of<dm_contact>(body, dm_contacts_of); }
+  [[nodiscard]] std::vector<joint_id> joints(body_id body) const {
+    const std::vector<dm_handle> handles = all_of<dm_handle>(body, dm_joints_of);
+    return {handles.begin(), handles.end()};
+  }
+  [[nodiscard]] std::vector<joint_id> joints() const {
+    const std::vector<dm_handle> handles = all<dm_handle>(dm_joints);
+    return {handles.begin(), handles.end()};
+  }
+  // Its ends, its anchors, its length, its impulse and its colour; nothing where the id names none.
+  [[nodiscard]] std::optional<dm_joint_view> joint(joint_id joint) const {
+    dm_joint_view view{};
+    const dm_status status = dm_joint(&held, joint.handle(), &view);
+    if (status == DM_STALE_HANDLE) return std::nullopt;
+    must(status);
+    return view;
+  }
+  // The id of what is in a slot, as an event has it; one that names nothing where there is none.
+  [[nodiscard]] body_id body_in(std::uint32_t slot) const { return dm_body_in(&held, slot); }
+  [[nodiscard]] joint_id joint_in(std::uint32_t slot) const { return dm_joint_in(&held, slot); }
+  [[nodiscard]] dm_counts count() const {
+    dm_counts counts{};
+    must(dm_count(&held, &counts));
+    return counts;
+  }
+  // What a cause (`DM_BY_GRAVITY` and its like), or what all have given the movers.
+  [[nodiscard]] dm_sum total_of(std::uint32_t cause) const {
+    dm_sum sum{};
+    must(dm_total_of(&held, cause, &sum));
+    return sum;
+  }
+  [[nodiscard]] dm_sum total() const {
+    dm_sum sum{};
+    must(dm_total(&held, &sum));
+    return sum;
+  }
   [[nodiscard]] std::uint64_t steps() const { return dm_steps(&held); }
   [[nodiscard]] dm_vec gravity() const { return dm_gravity(&held); }
 
@@ -328,6 +390,18 @@ class world {
   template <class T> std::vector<T> all(std::size_t (*read)(const dm_world *, T *, std::size_t)) const {
     std::vector<T> items;
     fill(items, read);
+    return items;
+  }
+  // What a body has.
+  template <class T> std::vector<T> all_of(body_id body, dm_status (*read)(const dm_world *, dm_handle, T *, std::size_t, std::size_t *)) const {
+    std::vector<T> items(32);
+    std::size_t count = 0;
+    must(read(&held, body.handle(), items.data(), items.size(), &count));
+    if (count > items.size()) {
+      items.resize(count);
+      must(read(&held, body.handle(), items.data(), items.size(), &count));
+    }
+    items.resize(count);
     return items;
   }
   std::vector<body_id> ids(std::size_t (*read)(const dm_world *, dm_handle *, std::size_t)) const {

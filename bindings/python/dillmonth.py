@@ -291,6 +291,59 @@ class Hit(Struct):
     _fields_ = [("is_hit", c_uint32), ("fraction", c_uint32), ("shape", ShapeId)]
 
 
+class Filter(Struct):
+    """Which shapes a question sees: all but those of one body, and those alone whose category meets a mask."""
+
+    _fields_ = [("without", Handle), ("mask", c_uint64), ("by_mask", c_uint32), ("unused", c_uint32)]
+
+    @classmethod
+    def of(cls, without: Optional[Handle] = None, mask: Optional[int] = None) -> "Filter":
+        return cls(without or Handle(0, 0), mask or 0, int(mask is not None), 0)
+
+
+NONE = 2**32 - 1  # of an island or a colour, where there is none
+
+
+class Info(Struct):
+    """What a body is: its kind, its mass, how many shapes it has, and the island of a mover (`NONE` of others)."""
+
+    _fields_ = [("kind", c_uint32), ("enabled", c_uint32), ("mass", c_int64), ("inertia", c_int64), ("shapes", c_size_t), ("island", c_uint32),
+                ("unused", c_uint32)]
+
+
+class JointView(Struct):
+    """What is seen of a joint: its definition, the impulse that it keeps, and its colour while it acts (else `NONE`)."""
+
+    _fields_ = [("joint", Joint), ("impulse", c_int64), ("colour", c_uint32), ("unused", c_uint32)]
+
+
+class Counts(Struct):
+    """How much there is of a world: `awake` counts movers, `contacts` near shapes, `colours` those that some constraint has."""
+
+    _fields_ = [(name, c_size_t) for name in ("bodies", "awake", "joints", "contacts", "touching", "islands", "colours")]
+
+
+class Cause(IntEnum):
+    """What gives the movers momentum."""
+
+    COMMANDS = 0
+    GRAVITY = 1
+    IMMOVABLE = 2
+    CLAMP = 3
+    REST = 4
+    DEPARTED = 5
+
+
+class Sum(Struct):
+    """A sum of impulses, in mass·u/tick."""
+
+    _fields_ = [("x_low", c_uint64), ("x_high", c_int64), ("y_low", c_uint64), ("y_high", c_int64)]
+
+    @property
+    def pair(self) -> Tuple[int, int]:
+        return (self.x_high << 64) + self.x_low, (self.y_high << 64) + self.y_low
+
+
 class Command(Struct):
     """A command of a batch. `Do` says what each kind takes; the rest isn't read."""
 
@@ -504,6 +557,16 @@ CALLS = {
     "dm_steps": (c_uint64, [W]), "dm_gravity": (Vec, [W]),
     "dm_ray": (U32, [W, Vec, Vec, POINTER(Hit)]),
     "dm_region": (U32, [W, POINTER(Box), POINTER(S)]), "dm_region_found": (S, [W, POINTER(ShapeId), S]),
+    "dm_ray_through": (U32, [W, Vec, Vec, POINTER(Filter), POINTER(Hit)]),
+    "dm_ray_all": (U32, [W, Vec, Vec, POINTER(Filter), POINTER(S)]), "dm_hits_found": (S, [W, POINTER(Hit), S]),
+    "dm_region_through": (U32, [W, POINTER(Box), POINTER(Filter), POINTER(S)]),
+    "dm_info": (U32, [W, Handle, POINTER(Info)]), "dm_shapes": (U32, [W, Handle, POINTER(Shape), S, POINTER(S)]),
+    "dm_joints_of": (U32, [W, Handle, POINTER(Handle), S, POINTER(S)]),
+    "dm_contacts_of": (U32, [W, Handle, POINTER(Contact), S, POINTER(S)]),
+    "dm_body_in": (Handle, [W, U32]), "dm_joint_in": (Handle, [W, U32]),
+    "dm_joints": (S, [W, POINTER(Handle), S]), "dm_joint": (U32, [W, Handle, POINTER(JointView)]),
+    "dm_count": (U32, [W, POINTER(Counts)]), "dm_total_of": (U32, [W, U32, POINTER(Sum)]), "dm_total": (U32, [W, POINTER(Sum)]),
+    "dm_rules": (U32, []),
     "dm_contacts": (U32, [W, POINTER(S)]), "dm_contacts_listed": (S, [W, POINTER(Contact), S]),
     "dm_save": (U32, [W, POINTER(S)]), "dm_saved": (S, [W, POINTER(c_uint8), S]),
     "dm_load": (U32, [W, POINTER(c_uint8), S, POINTER(U32)]),
@@ -729,18 +792,92 @@ class World:
             must(self._ask(self._calls.dm_contacts, byref(count)))
             return self._all(self._calls.dm_contacts_listed, Contact, max(count.value, 1))
 
-    def region(self, lo: Place, hi: Place) -> Any:
-        """The shapes whose boxes meet a box."""
+    def region(self, lo: Place, hi: Place, through: Optional[Filter] = None) -> Any:
+        """The shapes whose boxes meet a box, of those that a filter lets through."""
         count = S()
         with self._lock:
-            must(self._ask(self._calls.dm_region, byref(Box(vec(lo), vec(hi))), byref(count)))
+            must(self._ask(self._calls.dm_region_through, byref(Box(vec(lo), vec(hi))), byref(through or Filter()), byref(count)))
             return self._all(self._calls.dm_region_found, ShapeId, max(count.value, 1))
 
-    def ray(self, start: Place, along: Place) -> Optional[Hit]:
-        """The first hit, or None."""
+    def ray(self, start: Place, along: Place, through: Optional[Filter] = None) -> Optional[Hit]:
+        """The first hit on what a filter lets through, or None."""
         hit = Hit()
-        must(self._ask(self._calls.dm_ray, vec(start), vec(along), byref(hit)))
+        must(self._ask(self._calls.dm_ray_through, vec(start), vec(along), byref(through or Filter()), byref(hit)))
         return hit if hit.is_hit else None
+
+    def all_hits(self, start: Place, along: Place = (0, 0), through: Optional[Filter] = None) -> Any:
+        """All hits on the way, the nearest first. A way of zero hits the shapes that the start lies in."""
+        count = S()
+        with self._lock:
+            must(self._ask(self._calls.dm_ray_all, vec(start), vec(along), byref(through or Filter()), byref(count)))
+            return self._all(self._calls.dm_hits_found, Hit, max(count.value, 1))
+
+    def _seen(self, call: Any, handle: Handle, form: Any) -> Any:
+        seen = form()
+        status = self._ask(call, handle, byref(seen))
+        if status == Status.STALE_HANDLE:
+            return None
+        must(status)
+        return seen
+
+    def _all_of(self, call: Any, handle: Handle, form: Any, room: int = 64) -> Any:
+        out, count = (form * room)(), S()
+        with self._lock:
+            must(self._ask(call, handle, out, room, byref(count)))
+            if count.value > room:
+                return self._all_of(call, handle, form, count.value)
+        return (form * count.value).from_buffer(out)
+
+    def info(self, body: Handle) -> Optional[Info]:
+        """What a body is, or None where the id names none."""
+        return self._seen(self._calls.dm_info, body, Info)
+
+    def shapes(self, body: Handle) -> Any:
+        """The shapes of a body."""
+        return self._all_of(self._calls.dm_shapes, body, Shape)
+
+    def joints_of(self, body: Handle) -> Any:
+        """The joints of a body, by slot."""
+        return self._all_of(self._calls.dm_joints_of, body, Handle)
+
+    def contacts_of(self, body: Handle) -> Any:
+        """The contacts of a body."""
+        return self._all_of(self._calls.dm_contacts_of, body, Contact)
+
+    def joints(self) -> Any:
+        """All joints, by slot."""
+        return self._all(self._calls.dm_joints, Handle)
+
+    def joint(self, joint: Handle) -> Optional[JointView]:
+        """What is seen of a joint, or None where the id names none."""
+        return self._seen(self._calls.dm_joint, joint, JointView)
+
+    def _in_slot(self, call: Any, slot: int) -> Optional[Handle]:
+        handle = self._ask(call, slot)
+        return handle if handle.generation else None
+
+    def body_in(self, slot: int) -> Optional[Handle]:
+        """The id of the body in a slot, as a pair of shapes names it."""
+        return self._in_slot(self._calls.dm_body_in, slot)
+
+    def joint_in(self, slot: int) -> Optional[Handle]:
+        """The id of the joint in a slot."""
+        return self._in_slot(self._calls.dm_joint_in, slot)
+
+    def count(self) -> Counts:
+        """How much there is."""
+        counts = Counts()
+        must(self._ask(self._calls.dm_count, byref(counts)))
+        return counts
+
+    def total(self, cause: Optional[Cause] = None) -> Tuple[int, int]:
+        """What a cause, or what all together have given the movers, in mass·u/tick."""
+        total = Sum()
+        if cause is None:
+            must(self._ask(self._calls.dm_total, byref(total)))
+        else:
+            must(self._ask(self._calls.dm_total_of, int(cause), byref(total)))
+        return total.pair
 
     def body(self, handle: Handle) -> Optional[View]:
         """What is seen of a body, or None where the id names none."""

@@ -69,7 +69,13 @@ values! {
     RawBodyDef { kind: u32, unused: u32, at: Vec2, facing: Rot, mass: i64, inertia: i64, velocity: Vec2, spin: i64 }
     RawJointDef { a: BodyId, b: BodyId, from: Vec2, to: Vec2, length: i64, collide: u32, unused: u32 }
     RawView { pose: Pose, p: Vec2, l_low: u64, l_high: i64, velocity: Vec2, spin: i64, set: u32, island: u32 }
+    /// How much there is of a world: `awake` counts movers, `contacts` near shapes, `colours` those that some constraint has.
+    pub Counts { bodies: usize, awake: usize, joints: usize, contacts: usize, touching: usize, islands: usize, colours: usize }
     RawHit { is_hit: u32, fraction: u32, shape: ShapeId }
+    RawInfo { kind: u32, enabled: u32, mass: i64, inertia: i64, shapes: usize, island: u32, unused: u32 }
+    RawJointView { def: RawJointDef, impulse: i64, colour: u32, unused: u32 }
+    RawSum { x_low: u64, x_high: i64, y_low: u64, y_high: i64 }
+    RawFilter { without: BodyId, mask: u64, by_mask: u32, unused: u32 }
     RawCommand { kind: u32, shapes_from: u32, shapes_count: u32, unused: u32, body: RawBodyDef, joint: RawJointDef, by: Vec2, offset: Vec2, ticks: i64 }
     RawAnswer { status: u32, unused: u32, made: BodyId, step: u64 }
 }
@@ -113,6 +119,22 @@ extern "C" {
     fn dm_steps(world: *mut Held) -> u64;
     fn dm_gravity(world: *mut Held) -> Vec2;
     fn dm_ray(world: *mut Held, from: Vec2, along: Vec2, out: *mut RawHit) -> u32;
+    fn dm_info(world: *mut Held, body: BodyId, out: *mut RawInfo) -> u32;
+    fn dm_shapes(world: *mut Held, body: BodyId, out: *mut RawShape, room: usize, count: *mut usize) -> u32;
+    fn dm_joints_of(world: *mut Held, body: BodyId, out: *mut JointId, room: usize, count: *mut usize) -> u32;
+    fn dm_contacts_of(world: *mut Held, body: BodyId, out: *mut Contact, room: usize, count: *mut usize) -> u32;
+    fn dm_body_in(world: *mut Held, slot: u32) -> BodyId;
+    fn dm_joint_in(world: *mut Held, slot: u32) -> JointId;
+    fn dm_joints(world: *mut Held, out: *mut JointId, room: usize) -> usize;
+    fn dm_joint(world: *mut Held, joint: JointId, out: *mut RawJointView) -> u32;
+    fn dm_count(world: *mut Held, out: *mut Counts) -> u32;
+    fn dm_total_of(world: *mut Held, cause: u32, out: *mut RawSum) -> u32;
+    fn dm_total(world: *mut Held, out: *mut RawSum) -> u32;
+    fn dm_rules() -> u32;
+    fn dm_ray_through(world: *mut Held, from: Vec2, along: Vec2, filter: *const RawFilter, out: *mut RawHit) -> u32;
+    fn dm_ray_all(world: *mut Held, from: Vec2, along: Vec2, filter: *const RawFilter, count: *mut usize) -> u32;
+    fn dm_hits_found(world: *mut Held, out: *mut RawHit, room: usize) -> usize;
+    fn dm_region_through(world: *mut Held, bounds: *const Box2, filter: *const RawFilter, count: *mut usize) -> u32;
     fn dm_region(world: *mut Held, bounds: *const Box2, count: *mut usize) -> u32;
     fn dm_region_found(world: *mut Held, out: *mut ShapeId, room: usize) -> usize;
     fn dm_contacts(world: *mut Held, count: *mut usize) -> u32;
@@ -397,6 +419,16 @@ impl Shape {
         Shape { group, ..self }
     }
 
+    fn of(raw: &RawShape) -> Shape {
+        let RawShape { first, second, radius, friction, restitution, category, mask, group, .. } = *raw;
+        let form = match raw.form {
+            0 => Form::Circle { center: first, radius },
+            1 => Form::Capsule { first, second, radius },
+            _ => Form::Segment { first, second },
+        };
+        Shape { form, friction, restitution, category, mask, group }
+    }
+
     fn raw(&self) -> RawShape {
         let (form, first, second, radius) = match self.form {
             Form::Circle { center, radius } => (0, center, Vec2::default(), radius),
@@ -522,6 +554,10 @@ impl Joint {
         Joint { a: (a, Vec2::default()), b: (b, Vec2::default()), length, collide: false }
     }
 
+    fn of(raw: &RawJointDef) -> Joint {
+        Joint { a: (raw.a, raw.from), b: (raw.b, raw.to), length: raw.length, collide: raw.collide != 0 }
+    }
+
     fn raw(&self) -> RawJointDef {
         RawJointDef { a: self.a.0, b: self.b.0, from: self.a.1, to: self.b.1, length: self.length, collide: self.collide.into(), unused: 0 }
     }
@@ -602,6 +638,80 @@ pub enum Set {
     Awake,
     /// With the name of the island with which it sleeps.
     Asleep(u32),
+}
+
+/// What kind of body one is.
+#[derive(Clone, Copy, Debug, PartialEq, Eq)]
+pub enum KindName {
+    Static,
+    Kinematic,
+    Dynamic,
+}
+
+/// What a body is.
+#[derive(Clone, Copy, Debug, PartialEq, Eq)]
+pub struct Info {
+    pub kind: KindName,
+    pub is_enabled: bool,
+    /// Zero but of a dynamic body.
+    pub mass: Mass,
+    /// How many shapes it has.
+    pub shapes: usize,
+    /// The name of a mover's island, awake or asleep: its lowest slot.
+    pub island: Option<u32>,
+}
+
+impl Info {
+    fn of(raw: RawInfo) -> Info {
+        let kind = [KindName::Static, KindName::Kinematic, KindName::Dynamic][raw.kind as usize % 3];
+        let mass = Mass { mass: raw.mass, inertia: raw.inertia };
+        Info { kind, is_enabled: raw.enabled != 0, mass, shapes: raw.shapes, island: (raw.island != u32::MAX).then_some(raw.island) }
+    }
+}
+
+/// What is seen of a joint.
+#[derive(Clone, Copy, Debug, PartialEq, Eq)]
+pub struct JointView {
+    pub joint: Joint,
+    /// The impulse that it keeps, in mass·u/tick, above 0 where it pushes its bodies apart.
+    pub impulse: i64,
+    /// Its colour while it acts, 0 to 23, or 24 in the overflow.
+    pub colour: Option<u32>,
+}
+
+/// Which shapes a question sees: all but those of one body, and those alone whose category meets a mask.
+#[derive(Clone, Copy, Debug, Default, PartialEq, Eq)]
+pub struct Filter {
+    pub without: Option<BodyId>,
+    pub mask: Option<u64>,
+}
+
+impl Filter {
+    fn raw(&self) -> RawFilter {
+        RawFilter { without: self.without.unwrap_or_default(), mask: self.mask.unwrap_or(0), by_mask: self.mask.is_some().into(), unused: 0 }
+    }
+}
+
+/// What gives the movers momentum.
+#[derive(Clone, Copy, Debug, PartialEq, Eq)]
+pub enum Cause {
+    Commands,
+    Gravity,
+    Immovable,
+    Clamp,
+    Rest,
+    Departed,
+}
+
+/// Two components in mass·u/tick.
+fn sum_of(raw: RawSum) -> (i128, i128) {
+    let wide = |low: u64, high: i64| i128::from(high) << 64 | i128::from(low);
+    (wide(raw.x_low, raw.x_high), wide(raw.y_low, raw.y_high))
+}
+
+/// The number of the rules: peers have to have the same.
+pub fn rules() -> u32 {
+    unsafe { dm_rules() }
 }
 
 /// What is seen of a body.
@@ -839,6 +949,108 @@ impl World {
         let mut hit = RawHit::default();
         outcome(unsafe { dm_ray(self.raw(), from, along, &mut hit) }, 0)?;
         Ok((hit.is_hit != 0).then(|| (hit.shape, hit.fraction)))
+    }
+
+    /// The same through a filter.
+    pub fn ray_through(&self, from: Vec2, along: Vec2, filter: &Filter) -> Result<Option<(ShapeId, u32)>, Refused> {
+        let mut hit = RawHit::default();
+        outcome(unsafe { dm_ray_through(self.raw(), from, along, &filter.raw(), &mut hit) }, 0)?;
+        Ok((hit.is_hit != 0).then(|| (hit.shape, hit.fraction)))
+    }
+
+    /// All that a ray hits, the nearest first. A way of zero hits the shapes that the start lies in.
+    pub fn all_hits(&self, from: Vec2, along: Vec2, filter: &Filter) -> Result<Vec<(ShapeId, u32)>, Refused> {
+        let mut count = 0;
+        outcome(unsafe { dm_ray_all(self.raw(), from, along, &filter.raw(), &mut count) }, 0)?;
+        Ok(self.all(dm_hits_found).iter().map(|hit| (hit.shape, hit.fraction)).collect())
+    }
+
+    /// The shapes whose boxes meet a box, through a filter.
+    pub fn region_through(&self, bounds: Box2, filter: &Filter) -> Result<Vec<ShapeId>, Refused> {
+        let mut count = 0;
+        outcome(unsafe { dm_region_through(self.raw(), &bounds, &filter.raw(), &mut count) }, 0)?;
+        Ok(self.all(dm_region_found))
+    }
+
+    /// What a body has, by a call that counts it and writes what fits.
+    fn all_of<T: Clone + Default>(&self, body: BodyId, read: unsafe extern "C" fn(*mut Held, BodyId, *mut T, usize, *mut usize) -> u32) -> Result<Vec<T>, Refused> {
+        let mut items = vec![T::default(); 32];
+        let mut count = 0;
+        outcome(unsafe { read(self.raw(), body, items.as_mut_ptr(), items.len(), &mut count) }, 0)?;
+        if count > items.len() {
+            items.resize(count, T::default());
+            outcome(unsafe { read(self.raw(), body, items.as_mut_ptr(), items.len(), &mut count) }, 0)?;
+        }
+        items.truncate(count);
+        Ok(items)
+    }
+
+    /// What a body is; `None` where the id names none.
+    pub fn info(&self, body: BodyId) -> Option<Info> {
+        let mut info = RawInfo::default();
+        let status = unsafe { dm_info(self.raw(), body, &mut info) };
+        (status == 0).then(|| Info::of(info))
+    }
+
+    /// The shapes of a body.
+    pub fn shapes(&self, body: BodyId) -> Result<Vec<Shape>, Refused> {
+        Ok(self.all_of(body, dm_shapes)?.iter().map(Shape::of).collect())
+    }
+
+    /// The joints of a body, by slot.
+    pub fn joints_of(&self, body: BodyId) -> Result<Vec<JointId>, Refused> {
+        self.all_of(body, dm_joints_of)
+    }
+
+    /// The contacts of a body.
+    pub fn contacts_of(&self, body: BodyId) -> Result<Vec<Contact>, Refused> {
+        self.all_of(body, dm_contacts_of)
+    }
+
+    /// All joints, by slot.
+    pub fn joints(&self) -> Vec<JointId> {
+        self.all(dm_joints)
+    }
+
+    /// What is seen of a joint; `None` where the id names none.
+    pub fn joint(&self, joint: JointId) -> Option<JointView> {
+        let mut view = RawJointView::default();
+        let status = unsafe { dm_joint(self.raw(), joint, &mut view) };
+        let colour = (view.colour != u32::MAX).then_some(view.colour);
+        (status == 0).then(|| JointView { joint: Joint::of(&view.def), impulse: view.impulse, colour })
+    }
+
+    /// The id of the body in a slot, as a pair of shapes names it.
+    pub fn body_in(&self, slot: u32) -> Option<BodyId> {
+        let body = unsafe { dm_body_in(self.raw(), slot) };
+        (body != BodyId::default()).then_some(body)
+    }
+
+    /// The id of the joint in a slot.
+    pub fn joint_in(&self, slot: u32) -> Option<JointId> {
+        let joint = unsafe { dm_joint_in(self.raw(), slot) };
+        (joint != JointId::default()).then_some(joint)
+    }
+
+    /// How much there is.
+    pub fn count(&self) -> Result<Counts, Refused> {
+        let mut counts = Counts::default();
+        outcome(unsafe { dm_count(self.raw(), &mut counts) }, 0)?;
+        Ok(counts)
+    }
+
+    /// What a cause has given the movers, in mass·u/tick.
+    pub fn total_of(&self, cause: Cause) -> (i128, i128) {
+        let mut sum = RawSum::default();
+        unsafe { dm_total_of(self.raw(), cause as u32, &mut sum) };
+        sum_of(sum)
+    }
+
+    /// What all causes have given them: the movers' momentum.
+    pub fn total(&self) -> (i128, i128) {
+        let mut sum = RawSum::default();
+        unsafe { dm_total(self.raw(), &mut sum) };
+        sum_of(sum)
     }
 
     /// What is seen of a body; `None` where the id names none.

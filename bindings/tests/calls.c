@@ -45,6 +45,20 @@ static void without_a_world(void) {
   WANT(dm_save(&world, &count) == DM_NO_WORLD && dm_saved(&world, bytes, 1) == 0);
   WANT(dm_digest(&world, bytes, sizeof bytes) == DM_NO_WORLD);
   WANT(dm_copy(&world, &other) == DM_NO_WORLD);
+  dm_body_info info;
+  dm_joint_view seen;
+  dm_counts counts;
+  dm_sum sum;
+  dm_filter all = {{0, 0}, 0, 0, 0};
+  count = 9;
+  WANT(dm_info(&world, made, &info) == DM_NO_WORLD && dm_joint(&world, made, &seen) == DM_NO_WORLD);
+  WANT(dm_shapes(&world, made, &shape, 1, &count) == DM_NO_WORLD && dm_joints_of(&world, made, &made, 1, &count) == DM_NO_WORLD);
+  WANT(dm_contacts_of(&world, made, &contact, 1, &count) == DM_NO_WORLD && count == 9);
+  WANT(dm_body_in(&world, 0).generation == 0 && dm_joint_in(&world, 0).generation == 0 && dm_joints(&world, &made, 1) == 0);
+  WANT(dm_count(&world, &counts) == DM_NO_WORLD && dm_total_of(&world, 0, &sum) == DM_NO_WORLD && dm_total(&world, &sum) == DM_NO_WORLD);
+  WANT(dm_ray_through(&world, (dm_vec){0, 0}, (dm_vec){1, 1}, &all, &hit) == DM_NO_WORLD);
+  WANT(dm_ray_all(&world, (dm_vec){0, 0}, (dm_vec){1, 1}, &all, &count) == DM_NO_WORLD && dm_hits_found(&world, &hit, 1) == 0);
+  WANT(dm_region_through(&world, &box, &all, &count) == DM_NO_WORLD && count == 9);
   dm_close(&world);
   dm_close(&world);
 }
@@ -94,6 +108,120 @@ static void with_a_heap(void) {
   dm_close(&other);
 }
 
+/* What was found, hit, listed and saved stays through all other calls, and isn't in a copy or in a world that is loaded. */
+static void what_is_kept(void) {
+  dm_world world = DM_NONE, other = DM_NONE;
+  dm_box box = {{-9 * METRE, -METRE}, {9 * METRE, 9 * METRE}};
+  dm_filter all = {{0, 0}, 0, 0, 0};
+  dm_shape_id ids[8];
+  dm_hit hits[8];
+  dm_contact contacts[32];
+  dm_command command;
+  dm_answer answer;
+  dm_shape shape = circle_of(METRE);
+  uint8_t *text, *again;
+  uint64_t step;
+  uint32_t clause = 9;
+  size_t found = 0, hit = 0, listed = 0, bytes = 0;
+  make_heap(&world, 5, 120);
+  WANT(dm_region(&world, &box, &found) == DM_DONE && dm_contacts(&world, &listed) == DM_DONE);
+  WANT(dm_ray_all(&world, (dm_vec){0, 20 * METRE}, (dm_vec){0, -40 * METRE}, &all, &hit) == DM_DONE && dm_save(&world, &bytes) == DM_DONE);
+  WANT(found == 6 && listed >= 5 && hit >= 1 && bytes > 100);
+  text = malloc(bytes);
+  again = malloc(bytes);
+  WANT(dm_saved(&world, text, bytes) == bytes);
+  memset(&command, 0, sizeof command);
+  command.kind = DM_DO_PUSH;
+  command.joint.a = (dm_handle){1, 1};
+  command.by = (dm_vec){1000, 0};
+  WANT(dm_push(&world, (dm_handle){1, 1}, (dm_vec){1, 0}) == DM_DONE && dm_step(&world, 4, &step) == DM_DONE);
+  WANT(dm_apply_all(&world, &command, 1, &shape, 1, &answer, 1) == 1 && answer.status == DM_DONE && dm_settle(&world) == DM_DONE);
+  WANT(dm_push(&world, (dm_handle){1, 9}, (dm_vec){1, 0}) == DM_STALE_HANDLE);
+  WANT(dm_copy(&world, &other) == DM_DONE);
+  WANT(dm_region_found(&world, ids, 8) == found && dm_contacts_listed(&world, contacts, 32) == listed && dm_hits_found(&world, hits, 8) == hit);
+  WANT(dm_saved(&world, again, bytes) == bytes && memcmp(text, again, bytes) == 0);
+  WANT(dm_region_found(&other, ids, 8) == 0 && dm_contacts_listed(&other, contacts, 32) == 0 && dm_hits_found(&other, hits, 8) == 0 && dm_saved(&other, again, 1) == 0);
+  WANT(dm_load(&world, (const uint8_t *)"{}", 2, &clause) == DM_BAD_FILE && clause == 1 && dm_region_found(&world, ids, 8) == found);
+  WANT(dm_load(&world, (const uint8_t *)"}", 1, &clause) == DM_BAD_TEXT && clause == 0 && dm_contacts_listed(&world, contacts, 32) == listed);
+  WANT(dm_load(&world, text, bytes, &clause) == DM_DONE && clause == 0);
+  WANT(dm_region_found(&world, ids, 8) == 0 && dm_contacts_listed(&world, contacts, 32) == 0 && dm_hits_found(&world, hits, 8) == 0 && dm_saved(&world, again, 1) == 0);
+  free(text);
+  free(again);
+  dm_close(&world);
+  dm_close(&other);
+}
+
+static void what_there_is(void) {
+  dm_world world = DM_NONE;
+  dm_joint_def def = {{1, 1}, {2, 1}, {10, 20}, {30, 40}, 2 * METRE, 1, 0};
+  dm_handle joint = {0, 0}, ids[4];
+  dm_body_info info;
+  dm_joint_view seen;
+  dm_shape shapes[2];
+  dm_contact contacts[32];
+  dm_counts counts;
+  dm_sum sum, parts;
+  size_t count = 9;
+  make_heap(&world, 5, 120);
+  WANT(dm_create_joint(&world, &def, &joint) == DM_DONE);
+  WANT(dm_info(&world, (dm_handle){1, 1}, &info) == DM_DONE && info.kind == DM_DYNAMIC && info.enabled == 1 && info.mass == 200);
+  WANT(info.inertia == 27000000000000 && info.shapes == 1 && info.island == 1);
+  WANT(dm_info(&world, (dm_handle){0, 1}, &info) == DM_DONE && info.kind == DM_STATIC && info.mass == 0 && info.island == DM_NO_ISLAND);
+  WANT(dm_info(&world, (dm_handle){1, 2}, &info) == DM_STALE_HANDLE && info.kind == DM_STATIC);
+  WANT(dm_shapes(&world, (dm_handle){1, 1}, shapes, 2, &count) == DM_DONE && count == 1 && shapes[0].form == DM_CIRCLE);
+  WANT(shapes[0].radius == METRE / 2 && shapes[0].friction == 128 && shapes[0].category == 1 && shapes[0].mask == UINT64_MAX);
+  WANT(dm_shapes(&world, (dm_handle){0, 1}, shapes, 0, &count) == DM_DONE && count == 1 && shapes[0].form == DM_CIRCLE);
+  WANT(dm_shapes(&world, (dm_handle){0, 1}, shapes, 1, &count) == DM_DONE && shapes[0].form == DM_SEGMENT && shapes[0].second.x == 8 * METRE);
+  WANT(dm_joints(&world, ids, 4) == 1 && ids[0].slot == joint.slot && ids[0].generation == joint.generation);
+  WANT(dm_joints_of(&world, (dm_handle){2, 1}, ids, 4, &count) == DM_DONE && count == 1 && ids[0].slot == joint.slot);
+  WANT(dm_joints_of(&world, (dm_handle){3, 1}, ids, 4, &count) == DM_DONE && count == 0);
+  WANT(dm_joint(&world, joint, &seen) == DM_DONE && memcmp(&seen.def, &def, sizeof def) == 0 && seen.impulse == 0 && seen.colour < 24);
+  WANT(dm_joint(&world, (dm_handle){joint.slot, 7}, &seen) == DM_STALE_HANDLE);
+  WANT(dm_body_in(&world, 5).generation == 1 && dm_body_in(&world, 6).generation == 0 && dm_joint_in(&world, joint.slot).generation == joint.generation);
+  WANT(dm_contacts_of(&world, (dm_handle){1, 1}, contacts, 32, &count) == DM_DONE && count >= 1);
+  for (size_t i = 0; i < count; i++) WANT(contacts[i].pair.first.slot == 1 || contacts[i].pair.second.slot == 1);
+  WANT(dm_count(&world, &counts) == DM_DONE && counts.bodies == 6 && counts.joints == 1 && counts.touching <= counts.contacts && counts.islands >= 1);
+  WANT(dm_total(&world, &sum) == DM_DONE);
+  uint64_t x = 0, y = 0;
+  for (uint32_t cause = 0; cause < 6; cause++) {
+    WANT(dm_total_of(&world, cause, &parts) == DM_DONE);
+    x += parts.x_low;
+    y += parts.y_low;
+  }
+  WANT(x == sum.x_low && y == sum.y_low);
+  WANT(dm_total_of(&world, 6, &parts) == DM_BAD_KIND && dm_rules() == 1);
+  dm_close(&world);
+}
+
+static void through_a_filter(void) {
+  dm_world world = DM_NONE;
+  dm_vec above = {0, 20 * METRE}, down = {0, -40 * METRE};
+  dm_filter all = {{0, 0}, 0, 0, 0}, none = {{0, 0}, 2, 1, 0}, stale = {{1, 9}, 0, 0, 0};
+  dm_box box = {{-9 * METRE, -METRE}, {9 * METRE, 9 * METRE}};
+  dm_hit first, hit, hits[8];
+  dm_shape_id ids[8];
+  size_t count = 9;
+  make_heap(&world, 5, 120);
+  WANT(dm_ray(&world, above, down, &first) == DM_DONE && dm_ray_through(&world, above, down, &all, &hit) == DM_DONE);
+  WANT(first.is_hit == 1 && hit.shape.slot == first.shape.slot && hit.fraction == first.fraction);
+  dm_filter but = {{first.shape.slot, 1}, 0, 0, 0};
+  WANT(dm_ray_through(&world, above, down, &but, &hit) == DM_DONE && hit.is_hit == 1 && hit.shape.slot != first.shape.slot);
+  WANT(dm_ray_through(&world, above, down, &none, &hit) == DM_DONE && hit.is_hit == 0);
+  WANT(dm_ray_through(&world, above, down, &stale, &hit) == DM_STALE_HANDLE);
+  WANT(dm_ray_through(&world, above, (dm_vec){INT64_MAX, 0}, &stale, &hit) == DM_OUT_OF_RANGE);
+  WANT(dm_ray_all(&world, above, down, &all, &count) == DM_DONE && count >= 2 && dm_hits_found(&world, hits, 8) == count);
+  WANT(hits[0].shape.slot == first.shape.slot && hits[0].fraction == first.fraction);
+  for (size_t i = 1; i < count; i++) WANT(hits[i - 1].fraction <= hits[i].fraction);
+  WANT(dm_ray_all(&world, above, down, &stale, &count) == DM_STALE_HANDLE && dm_hits_found(&world, hits, 8) == count);
+  dm_view view;
+  WANT(dm_body(&world, (dm_handle){1, 1}, &view) == DM_DONE);
+  WANT(dm_ray_all(&world, view.pose.at, (dm_vec){0, 0}, &all, &count) == DM_DONE && count >= 1 && dm_hits_found(&world, hits, 8) == count);
+  WANT(hits[0].shape.slot == 1 && hits[0].fraction == 0);
+  WANT(dm_region_through(&world, &box, &but, &count) == DM_DONE && count == 5 && dm_region_found(&world, ids, 8) == 5);
+  WANT(dm_region_through(&world, &box, &stale, &count) == DM_STALE_HANDLE && dm_region_found(&world, ids, 8) == 5);
+  dm_close(&world);
+}
+
 static void in_a_batch(void) {
   dm_world world = DM_NONE, other = DM_NONE;
   dm_command commands[5];
@@ -130,6 +258,9 @@ int main(void) {
   WANT(dm_version() == DM_VERSION);
   without_a_world();
   with_a_heap();
+  what_is_kept();
+  what_there_is();
+  through_a_filter();
   in_a_batch();
   puts("each call answers as it should");
   return 0;

@@ -29,6 +29,16 @@ SIZE(dm_command, 200);
 AT(dm_command, body, 16); AT(dm_command, joint, 96); AT(dm_command, by, 160); AT(dm_command, ticks, 192);
 SIZE(dm_answer, 24);
 AT(dm_answer, made, 8); AT(dm_answer, step, 16);
+SIZE(dm_body_info, 40);
+AT(dm_body_info, mass, 8); AT(dm_body_info, inertia, 16); AT(dm_body_info, shapes, 24); AT(dm_body_info, island, 32);
+SIZE(dm_joint_view, 80);
+AT(dm_joint_view, impulse, 64); AT(dm_joint_view, colour, 72);
+SIZE(dm_counts, 56);
+AT(dm_counts, joints, 16); AT(dm_counts, touching, 32); AT(dm_counts, colours, 48);
+SIZE(dm_sum, 32);
+AT(dm_sum, x_high, 8); AT(dm_sum, y_low, 16);
+SIZE(dm_filter, 24);
+AT(dm_filter, mask, 8); AT(dm_filter, by_mask, 16);
 
 int main(void) {
   puts("the structs lie as the library has them");

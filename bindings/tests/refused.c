@@ -51,6 +51,31 @@ static dm_status region(dm_world *world) {
   size_t count;
   return dm_region(world, &box, &count);
 }
+static dm_status region_through(dm_world *world) {
+  dm_box box = {{-9 * METRE, -METRE}, {9 * METRE, 9 * METRE}};
+  dm_filter filter = {{1, 1}, 0, 0, 0};
+  size_t count;
+  return dm_region_through(world, &box, &filter, &count);
+}
+static dm_status all_hits(dm_world *world) {
+  dm_filter all = {{0, 0}, 0, 0, 0};
+  size_t count;
+  return dm_ray_all(world, (dm_vec){-9 * METRE, METRE}, (dm_vec){18 * METRE, 0}, &all, &count);
+}
+static dm_status own_contacts(dm_world *world) {
+  dm_contact contacts[4];
+  size_t count;
+  return dm_contacts_of(world, (dm_handle){1, 1}, contacts, 4, &count);
+}
+static dm_status own_joints(dm_world *world) {
+  dm_handle joints[4];
+  size_t count;
+  return dm_joints_of(world, (dm_handle){1, 1}, joints, 4, &count);
+}
+static dm_status counts(dm_world *world) {
+  dm_counts all;
+  return dm_count(world, &all);
+}
 static dm_status digest(dm_world *world) {
   uint8_t bytes[DM_DIGEST_SIZE];
   return dm_digest(world, bytes, DM_DIGEST_SIZE);
@@ -73,7 +98,8 @@ typedef struct {
 } call_t;
 static const call_t calls[] = {{"create", create}, {"join", join}, {"destroy", destroy}, {"push", push}, {"disable", disable}, {"sleep", rest},
                                {"step", step}, {"copy", copy}, {"save", save}, {"load", load}, {"contacts", contacts}, {"region", region},
-                               {"digest", digest}, {"batch", batch}};
+                               {"region through", region_through}, {"all hits", all_hits}, {"own contacts", own_contacts}, {"own joints", own_joints},
+                               {"counts", counts}, {"digest", digest}, {"batch", batch}};
 
 static int try_call(call_t each) {
   dm_world before = DM_NONE, wanted = DM_NONE, world = DM_NONE;

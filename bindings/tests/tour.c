@@ -92,6 +92,35 @@ static void look(void) {
   printf("%" PRIu64 " steps, gravity %" PRId64 "\n", dm_steps(&world), dm_gravity(&world).y);
 }
 
+/* What bodies and joints are, how much there is, and questions through a filter. */
+static void look_closer(void) {
+  dm_filter but_the_floor = {{0, 1}, 1, 1, 0};
+  dm_box box = {{-9 * METRE, -METRE}, {9 * METRE, 9 * METRE}};
+  dm_body_info info;
+  dm_joint_view joint;
+  dm_shape shape;
+  dm_handle id;
+  dm_contact contact;
+  dm_counts counts;
+  dm_sum gravity, total;
+  dm_hit hits[16];
+  size_t shapes = 0, joints = 0, contacts = 0, hit = 0, found = 0;
+  WANT(dm_info(&world, balls[0], &info) == DM_DONE && dm_shapes(&world, balls[0], &shape, 1, &shapes) == DM_DONE);
+  WANT(dm_joints_of(&world, balls[0], &id, 1, &joints) == DM_DONE && dm_contacts_of(&world, balls[0], &contact, 1, &contacts) == DM_DONE);
+  printf("a body of kind %" PRIu32 ", mass %" PRId64 ", radius %" PRId64 ", with %zu shapes, %zu joints, %zu contacts, in island %" PRIu32 "\n", info.kind,
+         info.mass, shape.radius, shapes, joints, contacts, info.island);
+  WANT(dm_joints(&world, &id, 1) == 1 && dm_joint(&world, id, &joint) == DM_DONE && dm_joint_in(&world, id.slot).generation == id.generation);
+  printf("a joint of %" PRIu32 ".%" PRIu32 " and %" PRIu32 ".%" PRIu32 ", length %" PRId64 ", impulse %" PRId64 "\n", joint.def.a.slot, joint.def.a.generation,
+         joint.def.b.slot, joint.def.b.generation, joint.def.length, joint.impulse);
+  WANT(dm_count(&world, &counts) == DM_DONE && dm_total_of(&world, DM_BY_GRAVITY, &gravity) == DM_DONE && dm_total(&world, &total) == DM_DONE);
+  printf("%zu bodies, %zu awake, %zu joints, %zu contacts, %zu touching, %zu islands, %zu colours\n", counts.bodies, counts.awake, counts.joints, counts.contacts,
+         counts.touching, counts.islands, counts.colours);
+  printf("gravity gave %" PRId64 ", all gave %" PRId64 ", by rules %" PRIu32 "\n", (int64_t)gravity.y_low, (int64_t)total.y_low, dm_rules());
+  WANT(dm_ray_all(&world, (dm_vec){-9 * METRE, METRE / 2}, (dm_vec){18 * METRE, 0}, &but_the_floor, &hit) == DM_DONE && hit <= 16);
+  WANT(dm_hits_found(&world, hits, 16) == hit && dm_region_through(&world, &box, &but_the_floor, &found) == DM_DONE);
+  printf("%zu hits and %zu shapes but for the floor, body %" PRIu32 ".%" PRIu32 "\n", hit, found, dm_body_in(&world, 1).slot, dm_body_in(&world, 1).generation);
+}
+
 static void keep(void) {
   dm_world other = DM_NONE;
   digest_t digest = digest_of(&world);
@@ -117,6 +146,7 @@ int main(void) {
   command_all();
   play(60);
   look();
+  look_closer();
   keep();
   dm_close(&world);
   return 0;

@@ -102,6 +102,27 @@ void look(scene &scene) {
   std::printf("%" PRIu64 " steps, gravity %" PRId64 "\n", world.steps(), world.gravity().y);
 }
 
+void look_closer(scene &scene) {
+  const dm::world &world = scene.world;
+  const dm_filter but_the_floor = {{0, 1}, 1, 1, 0};
+  const dm::body_id ball = scene.balls[0];
+  dm_body_info info = world.info(ball).value();
+  std::vector<dm_shape> shapes = world.shapes(ball);
+  std::printf("a body of kind %" PRIu32 ", mass %" PRId64 ", radius %" PRId64 ", with %zu shapes, %zu joints, %zu contacts, in island %" PRIu32 "\n", info.kind,
+              info.mass, shapes[0].radius, shapes.size(), world.joints(ball).size(), world.contacts(ball).size(), info.island);
+  dm_joint_view joint = world.joint(world.joints().at(0)).value();
+  std::printf("a joint of %" PRIu32 ".%" PRIu32 " and %" PRIu32 ".%" PRIu32 ", length %" PRId64 ", impulse %" PRId64 "\n", joint.def.a.slot,
+              joint.def.a.generation, joint.def.b.slot, joint.def.b.generation, joint.def.length, joint.impulse);
+  dm_counts counts = world.count();
+  std::printf("%zu bodies, %zu awake, %zu joints, %zu contacts, %zu touching, %zu islands, %zu colours\n", counts.bodies, counts.awake, counts.joints,
+              counts.contacts, counts.touching, counts.islands, counts.colours);
+  std::printf("gravity gave %" PRId64 ", all gave %" PRId64 ", by rules %" PRIu32 "\n", std::int64_t(world.total_of(DM_BY_GRAVITY).y_low),
+              std::int64_t(world.total().y_low), dm_rules());
+  dm_handle first = world.body_in(1).handle();
+  std::printf("%zu hits and %zu shapes but for the floor, body %" PRIu32 ".%" PRIu32 "\n", world.all_hits({-9 * METRE, METRE / 2}, {18 * METRE, 0}, but_the_floor).size(),
+              world.region({{-9 * METRE, -METRE}, {9 * METRE, 9 * METRE}}, but_the_floor).size(), first.slot, first.generation);
+}
+
 void keep(dm::world world) {
   auto digest = world.digest();
   std::string text = world.save();
@@ -131,5 +152,6 @@ int main() {
   command_all(scene);
   play(scene.world, 60);
   look(scene);
+  look_closer(scene);
   keep(std::move(scene.world));
 }

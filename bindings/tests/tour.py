@@ -6,8 +6,9 @@ import sys
 from pathlib import Path
 
 sys.path.insert(0, str(Path(__file__).resolve().parent.parent / "python"))
-from dillmonth import (METRE, NOBODY, ONE, Body, Command, Do, Joint, Pose, Refused, Rot, Set, Vec, World, at, capsule, circle, degrees, gravity,  # noqa: E402
-                       segment, share)
+import dillmonth  # noqa: E402
+from dillmonth import (METRE, NOBODY, ONE, Body, Cause, Command, Do, Filter, Handle, Joint, Pose, Refused, Rot, Set, Vec, World, at, capsule,  # noqa: E402
+                       circle, degrees, gravity, segment, share)
 
 
 def make_scene():
@@ -80,6 +81,22 @@ def look(world, balls):
     print(f"{world.steps} steps, gravity {world.gravity.y}")
 
 
+def look_closer(world, balls):
+    through = Filter.of(world.body_in(0), 1)
+    info, shapes, joint = world.info(balls[0]), world.shapes(balls[0]), world.joint(world.joints()[0])
+    assert world.info(Handle(1, 9)) is None and world.joint(Handle(9, 9)) is None and world.body_in(99) is None
+    print(f"a body of kind {info.kind}, mass {info.mass}, radius {shapes[0].radius}, with {len(shapes)} shapes, {len(world.joints_of(balls[0]))} joints, "
+          f"{len(world.contacts_of(balls[0]))} contacts, in island {info.island}")
+    a, b = joint.joint.a, joint.joint.b
+    print(f"a joint of {a.slot}.{a.generation} and {b.slot}.{b.generation}, length {joint.joint.length}, impulse {joint.impulse}")
+    counts = world.count()
+    print(f"{counts.bodies} bodies, {counts.awake} awake, {counts.joints} joints, {counts.contacts} contacts, {counts.touching} touching, "
+          f"{counts.islands} islands, {counts.colours} colours")
+    print(f"gravity gave {world.total(Cause.GRAVITY)[1]}, all gave {world.total()[1]}, by rules {dillmonth.load_library().dm_rules()}")
+    hits, found = world.all_hits((-9 * METRE, METRE // 2), (18 * METRE, 0), through), world.region((-9 * METRE, -METRE), (9 * METRE, 9 * METRE), through)
+    print(f"{len(hits)} hits and {len(found)} shapes but for the floor, body {world.body_in(1).slot}.{world.body_in(1).generation}")
+
+
 def keep(world):
     digest, text = world.digest(), world.save()
     with World.load(text) as other:
@@ -98,6 +115,7 @@ def main():
     command_all(world, balls, platform)
     play(world, 60)
     look(world, balls)
+    look_closer(world, balls)
     keep(world)
 
 

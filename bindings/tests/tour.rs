@@ -3,7 +3,8 @@
 #[path = "../rust/dillmonth.rs"]
 mod dillmonth;
 
-use dillmonth::{gravity, BodyDef, BodyId, Box2, Command, Joint, Mass, Refused, Reply, Rot, Set, Shape, Vec2, World, METRE, NOBODY, RATE, UPRIGHT};
+use dillmonth::{gravity, BodyDef, BodyId, Box2, Cause, Command, Counts, Filter, Form, Joint, Mass, Refused, Reply, Rot, Set, Shape, Vec2, World, METRE, NOBODY, RATE,
+                UPRIGHT};
 use std::collections::{BTreeSet, HashMap};
 
 fn at(x: i64, y: i64) -> Vec2 {
@@ -111,6 +112,27 @@ fn look(scene: &Scene) -> Result<(), Refused> {
     Ok(())
 }
 
+fn look_closer(scene: &Scene) -> Result<(), Refused> {
+    let Scene { world, balls, .. } = scene;
+    let filter = Filter { without: world.body_in(0), mask: Some(1) };
+    let (info, shapes) = (world.info(balls[0]).expect("the ball is there"), world.shapes(balls[0])?);
+    let Form::Circle { radius, .. } = shapes[0].form else { panic!("a ball is a circle") };
+    let (joints, contacts) = (world.joints_of(balls[0])?.len(), world.contacts_of(balls[0])?.len());
+    let (kind, mass, island) = (info.kind as u32, info.mass.mass, info.island.expect("a mover has an island"));
+    println!("a body of kind {kind}, mass {mass}, radius {radius}, with {} shapes, {joints} joints, {contacts} contacts, in island {island}", shapes.len());
+    let view = world.joint(world.joints()[0]).expect("the joint is there");
+    let (a, b) = (view.joint.a.0, view.joint.b.0);
+    println!("a joint of {}.{} and {}.{}, length {}, impulse {}", a.slot, a.generation, b.slot, b.generation, view.joint.length, view.impulse);
+    let Counts { bodies, awake, joints, contacts, touching, islands, colours } = world.count()?;
+    println!("{bodies} bodies, {awake} awake, {joints} joints, {contacts} contacts, {touching} touching, {islands} islands, {colours} colours");
+    println!("gravity gave {}, all gave {}, by rules {}", world.total_of(Cause::Gravity).1, world.total().1, dillmonth::rules());
+    let hits = world.all_hits(at(-9 * METRE, METRE / 2), at(18 * METRE, 0), &filter)?.len();
+    let found = world.region_through(Box2 { lo: at(-9 * METRE, -METRE), hi: at(9 * METRE, 9 * METRE) }, &filter)?.len();
+    let first = world.body_in(1).expect("the first ball is there");
+    println!("{hits} hits and {found} shapes but for the floor, body {}.{}", first.slot, first.generation);
+    Ok(())
+}
+
 fn keep(world: World) -> Result<(), Refused> {
     let digest = world.digest()?;
     let text = world.save()?;
@@ -131,5 +153,6 @@ fn main() -> Result<(), Refused> {
     command_all(&mut scene)?;
     play(&mut scene.world, 60)?;
     look(&mut scene)?;
+    look_closer(&scene)?;
     keep(scene.world)
 }

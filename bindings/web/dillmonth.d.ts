@@ -108,6 +108,12 @@ export interface Contact {
   impulses: bigint[];
 }
 export interface Hit { fraction: number; shape: ShapeId }
+/** Which shapes a question sees: all but those of one body, and those alone whose category meets a mask. */
+export interface Filter { without?: Handle; mask?: bigint | null }
+export interface BodyInfo { kind: 0 | 1 | 2; isEnabled: boolean; mass: bigint; inertia: bigint; shapes: number; island: number | null }
+export interface BodyShape { form: 0 | 1 | 2; group: number; first: Vec; second: Vec; radius: bigint; friction: bigint; restitution: bigint; category: bigint; mask: bigint }
+export interface JointView { a: Handle; b: Handle; from: Vec; to: Vec; length: bigint; collide: boolean; impulse: bigint; colour: number | null }
+export interface Counts { bodies: number; awake: number; joints: number; contacts: number; touching: number; islands: number; colours: number }
 export interface Answer { status: number; made: Handle; step: bigint }
 
 interface Commands<Made, Done, Step> {
@@ -187,6 +193,19 @@ export class World implements Commands<Handle, void, bigint> {
   gravity(): Vec;
   ray(from: VecLike, along: VecLike): Hit | null;
   region(lo: VecLike, hi: VecLike): ShapeId[];
+  rayThrough(from: VecLike, along: VecLike, filter: Filter): Hit | null;
+  allHits(from: VecLike, along: VecLike, filter?: Filter): Hit[];
+  regionThrough(lo: VecLike, hi: VecLike, filter: Filter): ShapeId[];
+  info(body: Handle): BodyInfo | null;
+  shapes(body: Handle): BodyShape[];
+  jointsOf(body: Handle): Handle[];
+  contactsOf(body: Handle): Contact[];
+  joints(): Handle[];
+  joint(joint: Handle): JointView | null;
+  bodyIn(slot: number): Handle | null;
+  jointIn(slot: number): Handle | null;
+  count(): Counts;
+  total(cause?: number | null): { x: bigint; y: bigint };
   contacts(): Contact[];
   save(): string;
   load(text: string): void;

@@ -32,7 +32,7 @@ export const generationOf = (handle) => Number(handle >> 32n);
 
 const ORIGIN = { x: 0n, y: 0n };
 const UPRIGHT = { c: ONE, s: 0n };
-const SHAPE_BYTES = 80, POSE_BYTES = 40, CONTACT_BYTES = 88, PAIR_BYTES = 16, ID_BYTES = 8, COMMAND_BYTES = 200, ANSWER_BYTES = 24;
+const SHAPE_BYTES = 80, POSE_BYTES = 40, CONTACT_BYTES = 88, PAIR_BYTES = 16, ID_BYTES = 8, HIT_BYTES = 16, COMMAND_BYTES = 200, ANSWER_BYTES = 24;
 const BODY = 16, AT = 24, FACING = 40, VELOCITY = 72, SPIN = 88, JOINT = 96, ID = 96, BY = 160, OFFSET = 176, TICKS = 192; // places in a command
 const NO_WORLD = 32;
 
@@ -147,6 +147,7 @@ function massWithin(mass, twiceOver, under) {
 // ---- refusals ----
 
 const STALE_HANDLE = 2;
+const NONE = 0xffffffff; // of an island or a colour, where there is none
 const TEXTS = {
   1: "there is no memory", 2: "the id names nothing that lives", 3: "no slot can be given out", 4: "no shape or more than eight, or one that isn't allowed",
   5: "a number is outside its limit", 6: "the body isn't dynamic", 7: "both ends of the joint are one body", 8: "the body is disabled",
@@ -188,6 +189,9 @@ class Writer {
     this.vec(def.at); this.rot(def.facing ?? UPRIGHT); this.i64(def.mass ?? 0n); this.i64(def.inertia ?? 0n);
     this.vec(def.velocity ?? ORIGIN); this.i64(def.spin ?? 0n);
   }
+  filter({ without = 0n, mask = null } = {}) {
+    this.u64(without); this.u64(mask ?? 0n); this.u32(mask === null ? 0 : 1); this.u32(0);
+  }
   joint(def) {
     this.u64(def.a); this.u64(def.b); this.vec(def.from); this.vec(def.to); this.i64(def.length);
     this.u32(def.collide ? 1 : 0); this.u32(0);
@@ -217,6 +221,30 @@ class Reader {
     this.u32();
     const normal = this.vec(), offsets = [this.vec(), this.vec()], impulses = [this.i64(), this.i64()];
     return { a, b, normal, offsets: offsets.slice(0, points), impulses: impulses.slice(0, points) };
+  }
+  shape() {
+    const form = this.u32(), group = this.view.getInt32(this.at, true);
+    this.at += 4;
+    const first = this.vec(), second = this.vec(), radius = this.i64(), friction = this.i64(), restitution = this.i64();
+    return { form, group, first, second, radius, friction, restitution, category: this.u64(), mask: this.u64() };
+  }
+  info() {
+    const kind = this.u32(), isEnabled = this.u32() !== 0, mass = this.i64(), inertia = this.i64(), shapes = Number(this.u64()), island = this.u32();
+    return { kind, isEnabled, mass, inertia, shapes, island: island === NONE ? null : island };
+  }
+  jointView() {
+    const a = this.u64(), b = this.u64(), from = this.vec(), to = this.vec(), length = this.i64(), collide = this.u32() !== 0;
+    this.u32();
+    const impulse = this.i64(), colour = this.u32();
+    return { a, b, from, to, length, collide, impulse, colour: colour === NONE ? null : colour };
+  }
+  counts() {
+    const next = () => Number(this.u64());
+    return { bodies: next(), awake: next(), joints: next(), contacts: next(), touching: next(), islands: next(), colours: next() };
+  }
+  sum() {
+    const wide = () => { const low = this.u64(); return (this.i64() << 64n) | low; };
+    return { x: wide(), y: wide() };
   }
   answer() {
     const status = this.u32();
@@ -512,6 +540,81 @@ export class World {
     writer.vec(hi);
     done(this.calls.dm_region(this.world, BigInt(at), BigInt(at + 32)));
     return this.list(this.calls.dm_region_found, ID_BYTES, (reader) => reader.id());
+  }
+
+  /** The first shape on the way of those that a filter lets through: all but those of the body `without`, and those alone whose category meets `mask`. */
+  rayThrough(from, along, filter) {
+    const at = this.library.room(0, 96);
+    new Writer(this.library.view(), at).filter(filter);
+    done(this.calls.dm_ray_through(this.world, int64(from.x), int64(from.y), int64(along.x), int64(along.y), BigInt(at), BigInt(at + 32)));
+    const reader = new Reader(this.library.view(), at + 32), isHit = reader.u32() !== 0, fraction = reader.u32();
+    return isHit ? { fraction, shape: reader.id() } : null;
+  }
+
+  /** All hits on the way, the nearest first. A way of zero hits the shapes that the start lies in. */
+  allHits(from, along, filter = {}) {
+    const at = this.library.room(0, 96);
+    new Writer(this.library.view(), at).filter(filter);
+    done(this.calls.dm_ray_all(this.world, int64(from.x), int64(from.y), int64(along.x), int64(along.y), BigInt(at), BigInt(at + 32)));
+    return this.list(this.calls.dm_hits_found, HIT_BYTES, (reader) => { reader.u32(); return { fraction: reader.u32(), shape: reader.id() }; });
+  }
+
+  regionThrough(lo, hi, filter) {
+    const { library } = this, at = library.room(0, 96), writer = new Writer(library.view(), at);
+    writer.vec(lo);
+    writer.vec(hi);
+    writer.filter(filter);
+    done(this.calls.dm_region_through(this.world, BigInt(at), BigInt(at + 32), BigInt(at + 56)));
+    return this.list(this.calls.dm_region_found, ID_BYTES, (reader) => reader.id());
+  }
+
+  // ---- what a body and a joint are, and how much there is ----
+
+  /** What a call writes of a body or a joint, or null where the id names none. */
+  seen(call, id, read) {
+    const at = this.library.room(0, 96), status = call(this.world, id, BigInt(at));
+    if (status === STALE_HANDLE) return null;
+    done(status);
+    return read(new Reader(this.library.view(), at));
+  }
+
+  /** What a body has, each item of which `read` takes from a reader. */
+  listOf(call, body, bytes, read) {
+    const { library } = this, count = library.room(0, 96);
+    const ask = (fits) => {
+      const at = library.room(1, bytes * fits);
+      done(call(this.world, body, BigInt(at), BigInt(fits), BigInt(count)));
+      return { at, count: Number(library.view().getBigUint64(count, true)) };
+    };
+    let asked = ask(64);
+    if (asked.count > 64) asked = ask(asked.count);
+    const reader = new Reader(library.view(), asked.at);
+    return Array.from({ length: asked.count }, () => read(reader));
+  }
+
+  /** What a body is: its kind, whether it takes part, its mass and inertia, how many shapes it has, and a mover's island; null where the id names none. */
+  info(body) { return this.seen(this.calls.dm_info, body, (reader) => reader.info()); }
+  shapes(body) { return this.listOf(this.calls.dm_shapes, body, SHAPE_BYTES, (reader) => reader.shape()); }
+  jointsOf(body) { return this.listOf(this.calls.dm_joints_of, body, ID_BYTES, (reader) => reader.u64()); }
+  contactsOf(body) { return this.listOf(this.calls.dm_contacts_of, body, CONTACT_BYTES, (reader) => reader.contact()); }
+  joints() { return this.list(this.calls.dm_joints, ID_BYTES, (reader) => reader.u64()); }
+  /** Its ends, its anchors, its length, the impulse that it keeps, and its colour while it acts; null where the id names none. */
+  joint(joint) { return this.seen(this.calls.dm_joint, joint, (reader) => reader.jointView()); }
+  /** The id of the body in a slot, as a pair of shapes names it; null where there is none. */
+  bodyIn(slot) { return BigInt.asUintN(64, this.calls.dm_body_in(this.world, slot)) || null; }
+  jointIn(slot) { return BigInt.asUintN(64, this.calls.dm_joint_in(this.world, slot)) || null; }
+
+  count() {
+    const at = this.library.room(0, 96);
+    done(this.calls.dm_count(this.world, BigInt(at)));
+    return new Reader(this.library.view(), at).counts();
+  }
+
+  /** What a cause (0 commands, 1 gravity, 2 bodies that don't give way, 3 the clamp, 4 rest, 5 departures), or what all have given the movers, in mass·u/tick. */
+  total(cause = null) {
+    const at = this.library.room(0, 96);
+    done(cause === null ? this.calls.dm_total(this.world, BigInt(at)) : this.calls.dm_total_of(this.world, cause, BigInt(at)));
+    return new Reader(this.library.view(), at).sum();
   }
 
   /** The contacts of near shapes, with their points, which only those have that touch. */

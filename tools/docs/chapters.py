@@ -157,7 +157,14 @@ PARTS = {
             "queries",
             "Rays and regions",
             "What a ray hits, and which shapes overlap a region.",
-            "world_queries/Posed world_queries/Framed world_queries/Filters world_queries/Limits shape_rays/Hits shapes/src/beam.rt shapes/Rays",
+            "world_queries/Posed world_queries/Framed world_queries/Filters world_queries/AllHits world_queries/Limits shape_rays/Hits shapes/src/beam.rt "
+            "shapes/Rays",
+        ),
+        Chapter(
+            "asked",
+            "What a world is asked",
+            "The ids of its bodies and joints, the joints and contacts of a body, and counts.",
+            "world_core/Walks world_core_base/JointTables world_queries/Joints world_queries/OwnContacts world_queries/Counts",
         ),
         Chapter("workers", "Workers", "What a step by workers is.", "world_workers/Workers crew/Refusals"),
         Chapter(
@@ -201,10 +208,13 @@ PARTS = {
             "library",
             "The library",
             "A world's life: how it is opened, copied, saved, loaded, told apart from others and closed.",
-            "world_desk/src dillmonth/src/statuses.rt dillmonth/src/keeping.rt dillmonth/src/held.rt dillmonth/Keeping dillmonth/Statuses world_desk/Texts",
+            "world_desk/src dillmonth/src/statuses.rt dillmonth/src/keeping.rt dillmonth/src/held.rt dillmonth/Keeping dillmonth/Statuses world_desk/Texts "
+            "world_desk/Clear",
         ),
         Chapter("library_commands", "Commands of the library", "What each call that is a command does, and a batch of commands.", "dillmonth/Calls dillmonth/Batch"),
-        Chapter("library_questions", "Questions of the library", "What each call that only asks answers.", "dillmonth/src/questions.rt dillmonth/Questions dillmonth/Lists"),
+        Chapter("library_questions", "Questions of the library", "What each call that only asks answers.", "dillmonth/src/questions.rt dillmonth/Questions"),
+        Chapter("library_lists", "Lists of the library", "The lists that the library keeps for a world, and what is left of each.", "dillmonth/Lists"),
+        Chapter("library_getters", "Getters of the library", "What each call answers that asks for one body, joint or count.", "dillmonth/Getters"),
         Chapter("library_forms", "Structs of the library", "The structs of C, and what each means for a world.", "dillmonth/src/forms.rt dillmonth/Forms"),
     ],
     "Inside the solver": [

@@ -264,6 +264,8 @@ def main(words):
     check = Check(Repository())
     for page in pages(words):
         check.page(page)
+    for path in check.repository.files:
+        check.test(not path.is_symlink(), path, 1, "is a link, and the kit takes no tree with one")
     tell_of_dist()
     print(f"{check.passed} passed, {check.failed} failed")
     sys.exit(1 if check.failed or not check.passed else 0)

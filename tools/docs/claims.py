@@ -27,7 +27,7 @@ OF_README = [
         Claim("`replay` is its fold.", [Contract("commands", "world_core", "WorldCore::replay", "answers world")]),
         Claim(
             "A step by workers is the step of one thread.",
-            [Contract("workers", "world_workers", "step_with step_with_memory"), Contract("workers", "world_core", "WorldCore::step_by WorldCore::step_one")],
+            [Contract("workers", "world_workers", "step_with StepWorkers::step"), Contract("workers", "world_core", "WorldCore::step_by WorldCore::step_one")],
         ),
     ],
     [Claim("The headline holds for every shared world.", [Contract("headline", "world_lock", "Held::headline")])],

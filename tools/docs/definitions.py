@@ -4,6 +4,7 @@
     tools/docs/definitions.py             writes the chapters and their contents, the table of claims in PROVED.md, and the ends of the pages that
                                           lead to chapters
     tools/docs/definitions.py --check     fails where a page isn't what the script makes of the sources as they are
+    tools/docs/definitions.py --mark      says in the first line of each file of definitions whether it is trusted, and then writes the pages
 
 A contract is worth what the definitions that it cites say. `claims.py` has what is claimed, and the contracts that say it. The book has what the
 clauses of these name, what these definitions name, and so on, each on the page that `chapters.py` gives to its file. It fails where
@@ -12,6 +13,8 @@ clauses of these name, what these definitions name, and so on, each on the page 
 - a claim names a function or a clause that isn't there;
 - a claim rests on a definition that no chapter has, or a chapter has a file of which no claim needs anything;
 - a chapter has more lines than a reader takes in one piece;
+- a file of definitions says in its first line that it is trusted and no claim rests on it, or the other way round;
+- a constant on which a claim rests is said in digits by no law;
 - the count of `recount.py`, which finds the definitions a second time on the pages, disagrees.
 
 In a chapter the contracts come first. In a file each definition comes before those that it uses. Types and constants of the code follow the file
@@ -40,6 +43,8 @@ NAMED = re.compile(r"\[`(\w+/[A-Z]\w*)\.([\w']+)`\](?!:)")
 # The lines of docs/PROVED.md between which the table of claims stands.
 TABLE_STARTS = "<!-- The claims: tools/docs/definitions.py writes this table -->"
 TABLE_ENDS = "<!-- The end of the claims -->"
+# What the first line of a file of definitions begins with on which a claim rests.
+TRUSTED = "-- Trusted: "
 # A row of the table counts the functions of one crate from so many on.
 MANY = 7
 # A row names so many clauses of a function, and counts more.
@@ -287,6 +292,33 @@ def readme_faults():
     ]
 
 
+def is_marked(file):
+    return file.lines[0].startswith(TRUSTED)
+
+
+def trusted_files(book):
+    return {each.file for each in book.definitions()}
+
+
+def source_faults(book):
+    """Files of definitions whose first line says the wrong of their being trusted, and constants without digits."""
+    trusted, files = trusted_files(book), book.reach.files
+    wrong = [key for key, file in files.items() if is_marked(file) != (key in trusted)]
+    found = [f"{key}: the first line says the wrong of whether a claim rests on it, which --mark mends" for key in wrong]
+    constants = [item for item in book.items() if item.kind == "const" and not book.reach.digits_of(item)]
+    return found + [f"{item.name} of {item.file} is said in digits by no law of its crate" for item in constants]
+
+
+def mark_files(book):
+    """Writes into the first line of each file of definitions whether it is trusted."""
+    trusted = trusted_files(book)
+    for key, file in book.reach.files.items():
+        if is_marked(file) != (key in trusted):
+            about = re.sub(r"^-- (Trusted: |Inner: )?", "", file.lines[0])
+            file.lines[0] = (TRUSTED if key in trusted else "-- ") + about
+            file.path.write_text("\n".join(file.lines) + "\n", encoding="utf-8")
+
+
 def with_table(text, table):
     """A text with the table of claims between the lines that enclose it."""
     if TABLE_STARTS not in text or TABLE_ENDS not in text:
@@ -318,7 +350,7 @@ def made_pages(book):
 
 def faults_of(book, made):
     """What is wrong with a book."""
-    found = readme_faults()
+    found = readme_faults() + source_faults(book)
     chapters = {path: text for path, text in made.items() if path.parent == BOOK and path.name != "README.md"}
     for path, text in chapters.items():
         if text.count("\n") > MOST_LINES:
@@ -332,13 +364,15 @@ def faults_of(book, made):
 
 
 def main(words):
-    if words not in ([], ["--check"]):
+    if words not in ([], ["--check"], ["--mark"]):
         sys.exit(__doc__)
     book = Book(Reach())
+    if words == ["--mark"]:
+        mark_files(book)
     made = made_pages(book)
     faults = faults_of(book, made)
     left = {path for path in BOOK.glob("*.md") if path not in made}
-    if not words:
+    if words != ["--check"]:
         BOOK.mkdir(exist_ok=True)
         for path, text in made.items():
             path.write_text(text, encoding="utf-8")

@@ -1,4 +1,4 @@
--- Whole runs of calls, and the law of generations.
+-- Trusted: Whole runs of calls, and the law of generations.
 use Rattle.std.specs.Prelude.{◌≡◌, List, [], ◌∷◌, nat_lt, false, if◌then◌else◌}
 use Rattle.body_handles.specs.declared.slot_table.TheConstants.{MAX_SLOTS}
 use Rattle.body_handles.specs.declared.handle.Handle.{Handle}

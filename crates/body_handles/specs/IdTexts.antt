@@ -1,4 +1,4 @@
--- How a script writes the id of a body.
+-- Trusted: How a script writes the id of a body.
 use Rattle.std.specs.Prelude.{◌≡◌, ◌<◌, ◌⊎◌, ◌++◌, ◌∷◌, ℕ, List, length, slice_index}
 use Rattle.std.specs.Fmt.{decimal}
 use Rattle.body_handles.specs.declared.handle.Handle.{Handle}

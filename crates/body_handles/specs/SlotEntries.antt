@@ -1,4 +1,4 @@
--- Slots that are given out, with a generation each.
+-- Trusted: Slots that are given out, with a generation each.
 use Rattle.std.specs.Prelude.{◌≡◌, ℕ, ◌+◌, ◌<◌, ◌≤◌, Bool, true, false, not, ◌&&◌, nat_lt, ◌==◌, List, [], ◌∷◌, ◌++◌, length, slice_get, slice_set, Some, None, Option, IsSomeAnd, All, if◌then◌else◌}
 use Rattle.std.specs.List.{position_or_len}
 use Rattle.body_handles.specs.declared.slot_table.TheConstants.{MAX_SLOTS, WORN_OUT}

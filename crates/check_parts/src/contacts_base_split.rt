@@ -34,13 +34,13 @@ fn a_contact_that_is_over_stays_in_the_long_list_and_counts_no_more(
         &[has(&contacts, KEY), has(&contacts, TURNED)],
         &[true, false],
     );
-    contacts.end_at(7);
+    contacts.end(TURNED);
     same(
         &rt,
         &[contacts.is_one(), has(&contacts, KEY)],
         &[true, true],
     );
-    contacts.end_at(0);
+    contacts.end(KEY);
     same(
         &rt,
         &[contacts.is_one(), has(&contacts, KEY)],

@@ -1,10 +1,11 @@
-//! Maps by `crew` on threads: each item is worked once, in order of the answers, and pieces do meet.
+//! Maps by `crew` on threads: each item is worked once, in order of the answers, and all pieces do meet.
 
-use crew::{Crew, Gate, OpenGate, Work, map_pieces, start};
+use crew::{Crew, Gate, OpenGate, Work, map_pieces, sole, start};
+use fixed_geom::Refusal;
 use std::alloc::Global;
 use std::process::Abort;
-use std::sync::Wait;
 use std::sync::atomic::{AtomicU64, Ordering};
+use std::sync::{Arc, Wait};
 use std::test::Fail;
 use std::thread;
 use std::thread::{Scope, Threads};
@@ -86,6 +87,62 @@ impl Gate for Holding<'_> {
     }
 }
 
+/// Holds each piece until all pieces of its map have entered. Notes which pieces have entered, and how many waited too long or were of another
+/// number of pieces than is due.
+#[derive(Drop)]
+struct Gathering {
+    due: u64,
+    entered: AtomicU64,
+    pieces: AtomicU64,
+    late: AtomicU64,
+    wrong: AtomicU64,
+}
+
+impl Gathering {
+    fn new(due: u64) -> Gathering {
+        Gathering {
+            due,
+            entered: AtomicU64::new(0),
+            pieces: AtomicU64::new(0),
+            late: AtomicU64::new(0),
+            wrong: AtomicU64::new(0),
+        }
+    }
+
+    /// Yields until so many have entered.
+    fn wait(&self, count: u64) -> bool {
+        for _ in 0..LIMIT {
+            if self.entered.load(Ordering::SeqCst) >= count {
+                return true;
+            }
+            thread::yield_now();
+        }
+        false
+    }
+
+    /// Whether so many maps had each of their pieces once, and all of them at once.
+    fn has_seen(&self, maps: u64) -> bool {
+        let entered = self.entered.load(Ordering::SeqCst);
+        let pieces = self.pieces.load(Ordering::SeqCst);
+        let amiss = self.late.load(Ordering::SeqCst) != 0 || self.wrong.load(Ordering::SeqCst) != 0;
+        !amiss && entered == maps.saturating_mul(self.due) && pieces == (1 << (self.due % 64)) - 1
+    }
+}
+
+impl Gate for Gathering {
+    fn enter<R: Wait>(&self, _rt: &R, piece: usize, of: usize) {
+        if of as u64 != self.due {
+            self.wrong.fetch_add(1, Ordering::SeqCst);
+        }
+        self.pieces.fetch_or(1 << (piece % 64), Ordering::SeqCst);
+        let before = self.entered.fetch_add(1, Ordering::SeqCst);
+        let maps = (before / self.due.max(1)).saturating_add(1);
+        if !self.wait(maps.saturating_mul(self.due)) {
+            self.late.fetch_add(1, Ordering::SeqCst);
+        }
+    }
+}
+
 /// Two items on two workers, where one piece waits for the other's item.
 fn hold<R: Threads + Wait + Abort + Sync>(rt: &R, alloc: Global, piece: usize, item: u32) {
     let worked = AtomicU64::new(0);
@@ -143,6 +200,67 @@ fn map_crew<'s, G: Gate, R: Wait + Abort>(
     }
     crew.map(rt, Sums { worked }, &mut stack, &mut answers);
     assert_eq!(rt; answers.as_slice(), sums);
+}
+
+/// As many items as workers, many times by a crew that borrows its work, and then none.
+fn gather_crew<'s, E, R: Threads + Wait + Abort + Sync>(
+    scope: &Scope<'s, E>,
+    rt: &'s R,
+    alloc: Global,
+    gate: &'s Gathering,
+    workers: usize,
+    worked: &'s AtomicU64,
+) {
+    let Ok(mut crew) = start(scope, rt, alloc, gate, workers, 1, 1) else {
+        panic!(rt; "a crew")
+    };
+    let Ok(work) = Arc::new(alloc, Sums { worked }) else {
+        panic!(rt; "work that is shared")
+    };
+    let count = workers.min(ITEMS.len());
+    for _ in 0..MAPS {
+        map_borrowing(rt, alloc, &mut crew, &work, &ITEMS[..count], &SUMS[..count]);
+    }
+    map_borrowing(rt, alloc, &mut crew, &work, &[], &[]);
+    let _ = sole(rt, work);
+    crew.end(rt);
+}
+
+/// One map by a crew that borrows its work.
+fn map_borrowing<'s, G: Gate, R: Wait + Abort>(
+    rt: &R,
+    alloc: Global,
+    crew: &mut Crew<'s, G, Sums<'s>>,
+    work: &Arc<Sums<'s>, Global>,
+    items: &[(u32, u32)],
+    sums: &[u64],
+) {
+    let mut answers = Vec::new(alloc);
+    let Ok(mut list) = Vec::from_slice(alloc, items) else {
+        panic!(rt; "a list of items")
+    };
+    if answers.reserve(list.len()).is_err() {
+        panic!(rt; "room for the answers")
+    }
+    crew.map_with(rt, work, &mut list, &mut answers);
+    assert_eq!(rt; answers.as_slice(), sums);
+}
+
+/// Whether a crew of so many workers is refused, and by what.
+fn refusal_of<'s, E, R: Threads + Wait + Sync>(
+    scope: &Scope<'s, E>,
+    rt: &'s R,
+    alloc: Global,
+    gate: &'s OpenGate,
+    workers: usize,
+) -> Option<Refusal> {
+    match start::<E, R, OpenGate, Sums<'s>>(scope, rt, alloc, gate, workers, 1, 1) {
+        Ok(crew) => {
+            crew.end(rt);
+            None
+        }
+        Err(refusal) => Some(refusal),
+    }
 }
 
 /// Lists of all lengths, many times by one crew.
@@ -227,6 +345,63 @@ fn pieces_of_a_crew_run_at_once(rt: HostRuntime) -> Result<(), Fail> {
             &rt,
             |scope| hold_crew(scope, host, alloc, held, word),
         );
+    }
+    Ok(())
+}
+
+#[test]
+fn all_pieces_run_at_once(rt: HostRuntime) -> Result<(), Fail> {
+    let worked = AtomicU64::new(0);
+    let sums = Sums { worked: &worked };
+    for workers in [3usize, 5] {
+        let gate = Gathering::new(workers as u64);
+        let answers = map_pieces(&rt, rt.alloc(), &gate, &ITEMS, workers, &sums)?;
+        assert_eq!(&rt; answers.as_slice(), SUMS.as_slice());
+        assert!(&rt; gate.has_seen(1));
+        let answers = map_pieces(&rt, rt.alloc(), &gate, &[], workers, &sums)?;
+        assert!(&rt; answers.is_empty());
+        assert!(&rt; gate.has_seen(1));
+    }
+    Ok(())
+}
+
+#[test]
+fn each_worker_of_a_crew_has_an_item(rt: HostRuntime) -> Result<(), Fail> {
+    let worked = AtomicU64::new(0);
+    let word = &worked;
+    let alloc = rt.alloc();
+    let host = &rt;
+    for workers in [3usize, 5] {
+        let gate = Gathering::new(workers as u64);
+        let held = &gate;
+        thread::scope(
+            thread::scope_env(),
+            &rt,
+            |scope| gather_crew(scope, host, alloc, held, workers, word),
+        );
+        assert!(&rt; gate.has_seen(MAPS as u64));
+    }
+    Ok(())
+}
+
+#[test]
+fn crews_have_limits(rt: HostRuntime) -> Result<(), Fail> {
+    let alloc = rt.alloc();
+    let host = &rt;
+    let gate = &OpenGate;
+    for (workers, refusal) in [
+        (0usize, Some(Refusal::OutOfRange)),
+        (1, None),
+        (64, None),
+        (65, Some(Refusal::OutOfRange)),
+        (usize::MAX, Some(Refusal::OutOfRange)),
+    ] {
+        let found = thread::scope(
+            thread::scope_env(),
+            &rt,
+            |scope| refusal_of(scope, host, alloc, gate, workers),
+        );
+        assert_eq!(&rt; found, refusal);
     }
     Ok(())
 }

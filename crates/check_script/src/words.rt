@@ -53,13 +53,18 @@ Usage: world_script [OPTIONS]
 For more information, try '--help'.
 ";
 
+const VALUED: &str = "bad words: error: '--help' and '--version' take no value
+
+For more information, try '--help'.
+";
+
 const MISSPELT: &str =
     "bad words: error: invalid value '+1' for '--threads <N>': it has a sign or a leading zero
 
 For more information, try '--help'.
 ";
 
-const ROWS: [Row; 27] = [
+const ROWS: [Row; 31] = [
     (
         &["world_script"],
         "explain false, extended false, go on false, threads 1, workers 1",
@@ -116,6 +121,13 @@ const ROWS: [Row; 27] = [
         &["world_script", "--version"],
         "text: world_script 0.1.0, rules 1\n",
     ),
+    (
+        &["world_script", "-V", "--workers", "2"],
+        "text: world_script 0.1.0, rules 1\n",
+    ),
+    (&["world_script", "--version", "--gate"], UNKNOWN),
+    (&["world_script", "--gate", "--help"], UNKNOWN),
+    (&["world_script", "-h=1"], VALUED),
     (&["world_script", "--gate"], UNKNOWN),
 ];
 

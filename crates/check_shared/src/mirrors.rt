@@ -8,6 +8,7 @@ mod example;
 mod refused;
 mod showing;
 mod timing;
+mod untold;
 
 use crate::calls::Shut;
 use crate::replay::left_in;
@@ -104,6 +105,7 @@ fn tell<R: AllocGlobal + Print + Threads + Wait + Clock + Sync>(
 /// Makes all checks.
 fn check<R: AllocGlobal + Print + Threads + Wait + Clock + Sync>(rt: &R) -> Result<(), Stop> {
     tell(rt, MirrorWork::Example)?;
+    tell(rt, MirrorWork::Untold)?;
     tell(rt, MirrorWork::Crowd)
 }
 

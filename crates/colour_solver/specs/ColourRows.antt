@@ -1,4 +1,4 @@
--- Inner: the rows of a step by colour: one list of joints and one of contacts, and where each colour ends in them.
+-- Trusted: the rows of a step by colour: one list of joints and one of contacts, and where each colour ends in them.
 use Rattle.std.specs.Prelude.{◌≡◌, ℕ, ◌+◌, ◌-◌, ◌≤◌, List, [], ◌∷◌, ◌++◌, length, take, drop, map}
 use Rattle.std.specs.List.{flat_map}
 use Rattle.joint_rows.specs.declared.row.JointRow.{JointRow}

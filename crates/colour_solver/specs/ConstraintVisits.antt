@@ -1,4 +1,4 @@
--- Inner: the rows of joints and contacts among those that are visited.
+-- Trusted: the rows of joints and contacts among those that are visited.
 use Rattle.std.specs.Prelude.{ℕ, Bool, true, false, List, Option, Some, None}
 use Rattle.std.specs.List.{filter_map}
 use Rattle.momenta.specs.declared.state.Ends.{Ends}

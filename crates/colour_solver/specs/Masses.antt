@@ -1,4 +1,4 @@
--- The masses of bodies that no impulse moves: of one that is carried along, and of one that stands.
+-- Trusted: The masses of bodies that no impulse moves: of one that is carried along, and of one that stands.
 use Rattle.std.specs.Prelude.{◌^◌, pos}
 use Rattle.momenta.specs.declared.mass.MassData.{MassData}
 

@@ -1,4 +1,4 @@
--- Inner: a pass over the bodies: one change of motion, made to each mover, and what it adds to the movers' momentum.
+-- Trusted: a pass over the bodies: one change of motion, made to each mover, and what it adds to the movers' momentum.
 use Rattle.std.specs.Prelude.{◌≡◌, ℕ, cond, true, List, [], ◌∷◌, Some, map, slice_get}
 use Rattle.fixed_geom.specs.Vectors.{minus, plus, zero_vector}
 use Rattle.fixed_geom.specs.declared.vectors.Vec2.{Vec2}

@@ -1,4 +1,4 @@
--- Inner: a pass over rows in solve order: the left fold of one visit, and what the immovable bodies have given. A row may be of any kind: what is known of it is
+-- Trusted: a pass over rows in solve order: the left fold of one visit, and what the immovable bodies have given. A row may be of any kind: what is known of it is
 -- where its two bodies stand.
 use Rattle.std.specs.Prelude.{◌≡◌, ℕ, Bool, ◌<◌, ◌≢◌, ◌-◌, cond, List, [], ◌∷◌, length, take, drop, All, slice_set, slice_index_or}
 use Rattle.fixed_geom.specs.Vectors.{minus, plus, zero_vector}

@@ -1,4 +1,4 @@
--- Inner: a step's ticks and its restitution on the dense arrays: passes over the bodies and the constraints, and what each adds to the movers' momentum.
+-- Trusted: a step's ticks and its restitution on the dense arrays: passes over the bodies and the constraints, and what each adds to the movers' momentum.
 use Rattle.std.specs.Prelude.{ℕ, zero, suc, ◌^◌, List}
 use Rattle.fixed_geom.specs.Vectors.{IsWithin, plus, zero_vector}
 use Rattle.fixed_geom.specs.declared.vectors.Vec2.{Vec2}

@@ -1,4 +1,4 @@
--- One contact in a step: what its impulses do to it and to its two bodies. All that the solver computes once a step is computed
+-- Trusted: One contact in a step: what its impulses do to it and to its two bodies. All that the solver computes once a step is computed
 -- here where it is used.
 use Rattle.std.specs.Prelude.{Bool, false, cond, Option, Some, None, ℤ, pos, neg_ℤ, ◌+ℤ◌, ◌*ℤ◌, int_lt, ◌-ℤ◌}
 use Rattle.fixed_geom.specs.Numbers.{rdiv, fdiv}

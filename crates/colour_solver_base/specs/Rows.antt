@@ -1,4 +1,4 @@
--- Inner: the row that the solver makes of a contact for a step, and what its impulses do to it and to its two bodies.
+-- Trusted: the row that the solver makes of a contact for a step, and what its impulses do to it and to its two bodies.
 use Rattle.std.specs.Prelude.{◌≤◌, ◌+◌, ◌^◌, Bool, false, cond, Option, Some, None, option_map, ℤ, pos, neg_ℤ, ◌+ℤ◌, ◌*ℤ◌, ◌≤ℤ◌, unsigned_abs, int_lt}
 use Rattle.std.specs.Option.{ForSome}
 use Rattle.fixed_geom.specs.Numbers.{rdiv}

@@ -12,6 +12,7 @@ use Rattle.contacts_base.specs.Keys.{key_number}
 use Rattle.contacts_base.specs.Proxies.{IsProxyList}
 use Rattle.contacts_base.specs.Contacts.{AreKeysRising, lookup, number_of}
 use Rattle.contacts_base.specs.ContactLists.{AreContacts}
+use Rattle.contacts_base.specs.ShortLists.{counted_in}
 use Rattle.contacts_base.specs.Split.{Split, contacts_in, counting}
 use Rattle.contacts.specs.declared.changes.Changes.{Changes}
 use Rattle.contacts.specs.declared.forbidden.BodyPair.{BodyPair}
@@ -275,7 +276,7 @@ known_going moved pairs ps s gone list rises known is = record { only = λ key h
 
 -- all that is noted of a collide
 pub record AreAllNoted (moved : ℕ → Bool) (pairs : List BodyPair) (ps : List Proxy) (s : Split) (new : List ContactEntry) (was d : PendingUpdate) (begin end : List ContactKey) : Type 0 where
-  pub done : IsDone pairs ps s was.notes.items was.ends.items (option_map (λ es. es.items) was.short) begin end
+  pub done : IsDone pairs ps s was.notes.items was.ends.items (option_map counted_in was.short) begin end
   pub gone_is : was.gone.items ≡ gone_keys moved pairs ps s.short ++ gone_keys moved pairs ps (counting s.over s.long)
   pub made_is : was.made.items ≡ map numbered_of new
   pub whole_is : was.whole ≡ None
@@ -295,7 +296,7 @@ all_pending moved pairs ps s new was d begin end list are known new_is n =
     let old : List ContactEntry = contacts_in s in
     let now : List ContactEntry = contacts_of old ps (allowed_codes pairs ps) in
     let keep : KeepLists was d = n.keep in
-    let done : IsDone pairs ps s d.notes.items d.ends.items (option_map (λ es. es.items) d.short) begin end = rw (keep.notes, keep.ends, keep.short) n.done in
+    let done : IsDone pairs ps s d.notes.items d.ends.items (option_map counted_in d.short) begin end = rw (keep.notes, keep.ends, keep.short) n.done in
     let same : contacts_between pairs ps old ≡ now = contacts_by_codes-holds pairs ps old list in
     let pending : pending_contacts d s ≡ contacts_in (after d s) = ap (λ (o : Option Split). contacts_in (whole_or o (after d s))) (keep.whole ∙ n.whole_is) in
     let there : pending_contacts d s ≡ now = pending ∙ done.made.now_is ∙ same in
@@ -307,7 +308,7 @@ all_pending moved pairs ps s new was d begin end list are known new_is n =
     change_is old now (new_ones moved pairs ps old) d.made.items d.gone.items d.begin.items d.end.items both made (known_coming moved pairs ps old list are.rising known) (known_going moved pairs ps s d.gone.items list are.rising known (keep.gone ∙ n.gone_is)) begins finishes in
     record {
       pending = record {
-        short = for_some_map (λ es. es.items) (λ es. AreContacts es) d.short done.short_is;
+        short = for_some_map counted_in (λ es. AreContacts es) d.short done.short_is;
         contacts = done.contacts;
         idle = λ h. let wrong : true ≡ false = sym (keep.any ∙ n.any_is) ∙ h in cc;
         change = subst (λ (l : List ContactEntry). IsChange old l d.made.items d.gone.items d.begin.items d.end.items) (sym there) change;

@@ -1,26 +1,21 @@
 -- The contacts of a body go, one after another, and what is left then.
-use Rattle.std.proofs.Common.{Bor, ltb, ltb-false, ltb-true, ◌≡◌, ◌≢◌, ℕ, zero, suc, ◌+◌, ◌-◌, ◌<◌, ◌≤◌, ◌==◌, ◌||◌, Bool, true, false, true≢false, not, cond, List, [], ◌∷◌, ◌++◌, length, get_or, map, Option, Some, None, refl, sym, ap, ◌∙◌, subst, arith, inl, inr}
-use Rattle.std.specs.Prelude.{slice_get, slice_set}
+use Rattle.std.proofs.Common.{◌≡◌, ◌≢◌, ℕ, ◌+◌, ◌-◌, ◌<◌, ◌≤◌, ◌==◌, ◌||◌, Bool, true, false, true≢false, not, cond, List, [], ◌∷◌, ◌++◌, length, map, Option, Some, None, refl, sym, ap, ◌∙◌, subst, arith, inl, inr}
+use Rattle.std.specs.Prelude.{filter, slice_get}
 use Rattle.std.specs.List.{Contains}
-use Rattle.std.specs.Option.{IfSome, is_some, option_copied, option_map}
-use Rattle.std.proofs.lemmas.Bool.{cases_eq, cases_lt}
-use Rattle.std.proofs.lemmas.List.{get_or-set_other, get_or-set_same, length-append, length-drop, length-set}
+use Rattle.std.specs.Option.{is_some, option_map}
+use Rattle.std.proofs.lemmas.Bool.{cases_eq}
+use Rattle.std.proofs.lemmas.List.{length-append, length-drop, length-set}
 use Rattle.std.proofs.lemmas.List.Elements.{Contains-append_left, Contains-push, Contains-push_cases}
-use Rattle.std.proofs.lemmas.Option.{none-some, same_Some, slice_get_past, slice_get_read, slice_get_within, get_or_from_slice_get}
+use Rattle.std.proofs.lemmas.Option.{none-some, same_Some}
 use Rattle.contacts_base.specs.declared.key.ContactKey.{ContactKey}
 use Rattle.contacts_base.specs.declared.contact.ContactEntry.{ContactEntry}
 use Rattle.contacts_base.specs.Keys.{key_number}
-use Rattle.contacts_base.specs.Contacts.{AreKeysRising, contacts_without, has_slot, number_of}
-use Rattle.contacts_base.specs.ContactLists.{AreContacts, IsFirstFrom}
-use Rattle.contacts_base.specs.IsSplit.{IsSplit}
-use Rattle.contacts_base.specs.Split.{Split, contacts_in, counting, ended_at, is_over, short_without}
-use Rattle.contacts_base.proofs.ContactsLemmas.{contacts_kept}
-use Rattle.contacts_base.proofs.CountingLaws.{set_stays}
-use Rattle.contacts_base.proofs.LookupLemmas.{keys_later}
+use Rattle.contacts_base.specs.Contacts.{AreKeysRising, contacts_but, contacts_without, has_slot, number_of}
+use Rattle.contacts_base.specs.Split.{Split, contacts_in, is_over}
+use Rattle.contacts_base.proofs.ContactsLemmas.{keys_rise-filter}
 use Rattle.contacts_base.proofs.MergedLaws.{is_same, not_same}
-use Rattle.contacts_base.proofs.SplitLaws.{dropped_by, other_number, split_of}
 use Rattle.packed_sets.specs.Packs.{list_at}
-use Rattle.packed_sets.proofs.ItemLaws.{none_in}
+use Rattle.packed_sets.proofs.ItemLaws.{head_in, none_in, tail_in}
 use Rattle.packed_sets.proofs.ListLaws.{member_at}
 use Rattle.contacts.specs.declared.ends.Side.{Side}
 use Rattle.contacts.specs.declared.ends.Side.TheVariants.{First, Second}
@@ -31,11 +26,39 @@ use Rattle.contacts.specs.Ends.{ends_on, slot_on}
 use Rattle.contacts.specs.Numbered.{AreKeysOnce, AreNumbered, IsTurnover, contact_at, key_of, number_key_at, numbered_of, slot_at}
 use Rattle.contacts.specs.NumberBooks.{HasEnded, IsBook, gone_of}
 use Rattle.contacts.specs.Stirring.{HaveKeys}
-use Rattle.contacts.proofs.Members.{IsIn, contains_from_in, in_from_contains}
-use Rattle.contacts.proofs.MergedMembers.{merged_has}
-use Rattle.contacts.proofs.KnownLemmas.{IsImage, filter_in, in_filter, in_map, map_in}
 use Rattle.contacts.proofs.NumberBookLaws.{free_short, over_is, over_other}
+use Rattle.contacts.proofs.NumberChangeLaws.{IsImage, from_map, in_map, one_entry}
 use Rattle.contacts.proofs.NumberPartLaws.{IsKeyed, contact_in, key_at, keyed, number_of_contact}
+use Rattle.contacts.proofs.NumberedLaws.{filter_in, in_filter}
+
+-- ---- a list of which some are left out
+
+-- what the second test leaves out the first does too
+filter_twice : {X : Type 0} (p q : X → Bool) (xs : List X) → ((x : X) → Contains xs x → q x ≡ false → p x ≡ false) → filter p (filter q xs) ≡ filter p xs
+filter_twice p q [] also = refl
+filter_twice {X} p q (x ∷ xs) also = by_test (q x) (also x (head_in x xs)) (filter_twice p q xs (λ y h. also y (tail_in x xs y h)))
+  where
+    passed : (t : Bool) (ys : List X) → t ≡ false → ys ≡ cond t (x ∷ ys) ys
+    passed true ys off = absurd (true≢false off)
+    passed false ys off = refl
+
+    by_test : (t : Bool) → (t ≡ false → p x ≡ false) → filter p (filter q xs) ≡ filter p xs → filter p (cond t (x ∷ filter q xs) (filter q xs)) ≡ cond (p x) (x ∷ filter p xs) (filter p xs)
+    by_test true off rest = ap (λ (l : List X). cond (p x) (x ∷ l) l) rest
+    by_test false off rest = rest ∙ passed (p x) (filter p xs) (off refl)
+
+-- all pass
+filter_all : {X : Type 0} (p : X → Bool) (xs : List X) → ((x : X) → Contains xs x → p x ≡ true) → filter p xs ≡ xs
+filter_all p [] all = refl
+filter_all {X} p (x ∷ xs) all = ap (λ (t : Bool). cond t (x ∷ filter p xs) (filter p xs)) (all x (head_in x xs)) ∙ ap (λ (l : List X). x ∷ l) (filter_all p xs (λ y h. all y (tail_in x xs y h)))
+
+not_left : (a b : ℕ) → not (a == b) ≡ false → a ≡ b
+not_left a b out = elim (cases_eq a b) [
+  | inl same ↦ same
+  | inr off ↦ absurd (true≢false (ap not (sym (not_same a b off)) ∙ out))
+]
+
+not_out : (a b : ℕ) → not (a == b) ≡ true → a ≢ b
+not_out a b left same = true≢false (sym left ∙ ap not (is_same a b same))
 
 -- ---- the contact with a number
 
@@ -53,81 +76,90 @@ ended_kept number b d y c is at = elim (cases_eq y number) [
   | inr off ↦ sym (ended_other number b d y is off) ∙ at
 ]
 
--- ---- the contact of the long list that has a key
+-- ---- whose a contact is
 
-entry_is : (o : Option ContactEntry) (key : ContactKey) → option_map (λ (e : ContactEntry). e.key) o ≡ Some key → (e : ContactEntry) × ((o ≡ Some e) × (e.key ≡ key))
-entry_is None key h = absurd (none-some key h)
-entry_is (Some e) key h = (e, (refl, same_Some e.key key h))
+or_true : (t : Bool) → (t || true) ≡ true
+or_true true = refl
+or_true false = refl
 
--- what was found by reference at a place
-pub got_by_reference : (o : Option (Bor ContactEntry)) (es : List ContactEntry) (place : ℕ) → is_some o ≡ ltb place (length es) → IfSome o (λ x. x.now ≡ get_or es place x.now) → option_copied o ≡ slice_get es place
-got_by_reference None es place some is = sym (slice_get_past es place (ltb-false _ _ (sym some)))
-got_by_reference (Some b) es place some is = sym (slice_get_read es (length es) place b.now refl (ltb-true _ _ (sym some)) is)
+of_has : (slot : ℕ) (e : ContactEntry) → IsOf slot e.key → has_slot slot e ≡ true
+of_has slot e own = by_side own.0 own.1
+  where
+    by_side : (side : Side) → slot_on side e.key ≡ slot → has_slot slot e ≡ true
+    by_side First same = ap (λ (t : Bool). t || (e.key.second.slot == slot)) (is_same e.key.first.slot slot same)
+    by_side Second same = ap (λ (t : Bool). (e.key.first.slot == slot) || t) (is_same e.key.second.slot slot same) ∙ or_true (e.key.first.slot == slot)
 
-pub key_ended : (s : Split) (key : ContactKey) (place : ℕ) → AreKeysRising s.long → length s.over ≡ length s.long → option_map (λ (e : ContactEntry). e.key) (slice_get s.long place) ≡ Some key → IsKeyOver key s (ended_at place s)
-key_ended s key place rising flags found =
-    let one : (e : ContactEntry) × ((slice_get s.long place ≡ Some e) × (e.key ≡ key)) = entry_is (slice_get s.long place) key found in
-    let lt : place < length s.over = let in_long : place < length s.long = slice_get_within s.long place one.0 one.1.0 in omega (arith, in_long, flags) in
-    record {
-      long = refl;
-      short = refl;
-      flags = length-set s.over place true;
-      stays = λ p on. set_stays s.over place p on;
-      over = λ p f at same. elim (cases_eq p place) [
-        | inl here ↦ ap (λ (k : ℕ). is_over (slice_set s.over place true) k) here ∙ get_or-set_same s.over place true false lt
-        | inr off ↦ absurd (other_number s.long place p one.0 f rising one.1.0 at off (ap key_number (same ∙ sym one.1.1)))
-      ];
-      only = λ p f at off on. elim (cases_eq p place) [
-        | inl here ↦
-            let there : slice_get s.long place ≡ Some f = subst (λ (k : ℕ). slice_get s.long k ≡ Some f) here at in
-            ap (λ (e : ContactEntry). e.key) (same_Some f one.0 (sym there ∙ one.1.0)) ∙ one.1.1
-        | inr apart ↦ absurd (true≢false (sym on ∙ get_or-set_other s.over place p true false apart ∙ off))
-      ];
-    }
+has_of : (slot : ℕ) (e : ContactEntry) → has_slot slot e ≡ true → IsOf slot e.key
+has_of slot e has = elim (cases_eq e.key.first.slot slot) [
+  | inl same ↦ (First, same)
+  | inr off ↦ elim (cases_eq e.key.second.slot slot) [
+    | inl same ↦ (Second, same)
+    | inr apart ↦
+        let neither : has_slot slot e ≡ false = ap (λ (t : Bool). t || (e.key.second.slot == slot)) (not_same e.key.first.slot slot off) ∙ not_same e.key.second.slot slot apart in
+        absurd (true≢false (sym has ∙ neither))
+  ]
+]
 
--- a search by key ends where it would be
-place_of_key : (es : List ContactEntry) (key : ContactKey) (place p : ℕ) (f : ContactEntry) → AreKeysRising es → IsFirstFrom es (key_number key) place → slice_get es p ≡ Some f → f.key ≡ key → p ≡ place
-place_of_key es key place p f rising first at same =
-    let lt : p < length es = slice_get_within es p f at in
-    let here : get_or es p f ≡ f = get_or_from_slice_get es p f f at in
-    let number : number_of (get_or es p f) ≡ key_number key = ap number_of here ∙ ap key_number same in
-    elim (cases_lt p place) [
-      | inl below ↦ let less : number_of (get_or es p f) < key_number key = first.below.before p f (omega arith) below in absurd (omega (arith, less, number))
-      | inr ge ↦ elim (cases_eq p place) [
-        | inl same_place ↦ same_place
-        | inr off ↦
-            let up : place < p = omega (arith, ge, off) in
-            let most : key_number key ≤ number_of (get_or es place f) = first.there f (omega (arith, up, lt)) in
-            let less : number_of (get_or es place f) < number_of (get_or es p f) = keys_later es rising place p f up lt in
-            absurd (omega (arith, most, less, number))
-      ]
-    ]
-
-pub key_missed : (s : Split) (key : ContactKey) (place : ℕ) → AreKeysRising s.long → IsFirstFrom s.long (key_number key) place → (option_map (λ (e : ContactEntry). e.key) (slice_get s.long place) ≡ Some key → ⊥) → IsKeyOver key s s
-key_missed s key place rising first missed = record {
-  long = refl;
-  short = refl;
-  flags = refl;
-  stays = λ p on. on;
-  over = λ p f at same.
-      let here : p ≡ place = place_of_key s.long key place p f rising first at same in
-      absurd (missed (ap (λ (o : Option ContactEntry). option_map (λ (e : ContactEntry). e.key) o) (ap (slice_get s.long) (sym here) ∙ at) ∙ ap (λ (k : ContactKey). Some k) same));
-  only = λ p f at off on. absurd (true≢false (sym on ∙ off));
-}
+has_not : (slot : ℕ) (e : ContactEntry) → (IsOf slot e.key → ⊥) → has_slot slot e ≡ false
+has_not slot e apart = by_flag (has_slot slot e) refl
+  where
+    by_flag : (t : Bool) → has_slot slot e ≡ t → has_slot slot e ≡ false
+    by_flag true has = absurd (apart (has_of slot e has))
+    by_flag false has = has
 
 -- ---- one contact more has gone
+
+pub key_over : (key : ContactKey) (s t : Split) → contacts_in t ≡ contacts_but key (contacts_in s) → t.long ≡ s.long → ((place : ℕ) → is_over s.over place ≡ true → is_over t.over place ≡ true) → IsKeyOver key s t
+key_over key s t contacts long over = record {
+  contacts = contacts;
+  keys = record { keys = ap (λ (l : List ContactEntry). map (λ (e : ContactEntry). e.key) l) long; over = over };
+}
+
+-- the contact with its key is one of the body's
+own_entry : (slot : ℕ) (es : List ContactEntry) (numbered : List (Option NumberedContact)) (number : ℕ) (c : NumberedContact) (e : ContactEntry) → AreKeysRising es → AreNumbered es numbered → contact_at numbered number ≡ Some c → Contains es e → number_of e ≡ key_number c.key → numbered_of e ≡ c
+own_entry slot es numbered number c e rising are at there same =
+    let one : IsImage numbered_of es c = from_map numbered_of es c (are.only number c at) in
+    ap numbered_of (one_entry es e one.of rising there one.there (ap (λ (x : NumberedContact). key_number x.key) one.is ∙ sym same)) ∙ one.is
+
+-- what is left has its numbers
+left_numbered : (slot : ℕ) (es : List ContactEntry) (b d : NumberBook) (number : ℕ) (c : NumberedContact) → AreKeysRising es → AreNumbered es b.contacts.items → contact_at b.contacts.items number ≡ Some c → HasEnded number b d → AreNumbered (contacts_but c.key es) d.contacts.items
+left_numbered slot es b d number c rising are at ended = record {
+  all = λ e h.
+      let there = filter_in (λ f. not (number_of f == key_number c.key)) es e h in
+      let given : (y : ℕ) × (contact_at b.contacts.items y ≡ Some (numbered_of e)) = number_of_contact b.contacts.items (numbered_of e) (are.all e there.0) in
+      contact_in d.contacts.items given.0 (numbered_of e) (ended_other number b d given.0 ended (λ same.
+      let one : numbered_of e ≡ c = same_Some (numbered_of e) c (sym given.1 ∙ ap (λ (k : ℕ). contact_at b.contacts.items k) same ∙ at) in
+      not_out (number_of e) (key_number c.key) there.1 (ap (λ (x : NumberedContact). key_number x.key) one)) ∙ given.1);
+  only = λ y f now.
+      let was : contact_at b.contacts.items y ≡ Some f = ended_kept number b d y f ended now in
+      let image : IsImage numbered_of es f = from_map numbered_of es f (are.only y f was) in
+      let apart : number_of image.of ≢ key_number c.key = λ same.
+      let one : f ≡ c = sym image.is ∙ own_entry slot es b.contacts.items number c image.of rising are at image.there same in
+      let here : y ≡ number = are.once y number c.key (key_at b.contacts.items y f was ∙ ap (λ (x : NumberedContact). Some x.key) one) (key_at b.contacts.items number c at) in
+      none-some f (sym (ended_here number b d ended) ∙ ap (λ (k : ℕ). contact_at d.contacts.items k) (sym here) ∙ now) in
+      subst (Contains (map numbered_of (contacts_but c.key es))) image.is (in_map numbered_of (contacts_but c.key es) image.of (in_filter (λ e. not (number_of e == key_number c.key)) es image.of image.there (ap not (not_same (number_of image.of) (key_number c.key) apart))));
+  once = λ x y key one other. are.once x y key (key_before x key one) (key_before y key other);
+}
+  where
+    key_before : (y : ℕ) (key : ContactKey) → number_key_at d.contacts.items y ≡ Some key → number_key_at b.contacts.items y ≡ Some key
+    key_before y key now = let k : IsKeyed d.contacts.items y key = keyed d.contacts.items y key now in key_at b.contacts.items y k.contact (ended_kept number b d y k.contact ended k.at) ∙ ap Some k.has
+
+more_keys : (c d e : Split) → HaveKeys c d → HaveKeys d e → HaveKeys c e
+more_keys c d e one two = record { keys = two.keys ∙ one.keys; over = λ p on. two.over p (one.over p on) }
 
 pub dropping_step : (slot : ℕ) (was : Split) (numbered : List (Option NumberedContact)) (s t : Split) (b d : NumberBook) (number : ℕ) (c : NumberedContact) → contact_at b.contacts.items number ≡ Some c → IsOf slot c.key → HasEnded number b d → IsKeyOver c.key s t
     → IsDropping slot was numbered s b → IsDropping slot was numbered t d
 dropping_step slot was numbered s t b d number c at own ended over is = record {
-  long = over.long ∙ is.long;
-  short = over.short ∙ is.short;
-  flags = over.flags ∙ is.flags;
-  stays = λ p on. over.stays p (is.stays p on);
-  only = λ p e there off on. by_flag p e there off on (is_over s.over p) refl;
-  counts = λ p e there off. still_given p e there off (number_of_contact b.contacts.items (numbered_of e) (is.counts p e there (not_yet p off (is_over s.over p) refl)));
+  keys = more_keys was s t is.keys over.keys;
+  rising = subst AreKeysRising (sym over.contacts) (keys_rise-filter (λ e. not (number_of e == key_number c.key)) (contacts_in s) is.rising);
+  left =
+      ap (contacts_without slot) over.contacts
+      ∙ filter_twice (λ e. not (has_slot slot e)) (λ e. not (number_of e == key_number c.key)) (contacts_in s) (λ e there out.
+      let one : numbered_of e ≡ c = own_entry slot (contacts_in s) b.contacts.items number c e is.rising is.are at there (not_left (number_of e) (key_number c.key) out) in
+      ap not (of_has slot e (subst (λ (x : NumberedContact). IsOf slot x.key) (sym one) own)))
+      ∙ is.left;
+  are = subst (λ (l : List ContactEntry). AreNumbered l d.contacts.items) (sym over.contacts) (left_numbered slot (contacts_in s) b d number c is.rising is.are at ended);
   kept = λ y f there. is.kept y f (ended_kept number b d y f ended there);
-  others = λ y f there apart. ended_other number b d y ended (λ same. apart (is_own y f (is.others y f there apart) same)) ∙ is.others y f there apart;
   gone = λ y. (
     λ h. elim (Contains-push_cases (gone_of b) number y (subst (λ (l : List ℕ). Contains l y) ended.gone h)) [
       | inl there ↦ let was_gone : (is_some (contact_at numbered y) ≡ true) × (contact_at b.contacts.items y ≡ None) = (is.gone y).0 there in (was_gone.0, none_still y was_gone.1)
@@ -141,30 +173,6 @@ dropping_step slot was numbered s t b d number c at own ended over is = record {
   made = ended.made ∙ is.made;
 }
   where
-    in_was : (p : ℕ) (e : ContactEntry) → slice_get was.long p ≡ Some e → slice_get s.long p ≡ Some e
-    in_was p e there = ap (λ (l : List ContactEntry). slice_get l p) is.long ∙ there
-
-    by_flag : (p : ℕ) (e : ContactEntry) → slice_get was.long p ≡ Some e → is_over was.over p ≡ false → is_over t.over p ≡ true → (f : Bool) → is_over s.over p ≡ f → IsOf slot e.key
-    by_flag p e there off on true now = is.only p e there off now
-    by_flag p e there off on false now = subst (IsOf slot) (sym (over.only p e (in_was p e there) now on)) own
-
-    not_yet : (p : ℕ) → is_over t.over p ≡ false → (f : Bool) → is_over s.over p ≡ f → is_over s.over p ≡ false
-    not_yet p off true now = absurd (true≢false (sym (over.stays p now) ∙ off))
-    not_yet p off false now = now
-
-    is_own : (y : ℕ) (f : NumberedContact) → contact_at b.contacts.items y ≡ Some f → y ≡ number → IsOf slot f.key
-    is_own y f there same =
-        let one : c ≡ f = same_Some c f (sym at ∙ ap (λ (k : ℕ). contact_at b.contacts.items k) (sym same) ∙ there) in
-        subst (λ (x : NumberedContact). IsOf slot x.key) one own
-
-    still_given : (p : ℕ) (e : ContactEntry) → slice_get was.long p ≡ Some e → is_over t.over p ≡ false → (y : ℕ) × (contact_at b.contacts.items y ≡ Some (numbered_of e)) → Contains d.contacts.items (Some (numbered_of e))
-    still_given p e there off h = elim (cases_eq h.0 number) [
-      | inl same ↦
-          let one : numbered_of e ≡ c = same_Some (numbered_of e) c (sym h.1 ∙ ap (λ (k : ℕ). contact_at b.contacts.items k) same ∙ at) in
-          absurd (true≢false (sym (over.over p e (in_was p e there) (ap (λ (x : NumberedContact). x.key) one)) ∙ off))
-      | inr apart ↦ contact_in d.contacts.items h.0 (numbered_of e) (ended_other number b d h.0 ended apart ∙ h.1)
-    ]
-
     none_still : (y : ℕ) → contact_at b.contacts.items y ≡ None → contact_at d.contacts.items y ≡ None
     none_still y none = elim (cases_eq y number) [
       | inl same ↦ ap (λ (k : ℕ). contact_at d.contacts.items k) same ∙ ended_here number b d ended
@@ -211,35 +219,17 @@ one_less number b d ended is =
 
 -- ---- before one has gone
 
-counts_in : (over : List Bool) (es : List ContactEntry) (p : ℕ) (e : ContactEntry) → slice_get es p ≡ Some e → is_over over p ≡ false → IsIn e (counting over es)
-counts_in over [] p e at off = absurd (none-some e at)
-counts_in [] (x ∷ es) zero e at off = inl (same_Some e x (sym at))
-counts_in [] (x ∷ es) (suc p) e at off = inr (counts_in [] es p e at refl)
-counts_in (o ∷ over) (x ∷ es) zero e at off = here o x e (counting over es) off (same_Some e x (sym at))
-  where
-    here : (o : Bool) (x e : ContactEntry) (es : List ContactEntry) → o ≡ false → e ≡ x → IsIn e (cond o es (x ∷ es))
-    here true x e es off same = absurd (true≢false off)
-    here false x e es off same = inl same
-counts_in (o ∷ over) (x ∷ es) (suc p) e at off = later o x e (counting over es) (counts_in over es p e at off)
-  where
-    later : (o : Bool) (x e : ContactEntry) (es : List ContactEntry) → IsIn e es → IsIn e (cond o es (x ∷ es))
-    later true x e es h = h
-    later false x e es h = inr h
-
 none_is : (o : Option NumberedContact) → o ≡ None → is_some o ≡ true → ⊥
 none_is None h some = true≢false (sym some)
 none_is (Some c) h some = none-some c (sym h)
 
-pub dropping_begins : (slot : ℕ) (s : Split) (numbered : List (Option NumberedContact)) (b : NumberBook) → AreNumbered (contacts_in s) numbered → b.contacts.items ≡ numbered → b.made.items ≡ [] → gone_of b ≡ [] → IsDropping slot s numbered s b
-dropping_begins slot s numbered b are same made gone = record {
-  long = refl;
-  short = refl;
-  flags = refl;
-  stays = λ p on. on;
-  only = λ p e at off on. absurd (true≢false (sym on ∙ off));
-  counts = λ p e at off. subst (λ (l : List (Option NumberedContact)). Contains l (Some (numbered_of e))) (sym same) (are.all e (contains_from_in (contacts_in s) e (merged_has number_of e (counting s.over s.long) s.short (inl (counts_in s.over s.long p e at off)))));
+pub dropping_begins : (slot : ℕ) (s : Split) (numbered : List (Option NumberedContact)) (b : NumberBook) → AreKeysRising (contacts_in s) → AreNumbered (contacts_in s) numbered → b.contacts.items ≡ numbered → b.made.items ≡ [] → gone_of b ≡ [] → IsDropping slot s numbered s b
+dropping_begins slot s numbered b rising are same made gone = record {
+  keys = record { keys = refl; over = λ p on. on };
+  rising = rising;
+  left = refl;
+  are = subst (AreNumbered (contacts_in s)) (sym same) are;
   kept = λ y c at. subst (λ (l : List (Option NumberedContact)). contact_at l y ≡ Some c) same at;
-  others = λ y c at apart. subst (λ (l : List (Option NumberedContact)). contact_at l y ≡ Some c) (sym same) at;
   gone = λ y. (
     λ h. absurd (none_in y (subst (λ (l : List ℕ). Contains l y) gone h)),
     λ h. absurd (none_is (contact_at numbered y) (ap (λ (l : List (Option NumberedContact)). contact_at l y) (sym same) ∙ h.1) h.0),
@@ -248,35 +238,6 @@ dropping_begins slot s numbered b are same made gone = record {
 }
 
 -- ---- once all have gone
-
-or_true : (t : Bool) → (t || true) ≡ true
-or_true true = refl
-or_true false = refl
-
-of_has : (slot : ℕ) (e : ContactEntry) → IsOf slot e.key → has_slot slot e ≡ true
-of_has slot e own = by_side own.0 own.1
-  where
-    by_side : (side : Side) → slot_on side e.key ≡ slot → has_slot slot e ≡ true
-    by_side First same = ap (λ (t : Bool). t || (e.key.second.slot == slot)) (is_same e.key.first.slot slot same)
-    by_side Second same = ap (λ (t : Bool). (e.key.first.slot == slot) || t) (is_same e.key.second.slot slot same) ∙ or_true (e.key.first.slot == slot)
-
-has_of : (slot : ℕ) (e : ContactEntry) → has_slot slot e ≡ true → IsOf slot e.key
-has_of slot e has = elim (cases_eq e.key.first.slot slot) [
-  | inl same ↦ (First, same)
-  | inr off ↦ elim (cases_eq e.key.second.slot slot) [
-    | inl same ↦ (Second, same)
-    | inr apart ↦
-        let neither : has_slot slot e ≡ false = ap (λ (t : Bool). t || (e.key.second.slot == slot)) (not_same e.key.first.slot slot off) ∙ not_same e.key.second.slot slot apart in
-        absurd (true≢false (sym has ∙ neither))
-  ]
-]
-
-has_not : (slot : ℕ) (e : ContactEntry) → (IsOf slot e.key → ⊥) → has_slot slot e ≡ false
-has_not slot e apart = by_flag (has_slot slot e) refl
-  where
-    by_flag : (t : Bool) → has_slot slot e ≡ t → has_slot slot e ≡ false
-    by_flag true has = absurd (apart (has_of slot e has))
-    by_flag false has = has
 
 -- no contact with a number has the body
 abbrev pub IsGone : ℕ → NumberBook → Type 0
@@ -297,31 +258,11 @@ both_gone slot b d first second fewer = by_side
     by_side First number on = by_contact number (contact_at d.contacts.items number) refl on
     by_side Second number on = second number on
 
-pub dropped_contacts : (slot : ℕ) (was now : Split) (numbered : List (Option NumberedContact)) (b : NumberBook) → IsSplit was → IsDropping slot was numbered now b → IsGone slot b → contacts_in (short_without slot now) ≡ contacts_without slot (contacts_in was)
-dropped_contacts slot was now numbered b split is gone =
-    ap (λ (l : List ContactEntry). contacts_in (split_of l now.over (contacts_without slot now.short))) is.long
-    ∙ ap (λ (l : List ContactEntry). contacts_in (split_of was.long now.over (contacts_without slot l))) is.short
-    ∙ dropped_by slot was now.over split (is.flags ∙ split.flags) is.stays (λ p e at off. by_flag p e at off (is_over now.over p) refl)
+dropped_contacts : (slot : ℕ) (was now : Split) (numbered : List (Option NumberedContact)) (b : NumberBook) → IsDropping slot was numbered now b → IsGone slot b → contacts_in now ≡ contacts_without slot (contacts_in was)
+dropped_contacts slot was now numbered b is gone = sym (filter_all (λ e. not (has_slot slot e)) (contacts_in now) (λ e there. not_its e (number_of_contact b.contacts.items (numbered_of e) (is.are.all e there)))) ∙ is.left
   where
-    by_flag : (p : ℕ) (e : ContactEntry) → slice_get was.long p ≡ Some e → is_over was.over p ≡ false → (t : Bool) → is_over now.over p ≡ t → is_over now.over p ≡ has_slot slot e
-    by_flag p e at off true on = on ∙ sym (of_has slot e (is.only p e at off on))
-    by_flag p e at off false on =
-        let given : (y : ℕ) × (contact_at b.contacts.items y ≡ Some (numbered_of e)) = number_of_contact b.contacts.items (numbered_of e) (is.counts p e at on) in
-        on ∙ sym (has_not slot e (not_own slot b given.0 (numbered_of e) gone given.1))
-
-pub dropped_numbered : (slot : ℕ) (was now : Split) (numbered : List (Option NumberedContact)) (b : NumberBook) (contacts : List ContactEntry) → AreNumbered (contacts_in was) numbered → IsBook b → IsDropping slot was numbered now b → IsGone slot b → contacts ≡ contacts_without slot (contacts_in was) → AreNumbered contacts b.contacts.items
-dropped_numbered slot was now numbered b contacts are book is gone same = subst (λ (l : List ContactEntry). AreNumbered l b.contacts.items) (sym same) (record {
-  all = λ e h.
-      let there : IsIn e (contacts_in was) × (not (has_slot slot e) ≡ true) = filter_in (λ e. not (has_slot slot e)) e (contacts_in was) (in_from_contains (contacts_without slot (contacts_in was)) e h) in
-      let given : (y : ℕ) × (contact_at numbered y ≡ Some (numbered_of e)) = number_of_contact numbered (numbered_of e) (are.all e (contains_from_in (contacts_in was) e there.0)) in
-      contact_in b.contacts.items given.0 (numbered_of e) (is.others given.0 (numbered_of e) given.1 (λ own. true≢false (sym there.1 ∙ ap not (of_has slot e own))));
-  only = λ y c at.
-      let image : IsImage numbered_of c (contacts_in was) = map_in numbered_of c (contacts_in was) (in_from_contains (map numbered_of (contacts_in was)) c (are.only y c (is.kept y c at))) in
-      let apart : has_slot slot image.from ≡ false = has_not slot image.from (λ own. not_own slot b y c gone at (subst (λ (x : NumberedContact). IsOf slot x.key) (sym image.is) own)) in
-      let there : IsIn image.from (contacts_without slot (contacts_in was)) = in_filter (λ e. not (has_slot slot e)) image.from (contacts_in was) image.among (ap not apart) in
-      contains_from_in (map numbered_of (contacts_without slot (contacts_in was))) c (subst (λ (x : NumberedContact). IsIn x (map numbered_of (contacts_without slot (contacts_in was)))) (sym image.is) (in_map numbered_of image.from (contacts_without slot (contacts_in was)) there));
-  once = book.once;
-})
+    not_its : (e : ContactEntry) → (y : ℕ) × (contact_at b.contacts.items y ≡ Some (numbered_of e)) → not (has_slot slot e) ≡ true
+    not_its e given = ap not (has_not slot e (not_own slot b given.0 (numbered_of e) gone given.1))
 
 pub dropped_turnover : (slot : ℕ) (was now : Split) (numbered : List (Option NumberedContact)) (b : NumberBook) → AreKeysOnce numbered → IsDropping slot was numbered now b → IsTurnover numbered b.contacts.items b.made.items (gone_of b)
 dropped_turnover slot was now numbered b once is = record {
@@ -338,38 +279,26 @@ dropped_turnover slot was now numbered b once is = record {
     by_contacts y go None old None new = ap key_of (new ∙ sym old)
     by_contacts y go (Some c) old None new = absurd (go ((is.gone y).1 (ap is_some old, new)))
 
-pub dropped_keys : (slot : ℕ) (was now : Split) (numbered : List (Option NumberedContact)) (b : NumberBook) → IsDropping slot was numbered now b → HaveKeys was (short_without slot now)
-dropped_keys slot was now numbered b is = record {
-  keys = ap (λ (l : List ContactEntry). map (λ (e : ContactEntry). e.key) l) is.long;
-  over = is.stays;
-}
-
 -- ---- all of it
 
 pub record IsDropped (slot : ℕ) (was : Split) (numbered : List (Option NumberedContact)) (now : Split) (b : NumberBook) : Type 0 where
   pub contacts : contacts_in now ≡ contacts_without slot (contacts_in was)
-  pub ascend : AreContacts (contacts_in now)
   pub are : AreNumbered (contacts_in now) b.contacts.items
   pub turnover : IsTurnover numbered b.contacts.items b.made.items (gone_of b)
   pub none : b.made.items ≡ []
   pub keys : HaveKeys was now
 
-pub dropped : (slot : ℕ) (was now : Split) (numbered : List (Option NumberedContact)) (b : NumberBook) → IsSplit was → AreNumbered (contacts_in was) numbered → IsBook b → IsDropping slot was numbered now b → IsGone slot b → IsDropped slot was numbered (short_without slot now) b
-dropped slot was now numbered b split are book is gone =
-    let same : contacts_in (short_without slot now) ≡ contacts_without slot (contacts_in was) = dropped_contacts slot was now numbered b split is gone in
-    record {
-      contacts = same;
-      ascend = subst AreContacts (sym same) (contacts_kept slot (contacts_in was) split.all);
-      are = dropped_numbered slot was now numbered b (contacts_in (short_without slot now)) are book is gone same;
-      turnover = dropped_turnover slot was now numbered b are.once is;
-      none = is.made;
-      keys = dropped_keys slot was now numbered b is;
-    }
-
 -- from the first contact on
-pub all_dropped : (slot : ℕ) (was mid now : Split) (old begun first last : NumberBook) → IsSplit was → AreNumbered (contacts_in was) old.contacts.items → begun.contacts.items ≡ old.contacts.items → begun.made.items ≡ [] → gone_of begun ≡ []
+pub all_dropped : (slot : ℕ) (was mid now : Split) (old begun first last : NumberBook) → AreKeysRising (contacts_in was) → AreNumbered (contacts_in was) old.contacts.items → begun.contacts.items ≡ old.contacts.items → begun.made.items ≡ [] → gone_of begun ≡ []
     → (IsDropping slot was old.contacts.items was begun → IsDropping slot was old.contacts.items mid first) → ((number : ℕ) → slot_at First first.contacts.items number ≢ Some slot)
     → (IsDropping slot was old.contacts.items mid first → IsDropping slot was old.contacts.items now last) → ((number : ℕ) (c : NumberedContact) → contact_at last.contacts.items number ≡ Some c → contact_at first.contacts.items number ≡ Some c)
-    → ((number : ℕ) → slot_at Second last.contacts.items number ≢ Some slot) → IsBook last → IsDropped slot was old.contacts.items (short_without slot now) last
-all_dropped slot was mid now old begun first last split are same made gone one none two fewer also book =
-    dropped slot was now old.contacts.items last split are book (two (one (dropping_begins slot was old.contacts.items begun are same made gone))) (both_gone slot first last none also fewer)
+    → ((number : ℕ) → slot_at Second last.contacts.items number ≢ Some slot) → IsDropped slot was old.contacts.items now last
+all_dropped slot was mid now old begun first last rising are same made gone one none two fewer also =
+    let is : IsDropping slot was old.contacts.items now last = two (one (dropping_begins slot was old.contacts.items begun rising are same made gone)) in
+    record {
+      contacts = dropped_contacts slot was now old.contacts.items last is (both_gone slot first last none also fewer);
+      are = is.are;
+      turnover = dropped_turnover slot was now old.contacts.items last are.once is;
+      none = is.made;
+      keys = is.keys;
+    }

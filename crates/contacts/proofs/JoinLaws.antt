@@ -253,12 +253,26 @@ end_by moved pairs ps s notes ends new all long_begin long_end short_begin short
     ∙ ap (merged key_number (ended_keys moved pairs ps (counting s.over s.long))) rebuilt.end_is
     ∙ sym (picked_both pick (ended_picks moved pairs ps) (counting s.over s.long) s.short (keys_later (contacts_in s) are.rising))
 
+-- what the collide makes of both lists
+after_by : (moved : ℕ → Bool) (pairs : List BodyPair) (ps : List Proxy) (s : Split) (notes : List Renewal) (ends : List ℕ) (short : Option (List ContactEntry)) (new all : List ContactEntry) (long_begin long_end short_begin short_end : List ContactKey) → IsProxyList ps → AreContacts (contacts_in s) → IsKnown moved pairs ps (contacts_in s) → new ≡ new_ones moved pairs ps (contacts_in s)
+    → IsLookedOver moved pairs ps s notes ends long_begin long_end → IsRebuilt moved pairs ps s.short new all short_begin short_end → or_kept short s.short ≡ all → contacts_in (carried notes ends short s) ≡ contacts_of (contacts_in s) ps (allowed_codes pairs ps)
+after_by moved pairs ps s notes ends short new all long_begin long_end short_begin short_end list are known made looked rebuilt so =
+    all_from moved pairs ps (contacts_in s) new (contacts_in (carried notes ends short s)) list are.rising known made (now_by moved pairs ps s notes ends short new all long_begin long_end short_begin short_end are looked rebuilt so)
+
+-- the short list anew is one
+pub rebuilt_contacts : (moved : ℕ → Bool) (pairs : List BodyPair) (ps : List Proxy) (s : Split) (notes : List Renewal) (ends : List ℕ) (new all : List ContactEntry) (long_begin long_end short_begin short_end : List ContactKey) → IsProxyList ps → AreContacts (contacts_in s) → IsKnown moved pairs ps (contacts_in s) → new ≡ new_ones moved pairs ps (contacts_in s)
+    → IsLookedOver moved pairs ps s notes ends long_begin long_end → IsRebuilt moved pairs ps s.short new all short_begin short_end → AreContacts all
+rebuilt_contacts moved pairs ps s notes ends new all long_begin long_end short_begin short_end list are known made looked rebuilt =
+    let now : contacts_in (carried notes ends (Some all) s) ≡ contacts_of (contacts_in s) ps (allowed_codes pairs ps) =
+    after_by moved pairs ps s notes ends (Some all) new all long_begin long_end short_begin short_end list are known made looked rebuilt refl in
+    second_contacts (counting (over_at ends s.over) (renewed notes s.long)) all (subst AreContacts (sym now) (after_are_contacts pairs ps (contacts_in s) list are))
+
 pub done_both : (moved : ℕ → Bool) (pairs : List BodyPair) (ps : List Proxy) (s : Split) (notes : List Renewal) (ends : List ℕ) (short : Option (List ContactEntry)) (new all : List ContactEntry) (long_begin long_end short_begin short_end begin end : List ContactKey) → IsProxyList ps → AreContacts (contacts_in s) → IsKnown moved pairs ps (contacts_in s) → new ≡ new_ones moved pairs ps (contacts_in s)
     → IsLookedOver moved pairs ps s notes ends long_begin long_end → IsRebuilt moved pairs ps s.short new all short_begin short_end → or_kept short s.short ≡ all → begin ≡ merged key_number long_begin short_begin → end ≡ merged key_number long_end short_end → IsDone pairs ps s notes ends short begin end
 done_both moved pairs ps s notes ends short new all long_begin long_end short_begin short_end begin end list are known made looked rebuilt so begins finishes =
     let old : List ContactEntry = contacts_in s in
     let now : contacts_in (carried notes ends short s) ≡ contacts_of old ps (allowed_codes pairs ps) =
-    all_from moved pairs ps old new (contacts_in (carried notes ends short s)) list are.rising known made (now_by moved pairs ps s notes ends short new all long_begin long_end short_begin short_end are looked rebuilt so) in
+    after_by moved pairs ps s notes ends short new all long_begin long_end short_begin short_end list are known made looked rebuilt so in
     let all_are : AreContacts (contacts_in (carried notes ends short s)) = subst AreContacts (sym now) (after_are_contacts pairs ps old list are) in
     let begin_is : begin ≡ keys_touching_only_in old (contacts_of old ps (allowed_codes pairs ps)) =
     begin_from moved pairs ps old new (filter_map (key_if_new None) new) (begun_keys moved pairs ps old) begin list are.rising known made refl refl (begin_by moved pairs ps s notes ends new all long_begin long_end short_begin short_end begin are made looked rebuilt begins) in

@@ -32,4 +32,5 @@ pub mod NumberPartLaws
 pub mod NumberWalkLaws
 pub mod NumberChangeLaws
 pub mod DroppingLaws
+pub mod ShortLaws
 pub mod KeptLaws

@@ -10,9 +10,10 @@ use Rattle.packed_sets.proofs.ListLaws.{member_at, place_of}
 use Rattle.contacts_base.specs.declared.contact.ContactEntry.{ContactEntry}
 use Rattle.contacts_base.specs.declared.key.ContactKey.{ContactKey}
 use Rattle.contacts_base.specs.ContactLists.{AreContacts}
+use Rattle.contacts_base.specs.Contacts.{AreKeysRising, number_of}
 use Rattle.contacts_base.specs.Evaluate.{touches}
 use Rattle.contacts_base.specs.Keys.{key_number}
-use Rattle.contacts_base.proofs.SplitLaws.{other_number}
+use Rattle.contacts_base.proofs.EndedLaws.{other_number}
 use Rattle.contacts.specs.declared.number_book.NumberedContact.{NumberedContact}
 use Rattle.contacts.specs.Numbered.{AreKeysOnce, AreNumbered, IsTurnover, contact_at, number_key_at, numbered_of}
 use Rattle.contacts.specs.NumberChanges.{HaveGone, HaveMade, HaveTouched, IsChange}
@@ -42,15 +43,19 @@ from_map {X} {Y} f xs y h = let at : (k : ℕ) × (slice_get (map f xs) k ≡ So
     by (z ∷ zs) zero e = record { of = z; there = head_in z zs; is = same_Some (f z) y e }
     by (z ∷ zs) (suc k) e = let rest : IsImage f zs y = by zs k e in record { of = rest.of; there = tail_in z zs rest.of rest.there; is = rest.is }
 
--- no two contacts have one key
-pub same_entry : (es : List ContactEntry) (e f : ContactEntry) → AreContacts es → Contains es e → Contains es f → f.key ≡ e.key → e ≡ f
-same_entry es e f are one other same =
+-- no two contacts have one number
+pub one_entry : (es : List ContactEntry) (e f : ContactEntry) → AreKeysRising es → Contains es e → Contains es f → number_of f ≡ number_of e → e ≡ f
+one_entry es e f rising one other same =
     let p : (k : ℕ) × (slice_get es k ≡ Some e) = place_of es e one in
     let q : (k : ℕ) × (slice_get es k ≡ Some f) = place_of es f other in
     elim (cases_eq q.0 p.0) [
       | inl at ↦ same_Some e f (sym p.1 ∙ ap (λ (k : ℕ). slice_get es k) (sym at) ∙ q.1)
-      | inr off ↦ absurd (other_number es p.0 q.0 e f are.rising p.1 q.1 off (ap key_number same))
+      | inr off ↦ absurd (other_number es p.0 q.0 e f rising p.1 q.1 off same)
     ]
+
+-- and none one key
+pub same_entry : (es : List ContactEntry) (e f : ContactEntry) → AreContacts es → Contains es e → Contains es f → f.key ≡ e.key → e ≡ f
+same_entry es e f are one other same = one_entry es e f are.rising one other (ap key_number same)
 
 -- ---- where nothing changes
 

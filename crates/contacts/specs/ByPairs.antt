@@ -1,4 +1,4 @@
--- The contacts that a collide makes, by pairs of shapes.
+-- Trusted: The contacts that a collide makes, by pairs of shapes.
 use Rattle.std.specs.Prelude.{Bool, not, List, [], ◌∷◌, ◌++◌, map, filter}
 use Rattle.contacts_base.specs.declared.near.Proxy.{Proxy}
 use Rattle.contacts_base.specs.declared.contact.ContactEntry.{ContactEntry}

@@ -1,4 +1,4 @@
--- What becomes of the contacts.
+-- Trusted: What becomes of the contacts.
 use Rattle.std.specs.Prelude.{cond, List, Option, Some, None}
 use Rattle.std.specs.List.{filter_map}
 use Rattle.shapes.specs.Manifolds.{manifold_of}

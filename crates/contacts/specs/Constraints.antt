@@ -1,4 +1,4 @@
--- The numbers of constraints, in solve order.
+-- Trusted: The numbers of constraints, in solve order.
 use Rattle.std.specs.Prelude.{ℕ, ◌+◌, ◌*◌, ◌^◌}
 use Rattle.body_handles.specs.declared.handle.Handle.{Handle}
 use Rattle.contacts_base.specs.Keys.{key_number}

@@ -1,4 +1,4 @@
--- Pairs of bodies that something keeps from colliding.
+-- Trusted: Pairs of bodies that something keeps from colliding.
 use Rattle.std.specs.Prelude.{ℕ, ◌==◌, ◌&&◌, ◌||◌, Bool, List}
 use Rattle.std.specs.List.{list_any}
 use Rattle.contacts_base.specs.declared.near.Proxy.{Proxy}

@@ -3,6 +3,7 @@ use Rattle.std.specs.Prelude.{◌≡◌, false, List, [], map, Option, None, Som
 use Rattle.std.specs.Option.{ForSome}
 use Rattle.contacts_base.specs.declared.contact.ContactEntry.{ContactEntry}
 use Rattle.contacts_base.specs.ContactLists.{AreContacts}
+use Rattle.contacts_base.specs.ShortLists.{counted_in}
 use Rattle.contacts_base.specs.Split.{Split, carried, contacts_in}
 use Rattle.contacts.specs.declared.pending_update.PendingUpdate.{PendingUpdate}
 use Rattle.contacts.specs.ChangedKeys.{AreRising}
@@ -10,7 +11,7 @@ use Rattle.contacts.specs.NumberChanges.{IsChange}
 
 -- what the two lists become by what was noted of them
 abbrev pub after : PendingUpdate → Split → Split
-after d s = carried d.notes.items d.ends.items (option_map (λ es. es.items) d.short) s
+after d s = carried d.notes.items d.ends.items (option_map counted_in d.short) s
 
 abbrev pub whole_or : Option Split → Split → Split
 whole_or None s = s
@@ -33,7 +34,7 @@ pub record IsNothing (d : PendingUpdate) : Type 0 where
 
 -- what is pending can be carried out
 pub record IsPendingUpdate (d : PendingUpdate) (s : Split) : Type 0 where
-  pub short : ForSome d.short (λ es. AreContacts es.items)
+  pub short : ForSome d.short (λ l. AreContacts (counted_in l))
   pub contacts : AreContacts (contacts_in (after d s))
   pub idle : d.any ≡ false → IsNothing d
   pub change : IsChange (contacts_in s) (pending_contacts d s) d.made.items d.gone.items d.begin.items d.end.items

@@ -491,8 +491,7 @@ impl ContactTable {
         self.numbers.gone()
     }
 
-    /// Drops the contacts of the body in a slot; nothing is pending then. Takes no memory. Each of them takes a search of the long list, and all together a
-    /// pass over the short one.
+    /// Drops the contacts of the body in a slot; nothing is pending then. Takes no memory. Each of them takes a search of both lists.
     pub fn drop_of_body(&mut self, slot: u32)
         ensures contacts { self.new.contacts ≡ contacts_without slot self.old.contacts }
         ensures turnover { IsTurnover self.old.numbered self.new.numbered self.new.made self.new.gone }

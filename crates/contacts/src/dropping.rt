@@ -1,8 +1,6 @@
 //! The contacts of a body go.
 
-ghost use Rattle.std.specs.Prelude.{◌≡◌, ◌≢◌, ◌↔◌, [], ℕ, List, Option, Some, option_map, true};
-ghost use Rattle.std.specs.Option.{option_copied};
-ghost use Rattle.contacts_base.specs.declared.contact.ContactEntry.{ContactEntry};
+ghost use Rattle.std.specs.Prelude.{◌≡◌, ◌≢◌, [], ℕ, List, Option, Some};
 ghost use Rattle.contacts_base.specs.declared.key.ContactKey.{ContactKey};
 ghost use Rattle.contacts_base.specs.Contacts.{contacts_without};
 ghost use Rattle.contacts_base.specs.Split.{Split, contacts_in};
@@ -14,28 +12,7 @@ ghost use Rattle.contacts.specs.Stirring.{HaveKeys};
 
 use crate::ends::Side;
 use crate::number_book::NumberBook;
-use contacts_base::{ContactEntry, ContactKey, SplitContacts, seek_next};
-
-/// Whether there is a contact, and it has the key.
-pub(crate) fn has_key(entry: Option<&ContactEntry>, key: ContactKey) -> bool
-    ensures { (result ≡ true) ↔ (option_map (λ (e : ContactEntry). e.key) (option_copied entry.entry) ≡ Some key) }
-{
-    match entry {
-        None => false,
-        Some(entry) => entry.key == key,
-    }
-}
-
-/// The contact with a key is over, if it is in the long list.
-fn end_with_key(contacts: &mut SplitContacts, key: ContactKey)
-    ensures { IsKeyOver key contacts.old contacts.new }
-{
-    contacts.know_ascending();
-    let place = seek_next(contacts.long(), 0, key);
-    if has_key(contacts.long().get(place), key) {
-        contacts.end_at(place);
-    }
-}
+use contacts_base::SplitContacts;
 
 /// The contact with a number goes.
 fn end_numbered(numbers: &mut NumberBook, contacts: &mut SplitContacts, number: u32)
@@ -46,7 +23,7 @@ fn end_numbered(numbers: &mut NumberBook, contacts: &mut SplitContacts, number: 
 {
     if let Some(contact) = numbers.contact(number) {
         numbers.let_go(number, contact.key);
-        end_with_key(contacts, contact.key);
+        contacts.end(contact.key);
     }
 }
 
@@ -63,8 +40,7 @@ fn end_side(numbers: &mut NumberBook, contacts: &mut SplitContacts, side: Side, 
     }
 }
 
-/// The contacts of the body in a slot go, and their numbers are free. Takes no memory. Each of them takes a search of the long list, and all together a pass
-/// over the short one.
+/// The contacts of the body in a slot go, and their numbers are free. Takes no memory. Each of them takes a search of both lists.
 pub(crate) fn drop_of_body(numbers: &mut NumberBook, contacts: &mut SplitContacts, slot: u32)
     requires book { IsBook numbers.old }
     requires numbered { AreNumbered (contacts_in contacts.old) numbers.old.contacts.items }
@@ -79,5 +55,4 @@ pub(crate) fn drop_of_body(numbers: &mut NumberBook, contacts: &mut SplitContact
     numbers.begin();
     end_side(numbers, contacts, Side::First, slot);
     end_side(numbers, contacts, Side::Second, slot);
-    contacts.drop_short(slot);
 }

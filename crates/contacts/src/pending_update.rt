@@ -6,7 +6,7 @@ ghost use Rattle.contacts.specs.PendingUpdates.{IsPendingUpdate, IsNothing, pend
 ghost use Rattle.contacts.specs.Stirring.{HaveKeys};
 
 use crate::number_book::NumberedContact;
-use contacts_base::{ContactEntry, ContactKey, Renewal, SplitContacts};
+use contacts_base::{ContactKey, Renewal, ShortList, SplitContacts};
 use std::alloc::Global;
 
 /// What a collide makes of the contacts, not yet carried out: of the long list what becomes of the contacts at some places, and which of them are
@@ -18,7 +18,7 @@ pub(crate) struct PendingUpdate {
     pub(crate) notes: Vec<Renewal>,
     // The places in the long list of those that go.
     pub(crate) ends: Vec<usize>,
-    pub(crate) short: Option<Vec<ContactEntry>>,
+    pub(crate) short: Option<ShortList>,
     pub(crate) whole: Option<SplitContacts>,
     // Those that come, ascending by key.
     pub(crate) made: Vec<NumberedContact>,

@@ -5,6 +5,7 @@ ghost use Rattle.std.specs.List.{filter_map};
 ghost use Rattle.std.specs.Result.{IsOkUnless};
 ghost use Rattle.contacts_base.specs.Contacts.{AreKeysRising, number_of};
 ghost use Rattle.contacts_base.specs.ContactLists.{AreContacts};
+ghost use Rattle.contacts_base.specs.ShortLists.{counted_in};
 ghost use Rattle.contacts_base.specs.Proxies.{IsProxyList};
 ghost use Rattle.contacts.specs.Changes.{key_if_new};
 ghost use Rattle.contacts.specs.Known.{IsPairKey, again, staying};
@@ -19,7 +20,7 @@ use crate::fates::{Fate, ShapesById, begun_key, ended_key, gone_key};
 use crate::forbidden::ForbiddenPairs;
 use crate::pending_update::Touches;
 use crate::stirring::fate_in;
-use contacts_base::{ContactEntry, ContactKey, merge, push_below};
+use contacts_base::{ContactEntry, ContactKey, ShortList, merge, push_below};
 use fixed_geom::Refusal;
 use std::alloc::Global;
 
@@ -86,32 +87,36 @@ fn push_after_fate(
     }
 }
 
-/// Goes over the old contacts once, and adds the fresh ones in their places. Refused 1 where memory is wanting.
+/// Goes over the old contacts that aren't over once, and adds the fresh ones in their places. Refused 1 where memory is wanting.
 fn fate_each<S: ShapesById, F: ForbiddenPairs>(
     alloc: Global,
     collide: &Collide<'_, S, F>,
-    old: &[ContactEntry],
+    old: &ShortList,
     flags: &[bool],
     fresh: &[ContactEntry],
 ) -> Result<Survivors, Refusal>
     requires shapes { IsProxyList (S.proxies collide.now.shapes.now) }
-    requires old { AreContacts old.now }
-    requires keys { All (λ e. IsPairKey e.key) old.now }
+    requires old { AreContacts (counted_in old.now) }
+    requires keys { All (λ e. IsPairKey e.key) (counted_in old.now) }
     requires quiet { AreQuiet flags.now collide.now.marks.now (S.proxies collide.now.shapes.now) }
     requires fresh { AreAscending number_of fresh.now }
-    ensures all { IfOk result (λ found. found.all.items ≡ merged number_of (map (again (S.proxies collide.now.shapes.now)) (staying (moved_by collide.now.marks.now) (F.pairs collide.now.forbidden.now) (S.proxies collide.now.shapes.now) old.now)) fresh.now) }
-    ensures begin { IfOk result (λ found. found.begin.items ≡ begun_keys (moved_by collide.now.marks.now) (F.pairs collide.now.forbidden.now) (S.proxies collide.now.shapes.now) old.now) }
-    ensures end { IfOk result (λ found. found.end.items ≡ ended_keys (moved_by collide.now.marks.now) (F.pairs collide.now.forbidden.now) (S.proxies collide.now.shapes.now) old.now) }
-    ensures gone { IfOk result (λ found. found.gone.items ≡ gone_keys (moved_by collide.now.marks.now) (F.pairs collide.now.forbidden.now) (S.proxies collide.now.shapes.now) old.now) }
+    ensures all { IfOk result (λ found. found.all.items ≡ merged number_of (map (again (S.proxies collide.now.shapes.now)) (staying (moved_by collide.now.marks.now) (F.pairs collide.now.forbidden.now) (S.proxies collide.now.shapes.now) (counted_in old.now))) fresh.now) }
+    ensures begin { IfOk result (λ found. found.begin.items ≡ begun_keys (moved_by collide.now.marks.now) (F.pairs collide.now.forbidden.now) (S.proxies collide.now.shapes.now) (counted_in old.now)) }
+    ensures end { IfOk result (λ found. found.end.items ≡ ended_keys (moved_by collide.now.marks.now) (F.pairs collide.now.forbidden.now) (S.proxies collide.now.shapes.now) (counted_in old.now)) }
+    ensures gone { IfOk result (λ found. found.gone.items ≡ gone_keys (moved_by collide.now.marks.now) (F.pairs collide.now.forbidden.now) (S.proxies collide.now.shapes.now) (counted_in old.now)) }
     ensures memory_only { IsOkUnless result Refusal.NoMemory }
 {
-    let mut all = Vec::with_capacity(alloc, old.len().saturating_add(fresh.len()))?;
+    let entries = old.entries();
+    let mut all = Vec::with_capacity(alloc, entries.len().saturating_add(fresh.len()))?;
     let mut begin = Vec::new(alloc);
     let mut end = Vec::new(alloc);
     let mut gone = Vec::new(alloc);
     let mut next = 0;
-    for place in 0..old.len() {
-        let entry = &old[place];
+    for place in 0..entries.len() {
+        if old.is_over(place) {
+            continue;
+        }
+        let entry = &entries[place];
         let fate = fate_in(collide, flags, entry);
         next = push_after_fate(&mut all, fresh, next, entry, &fate)?;
         push_key(&mut begin, begun_key(entry, &fate))?;
@@ -151,21 +156,21 @@ fn keys_of_touching(alloc: Global, fresh: &[ContactEntry]) -> Result<Vec<Contact
     Ok(keys)
 }
 
-/// The list anew, of those that there were and the fresh ones. Refused 1 where memory is wanting.
+/// The list anew, of those that there were and aren't over, and the fresh ones. Refused 1 where memory is wanting.
 pub(crate) fn rebuild<S: ShapesById, F: ForbiddenPairs>(
     alloc: Global,
     collide: &Collide<'_, S, F>,
-    old: &[ContactEntry],
+    old: &ShortList,
     flags: &[bool],
     fresh: &[ContactEntry],
 ) -> Result<Rebuilt, Refusal>
     requires shapes { IsProxyList (S.proxies collide.now.shapes.now) }
-    requires old { AreContacts old.now }
-    requires keys { All (λ e. IsPairKey e.key) old.now }
+    requires old { AreContacts (counted_in old.now) }
+    requires keys { All (λ e. IsPairKey e.key) (counted_in old.now) }
     requires quiet { AreQuiet flags.now collide.now.marks.now (S.proxies collide.now.shapes.now) }
     requires fresh { AreKeysRising fresh.now }
-    ensures rebuilt { IfOk result (λ rebuilt. IsRebuilt (moved_by collide.now.marks.now) (F.pairs collide.now.forbidden.now) (S.proxies collide.now.shapes.now) old.now fresh.now rebuilt.all.items rebuilt.touches.begin.items rebuilt.touches.end.items) }
-    ensures gone { IfOk result (λ rebuilt. rebuilt.gone.items ≡ gone_keys (moved_by collide.now.marks.now) (F.pairs collide.now.forbidden.now) (S.proxies collide.now.shapes.now) old.now) }
+    ensures rebuilt { IfOk result (λ rebuilt. IsRebuilt (moved_by collide.now.marks.now) (F.pairs collide.now.forbidden.now) (S.proxies collide.now.shapes.now) (counted_in old.now) fresh.now rebuilt.all.items rebuilt.touches.begin.items rebuilt.touches.end.items) }
+    ensures gone { IfOk result (λ rebuilt. rebuilt.gone.items ≡ gone_keys (moved_by collide.now.marks.now) (F.pairs collide.now.forbidden.now) (S.proxies collide.now.shapes.now) (counted_in old.now)) }
     ensures memory_only { IsOkUnless result Refusal.NoMemory }
 {
     let survivors = fate_each(alloc, collide, old, flags, fresh)?;

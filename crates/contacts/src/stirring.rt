@@ -1,9 +1,11 @@
 //! The contacts of which a body may stir, by their places in the long list, so that a collide passes over those alone.
 
-ghost use Rattle.std.specs.Prelude.{◌≡◌, ◌↔◌, ◌++◌, ◌∷◌, [], ℕ, All, Contains, IsTrue, OnOk, cond, false, length, replicate, true};
+ghost use Rattle.std.specs.Prelude.{◌≡◌, ◌↔◌, ◌++◌, ◌∷◌, [], ℕ, All, Contains, IsTrue, OnOk, Some, cond, false, length, option_map, replicate, true};
+ghost use Rattle.std.specs.Option.{option_copied};
 ghost use Rattle.std.specs.Result.{IsOkUnless};
 ghost use Rattle.contacts_base.specs.Proxies.{IsProxyList};
 ghost use Rattle.std.specs.List.Sorted.{IsStrictlyIncreasing};
+ghost use Rattle.contacts_base.specs.declared.contact.ContactEntry.{ContactEntry};
 ghost use Rattle.contacts_base.specs.Contacts.{AreKeysRising};
 ghost use Rattle.contacts_base.specs.Split.{Split, contacts_in};
 ghost use Rattle.contacts.specs.Known.{IsPairKey};
@@ -15,12 +17,11 @@ ghost use Rattle.contacts.specs.Fates.{moved_by, outcome, after_fate};
 ghost use Rattle.packed_sets.specs.Marks.{AreListed};
 
 use crate::collide::Collide;
-use crate::dropping::has_key;
 use crate::ends::Side;
 use crate::fates::{Fate, ShapesById, fate_of};
 use crate::forbidden::ForbiddenPairs;
 use crate::number_book::{NumberBook, NumberedContact};
-use contacts_base::{ContactEntry, SplitContacts, seek_next};
+use contacts_base::{ContactEntry, ContactKey, SplitContacts, seek_next};
 use fixed_geom::Refusal;
 use std::alloc::Global;
 
@@ -216,6 +217,16 @@ fn scan_places(
         push_place(places, is_one_flagged(flags, &entries[place]), place)?;
     }
     Ok(())
+}
+
+/// Whether there is a contact, and it has the key.
+fn has_key(entry: Option<&ContactEntry>, key: ContactKey) -> bool
+    ensures { (result ≡ true) ↔ (option_map (λ (e : ContactEntry). e.key) (option_copied entry.entry) ≡ Some key) }
+{
+    match entry {
+        None => false,
+        Some(entry) => entry.key == key,
+    }
 }
 
 /// Adds the place in a list of the contact with the key of this one, if it is there. It is looked for from the hint on, which becomes where the search ended.

@@ -8,6 +8,7 @@ ghost use Rattle.contacts_base.specs.ContactLists.{AreContacts};
 ghost use Rattle.contacts_base.specs.Keys.{key_number};
 ghost use Rattle.contacts_base.specs.Merge.{AreAscending, merged};
 ghost use Rattle.contacts_base.specs.Proxies.{IsProxyList};
+ghost use Rattle.contacts_base.specs.ShortLists.{counted_in};
 ghost use Rattle.contacts_base.specs.Split.{contacts_in, counting};
 ghost use Rattle.contacts.specs.ByCodes.{contacts_of};
 ghost use Rattle.contacts.specs.ChangedKeys.{AreRising};
@@ -25,15 +26,19 @@ use crate::pending_update::{PendingUpdate, Touches};
 use crate::rebuild::{Rebuilt, rebuild};
 use crate::stirring::{Stirring, is_one_flagged};
 use crate::survey::look_over;
-use contacts_base::{ContactEntry, ContactKey, SplitContacts, merge};
+use contacts_base::{ContactEntry, ContactKey, ShortList, SplitContacts, merge};
 use fixed_geom::Refusal;
 use std::alloc::Global;
 
-/// Whether a body of one of the contacts may stir.
-fn may_one_stir(flags: &[bool], entries: &[ContactEntry]) -> bool
-    ensures { result ≡ false → All (λ e. one_flagged flags.now e ≡ false) entries.now }
+/// Whether a body of one of the contacts that aren't over may stir.
+fn may_one_stir(flags: &[bool], short: &ShortList) -> bool
+    ensures { result ≡ false → All (λ e. one_flagged flags.now e ≡ false) (counted_in short.now) }
 {
+    let entries = short.entries();
     for place in 0..entries.len() {
+        if short.is_over(place) {
+            continue;
+        }
         if is_one_flagged(flags, &entries[place]) {
             return true;
         }
@@ -45,17 +50,17 @@ fn may_one_stir(flags: &[bool], entries: &[ContactEntry]) -> bool
 fn rebuild_if<S: ShapesById, F: ForbiddenPairs>(
     alloc: Global,
     collide: &Collide<'_, S, F>,
-    short: &[ContactEntry],
+    short: &ShortList,
     flags: &[bool],
     fresh: &[ContactEntry],
 ) -> Result<Option<Rebuilt>, Refusal>
     requires shapes { IsProxyList (S.proxies collide.now.shapes.now) }
-    requires short { AreContacts short.now }
-    requires keys { All (λ e. IsPairKey e.key) short.now }
+    requires short { AreContacts (counted_in short.now) }
+    requires keys { All (λ e. IsPairKey e.key) (counted_in short.now) }
     requires quiet { AreQuiet flags.now collide.now.marks.now (S.proxies collide.now.shapes.now) }
     requires fresh { AreKeysRising fresh.now }
-    ensures rebuilt { IfOk result (λ rebuilt. IsRebuiltIf (moved_by collide.now.marks.now) (F.pairs collide.now.forbidden.now) (S.proxies collide.now.shapes.now) short.now fresh.now rebuilt) }
-    ensures gone { IfOk result (λ rebuilt. AreGoneIf (moved_by collide.now.marks.now) (F.pairs collide.now.forbidden.now) (S.proxies collide.now.shapes.now) short.now rebuilt) }
+    ensures rebuilt { IfOk result (λ rebuilt. IsRebuiltIf (moved_by collide.now.marks.now) (F.pairs collide.now.forbidden.now) (S.proxies collide.now.shapes.now) (counted_in short.now) fresh.now rebuilt) }
+    ensures gone { IfOk result (λ rebuilt. AreGoneIf (moved_by collide.now.marks.now) (F.pairs collide.now.forbidden.now) (S.proxies collide.now.shapes.now) (counted_in short.now) rebuilt) }
     ensures memory_only { IsOkUnless result Refusal.NoMemory }
 {
     if fresh.is_empty() && !may_one_stir(flags, short) {
@@ -115,7 +120,7 @@ fn update_lists<S: ShapesById, F: ForbiddenPairs>(
     requires places { AreStirring stirring.now.flags.items old.now stirring.now.places.items }
     requires quiet { AreQuiet stirring.now.flags.items collide.now.marks.now (S.proxies collide.now.shapes.now) }
     requires fresh { fresh.now ≡ contacts_of (contacts_in old.now) (S.proxies collide.now.shapes.now) (fresh_codes (moved_by collide.now.marks.now) (F.pairs collide.now.forbidden.now) (S.proxies collide.now.shapes.now) (contacts_in old.now)) }
-    ensures done { IfOk result (λ touches. IsDone (F.pairs collide.now.forbidden.now) (S.proxies collide.now.shapes.now) old.now pending.new.notes.items pending.new.ends.items (option_map (λ es. es.items) pending.new.short) touches.begin.items touches.end.items) }
+    ensures done { IfOk result (λ touches. IsDone (F.pairs collide.now.forbidden.now) (S.proxies collide.now.shapes.now) old.now pending.new.notes.items pending.new.ends.items (option_map counted_in pending.new.short) touches.begin.items touches.end.items) }
     ensures gone { OnOk result (pending.new.gone.items ≡ gone_keys (moved_by collide.now.marks.now) (F.pairs collide.now.forbidden.now) (S.proxies collide.now.shapes.now) old.now.short) }
     ensures ended { OnOk result (keys_at old.now.long pending.new.ends.items ≡ gone_keys (moved_by collide.now.marks.now) (F.pairs collide.now.forbidden.now) (S.proxies collide.now.shapes.now) (counting old.now.over old.now.long)) }
     ensures whole { pending.new.whole ≡ None }
@@ -139,7 +144,8 @@ fn update_lists<S: ShapesById, F: ForbiddenPairs>(
     match rebuilt {
         None => Ok(touches),
         Some(rebuilt) => {
-            pending.short = Some(rebuilt.all);
+            let short = ShortList::from_entries(alloc, rebuilt.all)?;
+            pending.short = Some(short);
             pending.gone = rebuilt.gone;
             join_touches(alloc, touches, rebuilt.touches)
         }

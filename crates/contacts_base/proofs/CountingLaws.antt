@@ -1,5 +1,5 @@
 -- Those contacts of a list that count: by place those whose flag isn't set.
-use Rattle.std.proofs.Common.{◌≡◌, ℕ, zero, suc, ◌+◌, ◌<◌, ◌==◌, ◌||◌, Bool, true, false, cond, not, List, [], ◌∷◌, ◌++◌, length, get_or, drop, map, Option, Some, None, add-one, arith, refl, sym, ap, ◌∙◌, subst, inl, inr, true≢false}
+use Rattle.std.proofs.Common.{◌≡◌, ℕ, zero, suc, ◌<◌, ◌==◌, Bool, true, false, cond, not, List, [], ◌∷◌, length, get_or, map, Option, Some, None, arith, refl, sym, ap, ◌∙◌, inl, inr, true≢false}
 use Rattle.std.specs.Prelude.{filter, slice_get, slice_set}
 use Rattle.std.specs.List.{All}
 use Rattle.std.specs.Option.{is_some, option_map}
@@ -16,11 +16,11 @@ use Rattle.contacts_base.specs.Keys.{key_number}
 use Rattle.contacts_base.specs.Surfaces.{IsSurface}
 use Rattle.contacts_base.specs.Contacts.{AreKeysRising, lookup, number_of}
 use Rattle.contacts_base.specs.ContactLists.{AreContacts, IsFirstFrom, contact_set, impulses_given, keys_of, with_points}
-use Rattle.contacts_base.specs.Merge.{AreAscending, below_of, beyond_of, merged}
+use Rattle.contacts_base.specs.Merge.{AreAscending}
 use Rattle.contacts_base.specs.Split.{counting, is_over, over_at, renewed}
 use Rattle.contacts_base.proofs.ContactsLemmas.{contacts_put}
 use Rattle.contacts_base.proofs.LookupLemmas.{keys_later, lookup-at, lookup-beyond, lookup-here, lookup-later, lookup-missed, lookup-none}
-use Rattle.contacts_base.proofs.MergeLaws.{ascends_drop, drop_next, merged_more, tail_ascends}
+use Rattle.contacts_base.proofs.MergeLaws.{tail_ascends}
 use Rattle.contacts_base.proofs.MergedLaws.{is_same, not_same}
 
 -- ---- what holds of all of a list holds of those that count
@@ -248,7 +248,7 @@ pub within_if : (es : List ContactEntry) (key : ContactKey) (p : ℕ) → AreKey
 within_if [] key p rising first some = cc
 within_if (x ∷ es) key p rising first some = (there_if (x ∷ es) key p x rising first some).0
 
-none_if : (o : Option ContactEntry) → is_some o ≡ false → o ≡ None
+pub none_if : (o : Option ContactEntry) → is_some o ≡ false → o ≡ None
 none_if None h = refl
 none_if (Some e) h = cc
 
@@ -293,33 +293,6 @@ length_keys (e ∷ es) (f ∷ fs) h = let rest : length es ≡ length fs = lengt
   where
     tails : (a b : ContactKey) (ks ls : List ContactKey) → a ∷ ks ≡ b ∷ ls → ks ≡ ls
     tails a b ks ls h = cc
-
--- ---- one contact of the long list further
-
-flag_next : (over : List Bool) (i : ℕ) (t : Bool) → i < length over → is_over over i ≡ t → drop i over ≡ t ∷ drop (suc i) over
-flag_next over i t lt is = drop_next over i false lt ∙ ap (λ (b : Bool). b ∷ drop (suc i) over) is
-
-join_passes : (over : List Bool) (es : List ContactEntry) (i : ℕ) → i < length over → i < length es → is_over over i ≡ true → counting (drop i over) (drop i es) ≡ counting (drop (suc i) over) (drop (suc i) es)
-join_passes over [] i lt within is = absurd (omega (arith, within))
-join_passes over (x ∷ es) i lt within is = ap (λ (flags : List Bool). counting flags (drop i (x ∷ es))) (flag_next over i true lt is) ∙ ap (λ (l : List ContactEntry). counting (true ∷ drop (suc i) over) l) (drop_next (x ∷ es) i x within)
-
-join_has : (over : List Bool) (es : List ContactEntry) (i : ℕ) (e d : ContactEntry) → i < length over → i < length es → is_over over i ≡ false → e ≡ get_or es i d → counting (drop i over) (drop i es) ≡ e ∷ counting (drop (suc i) over) (drop (suc i) es)
-join_has over es i e d lt within is there =
-    ap (λ (flags : List Bool). counting flags (drop i es)) (flag_next over i false lt is) ∙ ap (λ (l : List ContactEntry). counting (false ∷ drop (suc i) over) l) (drop_next es i d within) ∙ ap (λ (x : ContactEntry). x ∷ counting (drop (suc i) over) (drop (suc i) es)) (sym there)
-
-pub joined_more : (over : List Bool) (long short all made more whole : List ContactEntry) (i place next : ℕ) (e d : ContactEntry) → length over ≡ length long → i < length long → is_over over i ≡ false → e ≡ get_or long i d → AreKeysRising long → AreKeysRising short
-    → (all ++ merged number_of (counting (drop i over) (drop i long)) (drop place short)) ≡ whole → made ≡ all ++ below_of number_of e (drop place short) → drop next short ≡ beyond_of number_of e (drop place short) → more ≡ made ++ e ∷ []
-    → (more ++ merged number_of (counting (drop (i + 1) over) (drop (i + 1) long)) (drop next short)) ≡ whole
-joined_more over long short all made more whole i place next e d flags within off there rises also known pushed left added =
-    let rest : List ContactEntry = counting (drop (suc i) over) (drop (suc i) long) in
-    let head : counting (drop i over) (drop i long) ≡ e ∷ rest = join_has over long i e d (omega (arith, flags, within)) within off there in
-    let first : AreAscending number_of (e ∷ rest) = subst (AreAscending number_of) head (counting_ascends (drop i over) (drop i long) (ascends_drop number_of long i (keys_later long rises))) in
-    rw add-one (merged_more number_of (e ∷ rest) short all made more whole 0 place next e e (omega arith) refl first (keys_later short also) (ap (λ (l : List ContactEntry). all ++ merged number_of l (drop place short)) (sym head) ∙ known) pushed left added)
-
-pub joined_passed : (over : List Bool) (long short all whole : List ContactEntry) (i place : ℕ) → length over ≡ length long → i < length long → is_over over i ≡ true → (all ++ merged number_of (counting (drop i over) (drop i long)) (drop place short)) ≡ whole
-    → (all ++ merged number_of (counting (drop (i + 1) over) (drop (i + 1) long)) (drop place short)) ≡ whole
-joined_passed over long short all whole i place flags within on known =
-    rw add-one (ap (λ (l : List ContactEntry). all ++ merged number_of l (drop place short)) (sym (join_passes over long i (omega (arith, flags, within)) within on)) ∙ known)
 
 -- what was found by reference is there
 pub found_behind : {B : Type 0} (now : B → ContactEntry) (o : Option B) (t : Bool) (es fs : List ContactEntry) (key : ContactKey) → option_map now o ≡ lookup es key → es ≡ fs → t ≡ is_some o → is_some (lookup fs key) ≡ t

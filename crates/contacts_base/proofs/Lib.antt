@@ -6,4 +6,7 @@ mod PackableLaws
 pub mod MergeLaws
 pub mod MergedLaws
 pub mod CountingLaws
+pub mod EndedLaws
+pub mod RankLaws
+pub mod JoinedLaws
 pub mod SplitLaws

@@ -1,26 +1,25 @@
 -- What is kept of a long list of contacts and a short one, whatever becomes of them.
-use Rattle.std.proofs.Common.{◌≡◌, ◌≢◌, ℕ, zero, suc, ◌<◌, ◌==◌, Bool, true, false, cond, not, List, [], ◌∷◌, length, get_or, map, Option, Some, None, arith, refl, sym, ap, ◌∙◌, subst, inl, inr}
-use Rattle.std.specs.Prelude.{filter, replicate, slice_get, slice_set}
+use Rattle.std.proofs.Common.{◌≡◌, ℕ, ◌==◌, Bool, true, false, not, List, [], ◌∷◌, length, map, Option, Some, None, arith, refl, sym, ap, ◌∙◌, subst}
+use Rattle.std.specs.Prelude.{replicate}
 use Rattle.std.specs.List.{All}
 use Rattle.std.specs.Option.{ForSome, is_some, option_map, option_or}
-use Rattle.std.proofs.lemmas.Bool.{cases_eq, cases_lt}
 use Rattle.std.proofs.lemmas.Bool.Decides.{nat_tests}
-use Rattle.std.proofs.lemmas.List.{get_or-set_other, get_or-set_same, length-replicate, length-set}
+use Rattle.std.proofs.lemmas.List.{length-replicate}
 use Rattle.std.proofs.lemmas.List.Elements.{All-replicate}
-use Rattle.std.proofs.lemmas.Option.{none-some, same_Some, slice_get_within, get_or_from_slice_get}
 use Rattle.contacts_base.specs.declared.key.ContactKey.{ContactKey}
 use Rattle.contacts_base.specs.declared.contact.ContactEntry.{ContactEntry}
 use Rattle.contacts_base.specs.declared.evaluation.Impulses.{Impulses}
 use Rattle.contacts_base.specs.declared.split.Renewal.{Renewal}
-use Rattle.contacts_base.specs.Contacts.{AreKeysRising, contacts_without, has_slot, lookup, number_of}
-use Rattle.contacts_base.specs.ContactLists.{AreContacts, impulses_given}
+use Rattle.contacts_base.specs.Contacts.{contacts_but, lookup, number_of}
+use Rattle.contacts_base.specs.ContactLists.{AreContacts, impulses_given, keys_of}
 use Rattle.contacts_base.specs.Merge.{merged}
-use Rattle.contacts_base.specs.Split.{Split, carried, contacts_in, counting, ended_at, is_over, or_kept, over_at, renewed, short_without}
+use Rattle.contacts_base.specs.Split.{Split, carried, contacts_in, counting, or_kept, over_at, renewed}
 use Rattle.contacts_base.specs.IsSplit.{IsSplit}
-use Rattle.contacts_base.proofs.ContactsLemmas.{contacts_kept, contacts_left}
+use Rattle.contacts_base.specs.ShortLists.{IsShort}
+use Rattle.contacts_base.proofs.ContactsLemmas.{contacts_left}
 use Rattle.contacts_base.proofs.LookupLemmas.{keys_later}
-use Rattle.contacts_base.proofs.MergedLaws.{filter_merged, is_same, lookup_merged, map_merged, merged_none, not_same, only_once}
-use Rattle.contacts_base.proofs.CountingLaws.{all_count, contacts_given, contacts_renewed, counting_by, counts_at, given, given_key, given_none, keys_given, keys_renewed, length-over_at, length_keys, map_counting, set_again, set_stays}
+use Rattle.contacts_base.proofs.MergedLaws.{filter_merged, lookup_merged, map_merged, merged_none, only_once}
+use Rattle.contacts_base.proofs.CountingLaws.{all_count, contacts_given, contacts_renewed, given, given_key, given_none, keys_given, keys_renewed, length-over_at, length_keys, map_counting}
 use Rattle.contacts_base.specs.Keys.{key_number}
 
 abbrev pub split_of : List ContactEntry → List Bool → List ContactEntry → Split
@@ -37,6 +36,10 @@ one_is s is none empty = one_contacts s.long s.over s.short is.long_rises none e
 
 none_over : (over : List Bool) (n : ℕ) → over ≡ replicate n false → All (λ flag. flag ≡ false) over
 none_over over n is = subst (All (λ flag. flag ≡ false)) (sym is) (All-replicate (λ flag. flag ≡ false) n false refl)
+
+-- none of a list is over
+pub none_counted : (es : List ContactEntry) (over : List Bool) (n : ℕ) → over ≡ replicate n false → counting over es ≡ es
+none_counted es over n is = all_count over es (none_over over n is)
 
 pub made_contacts : (es : List ContactEntry) (over : List Bool) (short : List ContactEntry) (n : ℕ) → AreContacts es → over ≡ replicate n false → short ≡ [] → contacts_in (split_of es over short) ≡ es
 made_contacts es over short n are is empty = one_contacts es over short are (none_over over n is) empty
@@ -79,89 +82,31 @@ pub given_is_split : (key : ContactKey) (first : Impulses) (second : Option Impu
 given_is_split key first second s long short a b is =
     subst (λ (l : List ContactEntry). IsSplit (split_of l s.over short)) (sym a) (subst (λ (l : List ContactEntry). IsSplit (split_of (impulses_given key first second s.long) s.over l)) (sym b) (given_split key first second s is))
 
--- ---- a contact of the long list that is over
+-- of a list of which some are over
+pub given_counted : (key : ContactKey) (first : Impulses) (second : Option Impulses) (over : List Bool) (es given_es : List ContactEntry) → given_es ≡ impulses_given key first second es → counting over given_es ≡ impulses_given key first second (counting over es)
+given_counted key first second over es given_es is = ap (counting over) is ∙ sym (map_counting (given key first second) over es)
 
--- none of the contacts has the key
-filter_missed : (es : List ContactEntry) (key : ContactKey) → lookup es key ≡ None → filter (λ e. not (number_of e == key_number key)) es ≡ es
-filter_missed [] key none = refl
-filter_missed (e ∷ es) key none = by_test e es key (number_of e == key_number key) none (filter_missed es key)
-  where
-    by_test : (e : ContactEntry) (es : List ContactEntry) (key : ContactKey) (t : Bool) → cond t (Some e) (lookup es key) ≡ None → (lookup es key ≡ None → filter (λ f. not (number_of f == key_number key)) es ≡ es)
-        → cond (not t) (e ∷ filter (λ f. not (number_of f == key_number key)) es) (filter (λ f. not (number_of f == key_number key)) es) ≡ e ∷ es
-    by_test e es key true none rest = absurd (none-some e (sym none))
-    by_test e es key false none rest = ap (λ (l : List ContactEntry). e ∷ l) (rest none)
-
--- of contacts whose keys ascend no other has the number
-pub other_number : (es : List ContactEntry) (p q : ℕ) (e f : ContactEntry) → AreKeysRising es → slice_get es p ≡ Some e → slice_get es q ≡ Some f → q ≢ p → number_of f ≢ number_of e
-other_number es p q e f rising at there off same =
-    let p_in : p < length es = slice_get_within es p e at in
-    let q_in : q < length es = slice_get_within es q f there in
-    let here : get_or es p e ≡ e = get_or_from_slice_get es p e e at in
-    let also : get_or es q e ≡ f = get_or_from_slice_get es q f e there in
-    elim (cases_lt p q) [
-      | inl lt ↦ let less : number_of (get_or es p e) < number_of (get_or es q e) = keys_later es rising p q e lt q_in in let one : number_of (get_or es p e) ≡ number_of e = ap number_of here in let two : number_of (get_or es q e) ≡ number_of f = ap number_of also in omega (arith, less, one, two, same)
-      | inr le ↦ let less : number_of (get_or es q e) < number_of (get_or es p e) = keys_later es rising q p e (omega (arith, le, off)) p_in in let one : number_of (get_or es p e) ≡ number_of e = ap number_of here in let two : number_of (get_or es q e) ≡ number_of f = ap number_of also in omega (arith, less, one, two, same)
-    ]
-
--- what counts then: all but that one
-counting_ended : (s : Split) (p : ℕ) (e : ContactEntry) → IsSplit s → slice_get s.long p ≡ Some e → counting (slice_set s.over p true) s.long ≡ filter (λ f. not (number_of f == number_of e)) (counting s.over s.long)
-counting_ended s p e is at =
-    let p_in : p < length s.over = let lt : p < length s.long = slice_get_within s.long p e at in omega (arith, lt, is.flags) in
-    counting_by (λ f. number_of f == number_of e) s.over (slice_set s.over p true) s.long is.flags (length-set s.over p true ∙ is.flags) (λ q on. set_stays s.over p q on)
-    (λ q f there off. elim (cases_eq q p) [
-      | inl same ↦
-          let one : f ≡ e = same_Some f e (sym there ∙ ap (slice_get s.long) same ∙ at) in
-          ap (is_over (slice_set s.over p true)) same ∙ get_or-set_same s.over p true false p_in ∙ sym (is_same (number_of f) (number_of e) (ap number_of one))
-      | inr apart ↦ get_or-set_other s.over p q true false apart ∙ off ∙ sym (not_same (number_of f) (number_of e) (other_number s.long p q e f is.long_rises.rising at there apart))
-    ])
-
--- the contacts then: all but that one
-pub ended_contacts : (s : Split) (p : ℕ) (e : ContactEntry) → IsSplit s → slice_get s.long p ≡ Some e → is_over s.over p ≡ false → contacts_in (ended_at p s) ≡ filter (λ f. not (number_of f == number_of e)) (contacts_in s)
-ended_contacts s p e is at off =
-    let lt : p < length s.long = slice_get_within s.long p e at in
-    let counts : is_some (lookup (counting s.over s.long) e.key) ≡ true = counts_at s.over s.long e.key p e is.long_rises.rising lt (sym (get_or_from_slice_get s.long p e e at)) refl off in
-    let none : lookup s.short e.key ≡ None = only_once (counting s.over s.long) s.short e.key (keys_later (contacts_in s) is.all.rising) counts in
-    ap (λ (l : List ContactEntry). merged number_of l s.short) (counting_ended s p e is at)
-    ∙ ap (merged number_of (filter (λ f. not (number_of f == number_of e)) (counting s.over s.long))) (sym (filter_missed s.short e.key none))
-    ∙ sym (filter_merged number_of (λ f. not (number_of f == number_of e)) (counting s.over s.long) s.short (keys_later (contacts_in s) is.all.rising))
-
-not_past : (es : List ContactEntry) (p : ℕ) → slice_get es p ≡ None → p < length es → ⊥
-not_past [] p e lt = omega (arith, lt)
-not_past (x ∷ es) zero e lt = none-some x (sym e)
-not_past (x ∷ es) (suc p) e lt = not_past es p e (omega (arith, lt))
-
-pub ended_split : (s : Split) (p : ℕ) → IsSplit s → IsSplit (ended_at p s)
-ended_split s p is = record {
-  long_rises = is.long_rises;
-  short_rises = is.short_rises;
-  all = by_flag (is_over s.over p) refl (slice_get s.long p) refl;
-  flags = length-set s.over p true ∙ is.flags;
-}
-  where
-    same_over : slice_set s.over p true ≡ s.over → AreContacts (contacts_in (ended_at p s))
-    same_over same = subst (λ (flags : List Bool). AreContacts (contacts_in (split_of s.long flags s.short))) (sym same) is.all
-
-    by_flag : (t : Bool) → is_over s.over p ≡ t → (o : Option ContactEntry) → slice_get s.long p ≡ o → AreContacts (contacts_in (ended_at p s))
-    by_flag true on o at = same_over (set_again s.over p (λ lt. on))
-    by_flag false off None at = same_over (set_again s.over p (λ lt. absurd (not_past s.long p at (omega (arith, lt, is.flags)))))
-    by_flag false off (Some e) at = subst AreContacts (sym (ended_contacts s p e is at off)) (contacts_left (λ f. not (number_of f == number_of e)) (contacts_in s) is.all)
-
--- ---- contacts of a body that are dropped
-
-pub dropped_split : (slot : ℕ) (s : Split) (short : List ContactEntry) → IsSplit s → AreContacts (contacts_in (short_without slot s)) → short ≡ contacts_without slot s.short → IsSplit (split_of s.long s.over short)
-dropped_split slot s short is all e = record {
-  long_rises = is.long_rises;
-  short_rises = subst AreContacts (sym e) (contacts_kept slot s.short is.short_rises);
-  all = subst (λ (l : List ContactEntry). AreContacts (contacts_in (split_of s.long s.over l))) (sym e) all;
-  flags = is.flags;
+pub given_short : (key : ContactKey) (first : Impulses) (second : Option Impulses) (over : List Bool) (es given_es : List ContactEntry) → AreContacts es → length over ≡ length es → given_es ≡ impulses_given key first second es → IsShort (record { entries = given_es; over = over })
+given_short key first second over es given_es are flags is = record {
+  contacts = subst AreContacts (sym is) (contacts_given key first second es are);
+  flags = flags ∙ sym (length_keys given_es es (ap keys_of is ∙ keys_given key first second es));
 }
 
--- once those of the long list are over that are the body's
-pub dropped_by : (slot : ℕ) (s : Split) (later : List Bool) → IsSplit s → length later ≡ length s.long → ((p : ℕ) → is_over s.over p ≡ true → is_over later p ≡ true)
-    → ((p : ℕ) (e : ContactEntry) → slice_get s.long p ≡ Some e → is_over s.over p ≡ false → is_over later p ≡ has_slot slot e) → contacts_in (split_of s.long later (contacts_without slot s.short)) ≡ contacts_without slot (contacts_in s)
-dropped_by slot s later is long stays now =
-    ap (λ (l : List ContactEntry). merged number_of l (contacts_without slot s.short)) (counting_by (has_slot slot) s.over later s.long is.flags long stays now)
-    ∙ sym (filter_merged number_of (λ e. not (has_slot slot e)) (counting s.over s.long) s.short (keys_later (contacts_in s) is.all.rising))
+-- ---- the contact with a key that is over
+
+pub ended_contacts : (s : Split) (key : ContactKey) (over : List Bool) (short : List ContactEntry) → IsSplit s → counting over s.long ≡ contacts_but key (counting s.over s.long) → short ≡ contacts_but key s.short → contacts_in (split_of s.long over short) ≡ contacts_but key (contacts_in s)
+ended_contacts s key over short is first second =
+    ap (λ (l : List ContactEntry). merged number_of l short) first
+    ∙ ap (merged number_of (contacts_but key (counting s.over s.long))) second
+    ∙ sym (filter_merged number_of (λ e. not (number_of e == key_number key)) (counting s.over s.long) s.short (keys_later (contacts_in s) is.all.rising))
+
+pub ended_split : (s : Split) (key : ContactKey) (over : List Bool) (short : List ContactEntry) → IsSplit s → counting over s.long ≡ contacts_but key (counting s.over s.long) → length over ≡ length s.over → short ≡ contacts_but key s.short → IsSplit (split_of s.long over short)
+ended_split s key over short is first flags second = record {
+  long_rises = is.long_rises;
+  short_rises = subst AreContacts (sym second) (contacts_left (λ e. not (number_of e == key_number key)) s.short is.short_rises);
+  all = subst AreContacts (sym (ended_contacts s key over short is first second)) (contacts_left (λ e. not (number_of e == key_number key)) (contacts_in s) is.all);
+  flags = flags ∙ is.flags;
+}
 
 -- ---- what was noted is carried out
 

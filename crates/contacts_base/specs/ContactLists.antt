@@ -1,4 +1,4 @@
--- Inner: lists of contacts as the code keeps them: places in them, and what is written into them.
+-- Trusted: lists of contacts as the code keeps them: places in them, and what is written into them.
 use Rattle.std.specs.Prelude.{ℕ, ◌<◌, ◌≤◌, ◌==◌, cond, List, length, map, slice_index_or, slice_set, Option, Some, None, option_map, All}
 use Rattle.std.specs.List.{AllWithin}
 use Rattle.contacts_base.specs.declared.key.ContactKey.{ContactKey}

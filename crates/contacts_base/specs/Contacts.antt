@@ -1,4 +1,4 @@
--- Lists of contacts by key.
+-- Trusted: Lists of contacts by key.
 use Rattle.std.specs.Prelude.{ℕ, ◌==◌, ◌||◌, Bool, false, not, cond, List, [], ◌∷◌, map, filter, Option, Some, None}
 use Rattle.std.specs.List.Sorted.{IsStrictlyIncreasing}
 use Rattle.contacts_base.specs.declared.key.ContactKey.{ContactKey}
@@ -30,3 +30,7 @@ has_slot slot e = (e.key.first.slot == slot) || (e.key.second.slot == slot)
 
 abbrev pub contacts_without : ℕ → List ContactEntry → List ContactEntry
 contacts_without slot entries = filter (λ e. not (has_slot slot e)) entries
+
+-- those but the one with the key
+abbrev pub contacts_but : ContactKey → List ContactEntry → List ContactEntry
+contacts_but key entries = filter (λ e. not (number_of e == key_number key)) entries

@@ -1,4 +1,4 @@
--- What a contact becomes when its shapes are evaluated.
+-- Trusted: What a contact becomes when its shapes are evaluated.
 use Rattle.std.specs.Prelude.{ℕ, ◌==◌, Bool, cond, pos, int_lt, Option, Some, None, option_map, is_some}
 use Rattle.shapes.specs.declared.points.Point.{Point}
 use Rattle.shapes.specs.declared.points.Manifold.{Manifold}

@@ -1,4 +1,4 @@
--- The numbers of shapes and contacts, which rise with their names.
+-- Trusted: The numbers of shapes and contacts, which rise with their names.
 use Rattle.std.specs.Prelude.{ℕ, ◌+◌, ◌*◌, ◌^◌}
 use Rattle.contacts_base.specs.declared.key.ShapeId.{ShapeId}
 use Rattle.contacts_base.specs.declared.key.ContactKey.{ContactKey}

@@ -10,6 +10,7 @@ pub mod Limits
 pub mod PackedPoints
 pub mod Merge
 pub mod Split
+pub mod ShortLists
 pub mod Flags
 pub mod IsSplit
 pub mod Orders

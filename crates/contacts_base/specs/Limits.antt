@@ -1,4 +1,4 @@
--- The limits of a contact's numbers.
+-- Trusted: The limits of a contact's numbers.
 use Rattle.std.specs.Prelude.{◌≤◌, pos, ◌≤ℤ◌, unsigned_abs}
 use Rattle.std.specs.Option.{ForSome}
 use Rattle.fixed_geom.specs.Vectors.{IsWithin}

@@ -1,4 +1,4 @@
--- Which shapes are near one another, by a scan of all pairs.
+-- Trusted: Which shapes are near one another, by a scan of all pairs.
 use Rattle.std.specs.Prelude.{◌==◌, Bool, false, ◌||◌, cond}
 use Rattle.fixed_geom.specs.Boxes.{overlaps}
 use Rattle.shapes.specs.Filters.{should_collide}

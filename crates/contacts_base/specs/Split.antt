@@ -2,11 +2,11 @@
 use Rattle.std.specs.Prelude.{ℕ, suc, Bool, true, false, cond, List, [], ◌∷◌, Option, Some, None, slice_get, slice_index_or, slice_set}
 use Rattle.contacts_base.specs.declared.contact.ContactEntry.{ContactEntry}
 use Rattle.contacts_base.specs.declared.split.Renewal.{Renewal}
-use Rattle.contacts_base.specs.Contacts.{contacts_without, number_of}
+use Rattle.contacts_base.specs.Contacts.{number_of}
 use Rattle.contacts_base.specs.ContactLists.{contact_set}
 use Rattle.contacts_base.specs.Merge.{merged}
 
--- what contracts see of the two lists: the long one, by place in it which contacts are over, and the short one
+-- what contracts see of the two lists: the long one, by place in it which contacts are over, and those of the short one that aren't
 pub record Split : Type 0 where
   pub long : List ContactEntry
   pub over : List Bool
@@ -62,11 +62,3 @@ or_kept (Some more) es = more
 -- what was noted of the long list is carried out: contacts at some places have new points, those at others are over, and the short list is another, if one is given
 abbrev pub carried : List Renewal → List ℕ → Option (List ContactEntry) → Split → Split
 carried notes ends short s = record { long = renewed notes s.long; over = over_at ends s.over; short = or_kept short s.short }
-
--- the contact at a place of the long list is over
-abbrev pub ended_at : ℕ → Split → Split
-ended_at place s = record { long = s.long; over = slice_set s.over place true; short = s.short }
-
--- the short list has no contacts of the body in a slot
-abbrev pub short_without : ℕ → Split → Split
-short_without slot s = record { long = s.long; over = s.over; short = contacts_without slot s.short }

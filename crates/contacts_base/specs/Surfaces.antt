@@ -1,4 +1,4 @@
--- The friction and the restitution of a shape, and of two shapes together.
+-- Trusted: The friction and the restitution of a shape, and of two shapes together.
 use Rattle.std.specs.Prelude.{pos, ◌≤◌, ◌≤ℤ◌, unsigned_abs}
 use Rattle.shapes.specs.Mixing.{mixed_friction, mixed_restitution}
 use Rattle.contacts_base.specs.declared.limits.TheConstants.{MAX_FRICTION, MAX_RESTITUTION}

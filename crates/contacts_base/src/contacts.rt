@@ -1,7 +1,6 @@
 //! The contacts of near shapes.
 
 ghost use Rattle.std.specs.Prelude.{◌≡◌, [], slice_get, length};
-ghost use Rattle.contacts_base.specs.Contacts.{has_slot};
 ghost use Rattle.contacts_base.specs.ContactLists.{with_points, contact_set, AreContacts};
 
 use crate::{ContactEntry, Impulses, PackedContact};
@@ -25,13 +24,6 @@ impl Model for Contacts {
     ghost view = { λ a. a.entries.items };
 
     ghost invariant = { λ a. AreContacts a.entries.items };
-}
-
-/// Whether a contact is one of the body in a slot.
-pub(crate) fn has_slot(slot: u32, entry: &ContactEntry) -> bool
-    ensures { result ≡ has_slot slot entry.now }
-{
-    entry.key.first.slot == slot || entry.key.second.slot == slot
 }
 
 /// Gives the points of a contact these impulses; without any for the second it stays as it is.

@@ -6,12 +6,14 @@ mod ascending;
 mod circles;
 mod contact;
 mod contacts;
+mod counted;
 mod evaluation;
 mod flags;
 mod key;
 mod limits;
 mod near;
 mod packed;
+mod short_list;
 mod split;
 mod surface;
 
@@ -26,5 +28,6 @@ pub use limits::{
 };
 pub use near::{Proxy, code_of, is_near, one_stirs};
 pub use packed::PackedContact;
+pub use short_list::ShortList;
 pub use split::{Hint, Renewal, SplitContacts};
 pub use surface::{PackedSurface, Surface};

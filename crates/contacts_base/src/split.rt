@@ -1,18 +1,19 @@
 //! The contacts as a long list, which stands while contacts come and go, and a short one of those that have come since it was made.
 
-ghost use Rattle.std.specs.Prelude.{◌≡◌, ◌++◌, [], IfOk, IsTrue, OnErr, OnOk, false, length, map, option_copied, option_map};
+ghost use Rattle.std.specs.Prelude.{◌≡◌, ◌++◌, [], ℕ, IfOk, IsTrue, OnErr, OnOk, false, length, map, option_copied, option_map, true};
 ghost use Rattle.std.specs.Option.{ForSome, is_some};
 ghost use Rattle.std.specs.Result.{IsOkUnless};
-ghost use Rattle.contacts_base.specs.Contacts.{AreKeysRising, contacts_without, lookup, number_of};
+ghost use Rattle.contacts_base.specs.Contacts.{AreKeysRising, contacts_but, lookup, number_of};
 ghost use Rattle.contacts_base.specs.ContactLists.{AreContacts, impulses_given};
 ghost use Rattle.contacts_base.specs.Merge.{merged};
-ghost use Rattle.contacts_base.specs.Split.{carried, contacts_in, counting, counting_at, ended_at, or_kept, renewed, short_without};
+ghost use Rattle.contacts_base.specs.ShortLists.{counted_in};
+ghost use Rattle.contacts_base.specs.Split.{carried, contacts_in, counting, counting_at, is_over, or_kept, renewed};
 
-use crate::ascending::push_below;
-use crate::contact::seek;
-use crate::contacts::{has_slot, put_contact, set_points};
+use crate::contacts::{put_contact, set_points};
+use crate::counted::{end_by_key, find_counting, give_by_key};
 use crate::flags::CountedFlags;
-use crate::{ContactEntry, ContactKey, Impulses, PackedContact, contact_at};
+use crate::short_list::ShortList;
+use crate::{ContactEntry, ContactKey, Impulses, PackedContact};
 use fixed_geom::Refusal;
 use std::alloc::Global;
 use std::marker::Model;
@@ -32,75 +33,43 @@ pub struct Hint {
     pub short: usize,
 }
 
-/// A contact for each pair of near shapes. Contracts see a long list of them, by place in it which are over, and a short list. The contacts
-/// (`contacts_in`) are those of the long list that aren't over and those of the short one, ascending by key.
+/// A contact for each pair of near shapes. Contracts see a long list of them, by place in it which are over, and of a short list those that aren't. The
+/// contacts (`contacts_in`) are those of both lists that aren't over, ascending by key.
 #[derive(Drop)]
 pub struct SplitContacts {
     // Ascending by key.
     long: Vec<ContactEntry>,
     // By place in the long list whether the contact there is over.
     over: CountedFlags,
-    // Ascending by key; none of them is one of the long list that counts.
-    short: Vec<ContactEntry>,
+    // None of those that count is one of the long list that counts.
+    short: ShortList,
     // Memory for the next long list: what an earlier one was, whatever is in it.
     spare: Vec<ContactEntry>,
 }
 
 impl Model for SplitContacts {
     ghost use Rattle.contacts_base.specs.Split.{Split};
+    ghost use Rattle.contacts_base.specs.ShortLists.{counted_in};
     ghost use Rattle.contacts_base.specs.IsSplit.{IsSplit};
 
     ghost Value = { Split };
 
-    ghost view = { λ a. record { long = a.long.items; over = a.over; short = a.short.items } };
+    ghost view = { λ a. record { long = a.long.items; over = a.over; short = counted_in a.short } };
 
-    ghost invariant = { λ a. IsSplit (record { long = a.long.items; over = a.over; short = a.short.items }) };
+    ghost invariant = { λ a. IsSplit (record { long = a.long.items; over = a.over; short = counted_in a.short }) };
 }
 
-/// The contact with this key. The search begins at the hint, which becomes where it ended.
-#[inline(never)]
-fn find_in<'a>(
-    entries: &'a [ContactEntry],
-    hint: &mut usize,
-    key: ContactKey,
-) -> Option<&'a ContactEntry>
-    requires { AreKeysRising entries.now }
-    ensures { option_copied result ≡ lookup entries.now key }
-{
-    *hint = seek(entries, *hint, key);
-    contact_at(entries, *hint, key)
-}
-
-/// The contact with this key, unless it is over. The search begins at the hint, which becomes where it ended.
-#[inline(always)]
-fn find_counting<'a>(
-    entries: &'a [ContactEntry],
-    over: &CountedFlags,
-    hint: &mut usize,
-    key: ContactKey,
-) -> Option<&'a ContactEntry>
-    requires { AreKeysRising entries.now }
-    ensures { option_copied result ≡ lookup (counting over.now entries.now) key }
-{
-    *hint = seek(entries, *hint, key);
-    let entry = contact_at(entries, *hint, key)?;
-    if over.is_set(*hint) {
-        return None;
-    }
-    Some(entry)
-}
-
-/// Lists the contacts of a long list that aren't over and those of a short one, in the place of what the list has. Refused 1 where memory is wanting.
+/// Lists the contacts of a long list and those of a short one that aren't over, in the place of what the list has. Refused 1 where memory is wanting.
 fn join(
     all: &mut Vec<ContactEntry>,
     long: &[ContactEntry],
     over: &CountedFlags,
-    short: &[ContactEntry],
+    short: &ShortList,
 ) -> Result<(), Refusal>
     requires long { AreKeysRising long.now }
-    requires short { AreKeysRising short.now }
+    requires short { AreKeysRising (counted_in short.now) }
     requires flags { length over.now ≡ length long.now }
-    ensures value { OnOk result (all.new.items ≡ merged number_of (counting over.now long.now) short.now) }
+    ensures value { OnOk result (all.new.items ≡ merged number_of (counting over.now long.now) (counted_in short.now)) }
     ensures memory_only { IsOkUnless result Refusal.NoMemory }
 {
     all.clear();
@@ -111,11 +80,10 @@ fn join(
             continue;
         }
         let entry = &long[place];
-        next = push_below(all, short, next, entry)?;
+        next = short.push_below(all, next, entry)?;
         all.push(*entry)?;
     }
-    all.extend_from_slice(&short[next..])?;
-    Ok(())
+    short.push_from(all, next)
 }
 
 /// Gives the points of the contact at a place these impulses, if it has this key and isn't over. Answers whether it has and isn't.
@@ -140,22 +108,6 @@ fn give_at(
     true
 }
 
-/// Gives the points of the contact with this key these impulses, if there is one.
-fn give_by_key(
-    entries: &mut Vec<ContactEntry>,
-    key: ContactKey,
-    first: Impulses,
-    second: Option<Impulses>,
-)
-    requires { AreKeysRising entries.old.items }
-    ensures { entries.new.items ≡ impulses_given key first second entries.old.items }
-{
-    let place = seek(entries, 0, key);
-    if contact_at(entries, place, key).is_some() {
-        set_points(&mut entries[place], first, second);
-    }
-}
-
 /// Gives the contacts the points that were noted of them.
 fn renew_all(entries: &mut Vec<ContactEntry>, notes: &[Renewal])
     ensures { entries.new.items ≡ renewed notes.now entries.old.items }
@@ -166,19 +118,12 @@ fn renew_all(entries: &mut Vec<ContactEntry>, notes: &[Renewal])
 }
 
 /// Puts a list in the place of another, if there is one.
-fn replace(entries: &mut Vec<ContactEntry>, other: Option<Vec<ContactEntry>>)
-    ensures { entries.new.items ≡ or_kept (option_map (λ list. list.items) other) entries.old.items }
+fn replace(short: &mut ShortList, other: Option<ShortList>)
+    ensures { counted_in short.new ≡ or_kept (option_map counted_in other) (counted_in short.old) }
 {
     if let Some(list) = other {
-        *entries = list;
+        *short = list;
     }
-}
-
-/// Drops the contacts of the body in a slot.
-fn drop_in(entries: &mut Vec<ContactEntry>, slot: u32)
-    ensures { entries.new.items ≡ contacts_without slot entries.old.items }
-{
-    entries.retain(|entry| !has_slot(slot, entry));
 }
 
 impl SplitContacts {
@@ -190,7 +135,7 @@ impl SplitContacts {
         SplitContacts {
             long: Vec::new(alloc),
             over: CountedFlags::new(alloc),
-            short: Vec::new(alloc),
+            short: ShortList::new(alloc),
             spare: Vec::new(alloc),
         }
     }
@@ -206,7 +151,7 @@ impl SplitContacts {
         Ok(SplitContacts {
             long: entries,
             over,
-            short: Vec::new(alloc),
+            short: ShortList::new(alloc),
             spare: Vec::new(alloc),
         })
     }
@@ -242,12 +187,12 @@ impl SplitContacts {
         self.long.as_slice()
     }
 
-    /// The short list, ascending by key.
-    pub fn short(&self) -> &[ContactEntry]
-        ensures value { result.now ≡ self.now.short }
-        ensures contacts { AreContacts result.now }
+    /// The short list.
+    pub fn short(&self) -> &ShortList
+        ensures value { counted_in result.now ≡ self.now.short }
+        ensures contacts { AreContacts (counted_in result.now) }
     {
-        self.short.as_slice()
+        &self.short
     }
 
     /// The contact at a place of the long list, if it counts.
@@ -269,7 +214,7 @@ impl SplitContacts {
     {
         match find_counting(&self.long, &self.over, &mut hint.long, key) {
             Some(entry) => Some(entry),
-            None => find_in(&self.short, &mut hint.short, key),
+            None => self.short.find(&mut hint.short, key),
         }
     }
 
@@ -300,7 +245,7 @@ impl SplitContacts {
         ensures over { self.new.over ≡ self.old.over }
     {
         give_by_key(&mut self.long, key, first, second);
-        give_by_key(&mut self.short, key, first, second);
+        self.short.give(key, first, second);
     }
 
     /// A list of the contacts, ascending by key. Refused 1 where memory is wanting.
@@ -355,28 +300,23 @@ impl SplitContacts {
 
     /// The contacts of the long list get the points that were noted of them, those at the places `ends` are over, and the short list becomes this
     /// one, if there is one. Takes no memory.
-    pub fn carry_out(&mut self, notes: &[Renewal], ends: &[usize], short: Option<Vec<ContactEntry>>)
-        requires short { ForSome short (λ entries. AreContacts entries.items) }
-        requires contacts { AreContacts (contacts_in (carried notes.now ends.now (option_map (λ entries. entries.items) short) self.old)) }
-        ensures value { self.new ≡ carried notes.now ends.now (option_map (λ entries. entries.items) short) self.old }
+    pub fn carry_out(&mut self, notes: &[Renewal], ends: &[usize], short: Option<ShortList>)
+        requires short { ForSome short (λ list. AreContacts (counted_in list)) }
+        requires contacts { AreContacts (contacts_in (carried notes.now ends.now (option_map counted_in short) self.old)) }
+        ensures value { self.new ≡ carried notes.now ends.now (option_map counted_in short) self.old }
     {
         renew_all(&mut self.long, notes);
         self.over.set_all(ends);
         replace(&mut self.short, short);
     }
 
-    /// The contact at a place of the long list, if one is there, is over. Takes no memory.
-    pub fn end_at(&mut self, place: usize)
-        ensures { self.new ≡ ended_at place self.old }
+    /// The contact with a key, if there is one, is over: it stands where it stood, and counts no more. Takes no memory.
+    pub fn end(&mut self, key: ContactKey)
+        ensures contacts { contacts_in self.new ≡ contacts_but key (contacts_in self.old) }
+        ensures long { self.new.long ≡ self.old.long }
+        ensures over { (place : ℕ) → is_over self.old.over place ≡ true → is_over self.new.over place ≡ true }
     {
-        self.over.set(place);
-    }
-
-    /// Drops the contacts of the body in a slot that are in the short list. Takes no memory.
-    pub fn drop_short(&mut self, slot: u32)
-        requires { AreContacts (contacts_in (short_without slot self.old)) }
-        ensures { self.new ≡ short_without slot self.old }
-    {
-        drop_in(&mut self.short, slot);
+        end_by_key(&self.long, &mut self.over, key);
+        self.short.end(key);
     }
 }

@@ -15,10 +15,15 @@ AreAccepted accepts work items = All (λ x. accepts work x ≡ true) items
 abbrev pub owed : {W X Y : Type 0} → (W → X → Y) → W → List X → List Y → List Y
 owed answer work items outs = outs ++ answers answer work (reverse items)
 
--- what comes of a piece that may have been handed out
-abbrev pub awaited_answers : {Y : Type 0} → Option (List Y) → List Y
-awaited_answers None = []
-awaited_answers (Some ys) = ys
+-- what comes of a slip that may be back
+abbrev pub returned : {S Y : Type 0} → (S → List Y) → Option S → List Y
+returned owed None = []
+returned owed (Some s) = owed s
+
+-- what comes of a piece: what was asked, and where nothing is, what is back
+abbrev pub promised : {Y : Type 0} → Option (List Y) → List Y → List Y
+promised None back = back
+promised (Some ys) back = ys
 
 -- what each gives, one behind the other
 abbrev pub gathered : {D Y : Type 0} → List D → (D → List Y) → List Y

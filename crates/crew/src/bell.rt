@@ -1,5 +1,5 @@
-//! Waiting: workers for the next map, and the caller for their answers. What a thread reads here is a hint, and costs time at most if it
-//! is wrong: only what comes out of a mailbox decides.
+//! Waiting: workers for the next map, and the caller for pieces that are in their hands. What a thread reads here is a hint, and costs time at
+//! most if it is wrong: only what comes out of a mailbox decides.
 
 use std::sync::Wait;
 use std::sync::atomic::{AtomicU64, Ordering};
@@ -11,10 +11,9 @@ pub(crate) const OVER: u64 = u64::MAX;
 /// How many rounds there are before they are counted from 1 again.
 const ROUNDS: u64 = 1 << 62;
 
-/// Few, since two threads that share a processor would wait out each other's rounds.
-const SPINS: u32 = 64;
-
-const YIELDS: u32 = 1_000;
+/// How often a thread looks before it sleeps, or lets others run. It takes some 100 microseconds, which is longer than the maps of a step are
+/// apart, so that workers sleep between steps alone.
+const LOOKS: u32 = 2_000;
 
 /// Counts the maps, and wakes the workers that sleep until the next one.
 #[derive(Drop)]
@@ -28,26 +27,15 @@ pub(crate) fn next_round(round: u64) -> u64 {
     round % ROUNDS + 1
 }
 
-/// Waits a while for the word to be another one than `round`, or to be `round`. Answers whether it is.
-fn watch(word: &AtomicU64, round: u64, other: bool) -> bool {
-    for _ in 0..SPINS {
-        if (word.load(Ordering::SeqCst) != round) == other {
-            return true;
-        }
+/// Waits a moment after a look in vain, and answers how often there was one. A thread that has looked often lets others run.
+pub(crate) fn pause(looks: u32) -> u32 {
+    if looks < LOOKS {
         hint::spin_loop();
-    }
-    for _ in 0..YIELDS {
-        if (word.load(Ordering::SeqCst) != round) == other {
-            return true;
-        }
+        looks + 1
+    } else {
         thread::yield_now();
+        looks
     }
-    false
-}
-
-/// Waits a while for the word to be `round`.
-pub(crate) fn wait_for(word: &AtomicU64, round: u64) {
-    let _ = watch(word, round, false);
 }
 
 impl Bell {
@@ -66,11 +54,8 @@ impl Bell {
         }
     }
 
-    /// Waits for another round than this, and answers it.
-    pub(crate) fn wait_past<R: Wait>(&self, rt: &R, seen: u64) -> u64 {
-        if watch(&self.round, seen, true) {
-            return self.round.load(Ordering::SeqCst);
-        }
+    /// Sleeps until there is another round than this, and answers it.
+    fn sleep_past<R: Wait>(&self, rt: &R, seen: u64) -> u64 {
         for _ in rt.forever() {
             self.asleep.fetch_add(1, Ordering::SeqCst);
             self.round.park(rt, (seen % (1 << 32)) as u32);
@@ -81,5 +66,17 @@ impl Bell {
             }
         }
         unreachable!()
+    }
+
+    /// Waits until there is another round than this, or until this word is not 0. Answers the round.
+    pub(crate) fn wait_past<R: Wait>(&self, rt: &R, seen: u64, word: &AtomicU64) -> u64 {
+        for _ in 0..LOOKS {
+            let now = self.round.load(Ordering::SeqCst);
+            if now != seen || word.load(Ordering::SeqCst) != 0 {
+                return now;
+            }
+            hint::spin_loop();
+        }
+        self.sleep_past(rt, seen)
     }
 }

@@ -1,9 +1,9 @@
-//! The caller's side of one worker.
+//! The caller's side of a piece that is handed out.
 
-ghost use Rattle.std.specs.Prelude.{◌≡◌, ◌++◌, ◌+◌, ◌≤◌, true, None, length, vec_len, vec_capacity};
+ghost use Rattle.std.specs.Prelude.{◌≡◌, ◌++◌, ◌+◌, ◌≤◌, false, true, length, vec_len, vec_capacity};
 ghost use Rattle.std.specs.Arc.{arc_value};
 ghost use Rattle.crossbeam_queue.specs.Passes.{view, IsPassOf};
-ghost use Rattle.crew.specs.Answers.{AreAccepted, answers, awaited_answers};
+ghost use Rattle.crew.specs.Answers.{AreAccepted, answers, owed, promised, returned};
 ghost use Rattle.crew.specs.Mailbox.{is_asked};
 
 use crate::post::{MailboxPass, Post};
@@ -14,7 +14,7 @@ use std::alloc::Global;
 use std::mem;
 use std::sync::{Arc, Wait};
 
-/// The mailbox of a worker with the caller's pass, and the two lists that go with a slip and come back.
+/// The mailbox of a piece with the caller's pass, the slip once it is back, and the two lists that go with a slip and come back.
 pub(crate) struct Desk<W: Work + Drop>
 where
     W::Item: Drop,
@@ -24,6 +24,7 @@ where
     pub(crate) post: Arc<Post<W>, Global>,
     pub(crate) pass: MailboxPass<W>,
     pub(crate) asked: bool,
+    pub(crate) back: Option<Slip<W>>,
     pub(crate) stack: Vec<W::Item>,
     pub(crate) answers: Vec<W::Out>,
     pub ghost fits: { IsPassOf (arc_value post).mailbox pass },
@@ -42,6 +43,7 @@ where
             post: _,
             pass: _,
             asked: _,
+            back: _,
             stack: _,
             answers: _,
         } = self;
@@ -53,17 +55,7 @@ where
     W::Item: Drop,
     W::Out: Drop,
 {
-    /// Drops what was asked and not collected, so that nothing is.
-    fn forget<R: Wait>(&mut self, rt: &R, round: u64)
-        ensures { (view self.new.pass).ask ≡ None }
-    {
-        if self.asked {
-            let _ = self.post.get(rt, &mut self.pass, round);
-            self.asked = false;
-        }
-    }
-
-    /// Hands the last `count` items out to the worker, if memory allows it: else they stay with the caller.
+    /// Hands the last `count` items out, if memory allows it: else they stay with the caller.
     pub(crate) fn post<R: Wait>(
         &mut self,
         rt: &R,
@@ -74,12 +66,13 @@ where
         count: usize,
     )
         requires many { count ≤ vec_len items.old }
+        requires idle { self.old.asked ≡ false }
         requires accepted { AreAccepted W.accepts (arc_value work.now) items.old.items }
-        ensures awaited { answers W.answer (arc_value work.now) items.new.items ++ awaited_answers (view self.new.pass).ask ≡ answers W.answer (arc_value work.now) items.old.items }
+        ensures promised { answers W.answer (arc_value work.now) items.new.items ++ promised (view self.new.pass).ask (returned (λ s. owed W.answer (arc_value s.work) s.stack.items s.answers.items) self.new.back) ≡ answers W.answer (arc_value work.now) items.old.items }
         ensures accepted { AreAccepted W.accepts (arc_value work.now) items.new.items }
         ensures capacity { vec_capacity items.new ≡ vec_capacity items.old }
     {
-        self.forget(rt, 0);
+        self.back = None;
         self.stack.clear();
         self.answers.clear();
         let Ok(work) = Arc::try_clone(work) else {
@@ -101,25 +94,35 @@ where
         self.asked = true;
     }
 
-    /// Adds the answers that are awaited to `out`, which has room for them.
-    pub(crate) fn collect<R: Wait, G: Gate>(
-        &mut self,
-        rt: &R,
-        gate: &G,
-        round: u64,
-        out: &mut Vec<W::Out>,
-    )
-        requires room { vec_len out.old + length (awaited_answers (view self.old.pass).ask) ≤ vec_capacity out.old }
-        ensures out { out.new.items ≡ out.old.items ++ awaited_answers (view self.old.pass).ask }
-        ensures capacity { vec_capacity out.old ≤ vec_capacity out.new }
+    /// Fetches the slip if it lies in the mailbox, and works it if nobody has. Answers whether nothing is awaited any more.
+    pub(crate) fn fetch<R: Wait, G: Gate>(&mut self, rt: &R, gate: &G) -> bool
+        ensures promised { promised (view self.new.pass).ask (returned (λ s. owed W.answer (arc_value s.work) s.stack.items s.answers.items) self.new.back) ≡ promised (view self.old.pass).ask (returned (λ s. owed W.answer (arc_value s.work) s.stack.items s.answers.items) self.old.back) }
+        ensures back { result ≡ true → returned (λ s. owed W.answer (arc_value s.work) s.stack.items s.answers.items) self.new.back ≡ promised (view self.old.pass).ask (returned (λ s. owed W.answer (arc_value s.work) s.stack.items s.answers.items) self.old.back) }
+        ensures idle { result ≡ true → self.new.asked ≡ false }
     {
         if !self.asked {
-            return;
+            return true;
         }
-        let slip = self.post.get(rt, &mut self.pass, round);
-        self.asked = false;
-        let (stack, answers) = slip.finish(rt, gate, out);
-        self.stack = stack;
-        self.answers = answers;
+        match self.post.get(&mut self.pass) {
+            None => false,
+            Some(slip) => {
+                self.asked = false;
+                self.back = Some(slip.worked(rt, gate));
+                true
+            }
+        }
+    }
+
+    /// Adds the answers of the slip that is back to `out`, which has room for them.
+    pub(crate) fn collect(&mut self, out: &mut Vec<W::Out>)
+        requires room { vec_len out.old + length (returned (λ s. owed W.answer (arc_value s.work) s.stack.items s.answers.items) self.old.back) ≤ vec_capacity out.old }
+        ensures out { out.new.items ≡ out.old.items ++ returned (λ s. owed W.answer (arc_value s.work) s.stack.items s.answers.items) self.old.back }
+        ensures capacity { vec_capacity out.old ≤ vec_capacity out.new }
+    {
+        if let Some(slip) = self.back.take() {
+            let (stack, answers) = slip.finish(out);
+            self.stack = stack;
+            self.answers = answers;
+        }
     }
 }

@@ -6,16 +6,19 @@
 
 mod bell;
 mod desk;
+mod furnish;
 mod gate;
 mod pieces;
 mod post;
+mod round;
 mod rule;
 mod slip;
 mod stack;
 mod staying;
 mod work;
+mod worker;
 
 pub use gate::{Gate, OpenGate};
 pub use pieces::map_pieces;
-pub use staying::{Crew, start};
+pub use staying::{Crew, sole, start};
 pub use work::Work;

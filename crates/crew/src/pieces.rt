@@ -4,6 +4,7 @@ ghost use Rattle.std.specs.Prelude.{◌≡◌, ◌≤◌, ◌<◌, [], length, v
 ghost use Rattle.std.specs.List.{flat_map};
 ghost use Rattle.crew.specs.Answers.{AreAccepted, answers};
 ghost use Rattle.crew.specs.Refusals.{IsStartRefusal};
+ghost use Rattle.fixed_geom.specs.declared.refusal.Refusal.TheVariants.{NoMemory, NoThread};
 
 use crate::{Gate, Work};
 use fixed_geom::Refusal;
@@ -86,7 +87,7 @@ where
     requires room { of ≤ vec_capacity pieces.old }
     requires accepted { AreAccepted W.accepts work.now items.now }
     ensures answers { OnOk result (flat_map (λ h. answers W.answer h.promise.work.now h.promise.items.now) pieces.new.items ≡ answers W.answer work.now items.now) }
-    ensures refused { IfErr result IsStartRefusal }
+    ensures refused { IfErr result (λ e. e ≡ NoThread) }
 {
     let mut rest = items;
     for piece in 0..of {
@@ -113,7 +114,7 @@ where
     W::Out: Drop,
     requires empty { out.items ≡ [] }
     ensures answers { IfOk result (λ v. v.items ≡ flat_map (λ h. answers W.answer h.promise.work.now h.promise.items.now) pieces.entry.items) }
-    ensures refused { IfErr result IsStartRefusal }
+    ensures refused { IfErr result (λ e. e ≡ NoMemory) }
 {
     let mut refused = false;
     for piece in pieces {

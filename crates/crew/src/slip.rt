@@ -46,7 +46,7 @@ where
     W::Item: Drop,
     W::Out: Drop,
 {
-    /// The slip after a worker has worked it, as far as there is room for the answers.
+    /// The slip once it has been worked, as far as there is room for the answers. A slip that has been stays as it is.
     pub(crate) fn worked<R: Wait, G: Gate>(self, rt: &R, gate: &G) -> Slip<W>
         ensures { owed W.answer (arc_value result.work) result.stack.items result.answers.items ≡ owed W.answer (arc_value self.work) self.stack.items self.answers.items }
     {
@@ -54,12 +54,14 @@ where
             work,
             piece,
             of,
-            entered: _,
+            entered,
             mut stack,
             mut answers,
         } = self;
-        gate.enter(rt, piece, of);
-        work_stack(&*work, &mut stack, &mut answers);
+        if !entered {
+            gate.enter(rt, piece, of);
+            work_stack(&*work, &mut stack, &mut answers);
+        }
         Slip {
             work,
             piece,
@@ -70,29 +72,22 @@ where
         }
     }
 
-    /// Adds its answers to `out`, which has room for them, and works those items that are left. Gives back its two empty lists.
-    pub(crate) fn finish<R: Wait, G: Gate>(
-        self,
-        rt: &R,
-        gate: &G,
-        out: &mut Vec<W::Out>,
-    ) -> (Vec<W::Item>, Vec<W::Out>)
+    /// Adds its answers to `out`, which has room for them, and works those items for whose answers the slip had none. Gives back its two empty
+    /// lists.
+    pub(crate) fn finish(self, out: &mut Vec<W::Out>) -> (Vec<W::Item>, Vec<W::Out>)
         requires room { vec_len out.old + length (owed W.answer (arc_value self.work) self.stack.items self.answers.items) ≤ vec_capacity out.old }
         ensures out { out.new.items ≡ out.old.items ++ owed W.answer (arc_value self.work) self.stack.items self.answers.items }
         ensures capacity { vec_capacity out.old ≤ vec_capacity out.new }
     {
         let Slip {
             work,
-            piece,
-            of,
-            entered,
+            piece: _,
+            of: _,
+            entered: _,
             mut stack,
             mut answers,
         } = self;
         let _ = out.append(&mut answers);
-        if !entered {
-            gate.enter(rt, piece, of);
-        }
         work_stack(&*work, &mut stack, out);
         (stack, answers)
     }

@@ -1,24 +1,25 @@
 //! The crew that stays: threads that wait for one map after another.
 
-ghost use Rattle.std.specs.Prelude.{◌≡◌, ◌++◌, ◌+◌, ◌≤◌, [], true, false, None, length, vec_len, vec_capacity, IfOk, IfErr};
+ghost use Rattle.std.specs.Prelude.{◌≡◌, ◌++◌, ◌+◌, ◌≤◌, [], true, vec_len, vec_capacity, IfErr, OnOk};
 ghost use Rattle.std.specs.Arc.{arc_value};
-ghost use Rattle.crossbeam_queue.specs.Passes.{view, IsPassOf};
-ghost use Rattle.crew.specs.Answers.{AreAccepted, answers, awaited_answers, gathered};
-ghost use Rattle.crew.specs.Mailbox.{hand};
-ghost use Rattle.crew.specs.Refusals.{IsStartRefusal};
+ghost use Rattle.crew.specs.Answers.{AreAccepted, answers};
+ghost use Rattle.crew.specs.Refusals.{are_workers, MayRefuseStart};
+ghost use Rattle.fixed_geom.specs.declared.refusal.Refusal.TheVariants.{NoThread};
 
 use crate::bell::{Bell, OVER, next_round};
 use crate::desk::Desk;
-use crate::post::{Mailbox, MailboxPass, Post, serve};
-use crate::rule::OneSlip;
-use crate::stack::work_stack;
+use crate::furnish::furnish_all;
+use crate::round::{map_alone, map_shared};
+use crate::worker::Worker;
 use crate::{Gate, Work};
 use fixed_geom::Refusal;
-use std::alloc::{AllocError, Global};
-use std::sync::atomic::AtomicU64;
+use std::alloc::Global;
 use std::sync::{Arc, Wait};
 use std::thread;
 use std::thread::{JoinHandle, Scope, Threads};
+
+/// How many workers a crew has at most.
+const MOST_WORKERS: usize = 64;
 
 /// The caller and a number of threads that wait for its maps. Its type sees to it that it is ended: it can't be let go otherwise.
 pub struct Crew<'s, G, W: Work + Drop>
@@ -35,160 +36,8 @@ where
     threads: Vec<JoinHandle<()>>,
 }
 
-/// Makes a worker's mailbox with the passes of both.
-fn furnish<W: Work + Drop>(
-    alloc: Global,
-    room: usize,
-) -> Result<(Desk<W>, Arc<Post<W>, Global>, MailboxPass<W>), AllocError>
-where
-    W::Item: Drop,
-    W::Out: Drop,
-    ensures { IfOk result (λ r. IsPassOf (arc_value r.1).mailbox r.2 × (view r.2 ≡ hand false None)) }
-{
-    let stack = Vec::with_capacity(alloc, room)?;
-    let answers = Vec::with_capacity(alloc, room)?;
-    let (mailbox, mut pass) = Mailbox::<W>::ruled(alloc, 2)?;
-    let theirs = mailbox.another::<OneSlip>(&mut pass);
-    let post = Arc::new(
-        alloc,
-        Post {
-            mailbox,
-            answered: AtomicU64::new(0),
-        },
-    )?;
-    let shared = Arc::try_clone(&post)?;
-    let desk = Desk {
-        alloc,
-        post,
-        pass,
-        asked: false,
-        stack,
-        answers,
-    };
-    Ok((desk, shared, theirs))
-}
-
-/// Starts a worker.
-fn hire<'s, E, R: Threads + Wait + Sync, G: Gate + Sync, W: Work + Drop + Send + Sync + 's>(
-    scope: &Scope<'s, E>,
-    rt: &'s R,
-    alloc: Global,
-    gate: &'s G,
-    bell: &Arc<Bell, Global>,
-    room: usize,
-) -> Result<(Desk<W>, JoinHandle<()>), Refusal>
-where
-    W::Item: Drop + Send + 's,
-    W::Out: Drop + Send + 's,
-    ensures { IfErr result IsStartRefusal }
-{
-    let (desk, post, pass) = furnish::<W>(alloc, room)?;
-    let bell = Arc::try_clone(bell)?;
-    match scope.spawn(
-        move ||
-            requires { IsPassOf (arc_value post).mailbox pass × (view pass ≡ hand false None) }
-        { serve(rt, gate, &post, &bell, pass) },
-    ) {
-        Ok(thread) => Ok((desk, thread)),
-        Err(_) => Err(Refusal::NoThread),
-    }
-}
-
-/// Hands a piece out to each worker, from the last one on. What is left of the items is the caller's piece.
-fn post_all<R: Wait, W: Work + Drop>(
-    rt: &R,
-    desks: &mut [Desk<W>],
-    work: &Arc<W, Global>,
-    piece: usize,
-    of: usize,
-    items: &mut Vec<W::Item>,
-)
-where
-    W::Item: Drop,
-    W::Out: Drop,
-    requires accepted { AreAccepted W.accepts (arc_value work.now) items.old.items }
-    ensures awaited { answers W.answer (arc_value work.now) items.new.items ++ gathered desks.new (λ d. awaited_answers (view d.pass).ask) ≡ answers W.answer (arc_value work.now) items.old.items }
-    ensures accepted { AreAccepted W.accepts (arc_value work.now) items.new.items }
-    ensures capacity { vec_capacity items.new ≡ vec_capacity items.old }
-{
-    match desks.split_first_mut() {
-        None => {}
-        Some((first, rest)) => {
-            post_all(rt, rest, work, piece.saturating_add(1), of, items);
-            let count = items.len() / piece.saturating_add(1);
-            first.post(rt, work, piece, of, items, count);
-        }
-    }
-}
-
-/// Adds what each worker answers to `out`, which has room for it.
-fn collect_all<R: Wait, G: Gate, W: Work + Drop>(
-    rt: &R,
-    gate: &G,
-    desks: &mut [Desk<W>],
-    round: u64,
-    out: &mut Vec<W::Out>,
-)
-where
-    W::Item: Drop,
-    W::Out: Drop,
-    requires room { vec_len out.old + length (gathered desks.old (λ d. awaited_answers (view d.pass).ask)) ≤ vec_capacity out.old }
-    ensures out { out.new.items ≡ out.old.items ++ gathered desks.old (λ d. awaited_answers (view d.pass).ask) }
-    ensures capacity { vec_capacity out.old ≤ vec_capacity out.new }
-{
-    match desks.split_first_mut() {
-        None => {}
-        Some((first, rest)) => {
-            first.collect(rt, gate, round, out);
-            collect_all(rt, gate, rest, round, out);
-        }
-    }
-}
-
-/// Works all items on this thread.
-fn work_alone<W: Work>(work: &W, items: &mut Vec<W::Item>, out: &mut Vec<W::Out>)
-    requires accepted { AreAccepted W.accepts work.now items.old.items }
-    requires room { vec_len out.old + vec_len items.old ≤ vec_capacity out.old }
-    ensures out { out.new.items ≡ out.old.items ++ answers W.answer work.now items.old.items }
-    ensures items { items.new.items ≡ [] }
-    ensures kept { vec_capacity items.new ≡ vec_capacity items.old }
-    ensures capacity { vec_capacity out.old ≤ vec_capacity out.new }
-{
-    items.reverse();
-    work_stack(work, items, out);
-}
-
-/// A map in pieces, of which the caller works the first.
-fn map_shared<R: Wait, G: Gate, W: Work + Drop>(
-    rt: &R,
-    gate: &G,
-    bell: &Bell,
-    round: u64,
-    desks: &mut [Desk<W>],
-    work: &Arc<W, Global>,
-    items: &mut Vec<W::Item>,
-    out: &mut Vec<W::Out>,
-)
-where
-    W::Item: Drop,
-    W::Out: Drop,
-    requires accepted { AreAccepted W.accepts (arc_value work.now) items.old.items }
-    requires room { vec_len out.old + vec_len items.old ≤ vec_capacity out.old }
-    ensures out { out.new.items ≡ out.old.items ++ answers W.answer (arc_value work.now) items.old.items }
-    ensures items { items.new.items ≡ [] }
-    ensures kept { vec_capacity items.new ≡ vec_capacity items.old }
-    ensures capacity { vec_capacity out.old ≤ vec_capacity out.new }
-{
-    let of = desks.len().saturating_add(1);
-    post_all(rt, desks, work, 1, of, items);
-    bell.ring(round);
-    gate.enter(rt, 0, of);
-    work_alone(&**work, items, out);
-    collect_all(rt, gate, desks, round, out);
-}
-
 /// The value, once nobody else has it.
-fn sole<R: Wait, W>(rt: &R, shared: Arc<W, Global>) -> W
+pub fn sole<R: Wait, W>(rt: &R, shared: Arc<W, Global>) -> W
     ensures { result ≡ arc_value shared }
 {
     let mut shared = shared;
@@ -208,11 +57,40 @@ where
     W::Out: Drop,
 {
     /// Takes the items out of their list, which keeps its memory, and adds the work's answers at them, in their order, to `out`, which has
-    /// room for them. Gives the work back.
+    /// room for them.
     ///
-    /// The items fall into consecutive pieces, one for the caller and for each worker, or fewer where there are too few items for so many;
-    /// each enters the gate first. A map of one piece stays on the calling thread. Where memory is wanting for a piece, the caller works
-    /// it: the map is never refused.
+    /// The items fall into consecutive pieces, one for the caller and for each worker, or fewer where there are too few items for so many.
+    /// Each is worked by whoever is free and enters the gate first; the caller works those that no worker has begun when it is done with its
+    /// own. A map of one piece stays on the calling thread. Lists that go with the pieces are kept from map to map, and grow where a piece has
+    /// more items than any before. Where memory is wanting for a piece, the caller works it: the map is never refused.
+    pub fn map_with<R: Wait>(
+        &mut self,
+        rt: &R,
+        work: &Arc<W, Global>,
+        items: &mut Vec<W::Item>,
+        out: &mut Vec<W::Out>,
+    )
+        requires accepted { AreAccepted W.accepts (arc_value work.now) items.old.items }
+        requires room { vec_len out.old + vec_len items.old ≤ vec_capacity out.old }
+        ensures answers { out.new.items ≡ out.old.items ++ answers W.answer (arc_value work.now) items.old.items }
+        ensures items { items.new.items ≡ [] }
+        ensures kept { vec_capacity items.new ≡ vec_capacity items.old }
+        ensures capacity { vec_capacity out.old ≤ vec_capacity out.new }
+    {
+        let pieces = items.len() / self.least.max(1);
+        let workers = self.desks.len().min(pieces.saturating_sub(1));
+        if workers == 0 {
+            map_alone(rt, self.gate, &**work, items, out);
+            return;
+        }
+        self.round = next_round(self.round);
+        let (desks, _) = self.desks.as_mut_slice().split_at_mut(workers);
+        map_shared(
+            rt, self.gate, &self.bell, self.round, desks, work, items, out,
+        );
+    }
+
+    /// The same by work that it takes and gives back.
     pub fn map<R: Wait>(
         &mut self,
         rt: &R,
@@ -228,27 +106,13 @@ where
         ensures capacity { vec_capacity out.old ≤ vec_capacity out.new }
         ensures work { result ≡ work }
     {
-        let pieces = items.len() / self.least.max(1);
-        let workers = self.desks.len().min(pieces.saturating_sub(1));
-        if workers == 0 {
-            if !items.is_empty() {
-                self.gate.enter(rt, 0, 1);
-            }
-            work_alone(&work, items, out);
-            return work;
-        }
         match Arc::new(self.alloc, work) {
             Err(failed) => {
-                self.gate.enter(rt, 0, 1);
-                work_alone(&failed.value, items, out);
+                map_alone(rt, self.gate, &failed.value, items, out);
                 failed.value
             }
             Ok(shared) => {
-                self.round = next_round(self.round);
-                let (desks, _) = self.desks.as_mut_slice().split_at_mut(workers);
-                map_shared(
-                    rt, self.gate, &self.bell, self.round, desks, &shared, items, out,
-                );
+                self.map_with(rt, &shared, items, out);
                 sole(rt, shared)
             }
         }
@@ -272,33 +136,32 @@ where
     }
 }
 
-/// Starts the workers of a crew. At a refusal some of them run.
+/// Starts the workers. At a refusal some of them run.
 fn hire_all<'s, E, R: Threads + Wait + Sync, G: Gate + Sync, W: Work + Drop + Send + Sync + 's>(
-    crew: &mut Crew<'s, G, W>,
     scope: &Scope<'s, E>,
     rt: &'s R,
-    workers: usize,
-    room: usize,
+    gate: &'s G,
+    workers: Vec<Worker<W>>,
+    threads: &mut Vec<JoinHandle<()>>,
 ) -> Result<(), Refusal>
 where
     W::Item: Drop + Send + 's,
     W::Out: Drop + Send + 's,
-    ensures { IfErr result IsStartRefusal }
+    requires room { vec_len threads.old + vec_len workers ≤ vec_capacity threads.old }
+    ensures refused { IfErr result (λ e. e ≡ NoThread) }
 {
-    crew.desks.reserve(workers)?;
-    crew.threads.reserve(workers)?;
-    for _ in 1..workers {
-        let (desk, thread) = hire(scope, rt, crew.alloc, crew.gate, &crew.bell, room)?;
-        if crew.threads.push(thread).is_err() || crew.desks.push(desk).is_err() {
-            return Err(Refusal::NoMemory);
+    for worker in workers {
+        match scope.spawn(move || { worker.serve(rt, gate) }) {
+            Ok(thread) => threads.push_reserved(thread),
+            Err(_) => return Err(Refusal::NoThread),
         }
     }
     Ok(())
 }
 
 /// Starts a crew of the caller and `workers` - 1 threads in the scope. A piece of a map has `least` items or more, and there is room for
-/// pieces of `room` items. Refused 1 where memory is wanting and 11 where a thread can't be started: those that run are then ended and
-/// joined.
+/// pieces of `room` items. Refused 5 where `workers` isn't from 1 to 64, 1 where memory is wanting, both before any thread is started, and 11
+/// where a thread can't be started: those that run are then ended and joined.
 pub fn start<'s, E, R: Threads + Wait + Sync, G: Gate + Sync, W: Work + Drop + Send + Sync + 's>(
     scope: &Scope<'s, E>,
     rt: &'s R,
@@ -311,21 +174,25 @@ pub fn start<'s, E, R: Threads + Wait + Sync, G: Gate + Sync, W: Work + Drop + S
 where
     W::Item: Drop + Send + 's,
     W::Out: Drop + Send + 's,
-    ensures { IfErr result IsStartRefusal }
+    ensures limits { OnOk result (are_workers workers ≡ true) }
+    ensures refused { IfErr result (MayRefuseStart workers) }
 {
-    let Ok(bell) = Arc::new(alloc, Bell::new()) else {
-        return Err(Refusal::NoMemory);
-    };
+    if workers == 0 || workers > MOST_WORKERS {
+        return Err(Refusal::OutOfRange);
+    }
+    let bell = Arc::new(alloc, Bell::new())?;
+    let (desks, hired) = furnish_all(alloc, &bell, workers - 1, room)?;
+    let threads = Vec::with_capacity(alloc, hired.len())?;
     let mut crew = Crew {
         alloc,
         gate,
         least,
         bell,
         round: 0,
-        desks: Vec::new(alloc),
-        threads: Vec::new(alloc),
+        desks,
+        threads,
     };
-    match hire_all(&mut crew, scope, rt, workers, room) {
+    match hire_all(scope, rt, gate, hired, &mut crew.threads) {
         Ok(()) => Ok(crew),
         Err(refused) => {
             crew.end(rt);

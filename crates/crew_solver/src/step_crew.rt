@@ -3,7 +3,7 @@
 ghost use Rattle.std.specs.Prelude.{◌≡◌, IfErr, IfOk, OnErr, OnOk};
 ghost use Rattle.colour_solver.specs.ColourRows.{all_rows};
 ghost use Rattle.colour_solver.specs.ConstraintVisits.{AreRowsBelow};
-ghost use Rattle.crew.specs.Refusals.{IsStartRefusal};
+ghost use Rattle.crew.specs.Refusals.{MayRefuseStart};
 ghost use Rattle.crew_solver.specs.Visited.{coloured};
 
 use crate::cutting::cut_rows;
@@ -33,8 +33,8 @@ pub struct StepCrew<'s, R, G: Gate> {
 }
 
 impl<'s, R: Threads + Wait + Sync, G: Gate + Sync> StepCrew<'s, R, G> {
-    /// Starts so many workers, but for the calling thread. Refused 1 where memory is wanting and 11 where a thread can't be started: those
-    /// that run are then ended and joined.
+    /// Starts so many workers, but for the calling thread. Refused 5 where they aren't 1 to 64, 1 where memory is wanting, and 11 where a thread
+    /// can't be started: those that run are then ended and joined.
     pub fn start<E>(
         scope: &Scope<'s, E>,
         rt: &'s R,
@@ -42,7 +42,7 @@ impl<'s, R: Threads + Wait + Sync, G: Gate + Sync> StepCrew<'s, R, G> {
         gate: &'s G,
         workers: usize,
     ) -> Result<StepCrew<'s, R, G>, Refusal>
-        ensures { IfErr result IsStartRefusal }
+        ensures { IfErr result (MayRefuseStart workers) }
     {
         let crew = start(scope, rt, alloc, gate, workers, 1, 1)?;
         Ok(StepCrew {

@@ -1,4 +1,4 @@
--- A batch of commands, and its answers.
+-- Trusted: A batch of commands, and its answers.
 use Rattle.std.specs.Prelude.{◌≡◌, ℕ, ◌+◌, ◌-◌, ◌==◌, ◌⊎◌, ◌||◌, if◌then◌else◌, nat_lt, List, [], ◌∷◌, slice_range, length, Option, Some, None, Result, Ok, Err}
 use Rattle.plain_world.specs.declared.body.BodyDef.{BodyDef}
 use Rattle.dillmonth.specs.Calls.{IsAnswered}
@@ -7,6 +7,7 @@ use Rattle.dillmonth.specs.declared.forms.CAnswer.{CAnswer}
 use Rattle.dillmonth.specs.declared.forms.CCommand.{CCommand}
 use Rattle.dillmonth.specs.declared.forms.CShape.{CShape}
 use Rattle.dillmonth.specs.declared.statuses.TheConstants.{BAD_KIND, BAD_SPAN}
+use Rattle.world_desk.specs.declared.desk.Desk.{Desk}
 use Rattle.world_rules.specs.World.{World}
 use Rattle.world_rules.specs.declared.command.Command.{Command}
 use Rattle.world_rules.specs.declared.command.Command.TheVariants.{CreateBody, DestroyBody, CreateJoint, DestroyJoint, Push, PushAt, SetPose, SetVelocity, SetGravity, Disable, Enable, Wake, Sleep, Step}
@@ -66,8 +67,9 @@ Ran shapes [] (a ∷ answers) old new = ⊥
 Ran shapes (c ∷ commands) [] old new = ⊥
 Ran shapes (c ∷ commands) (a ∷ answers) old new = (mid : World) × IsAnsweredAs (command_said shapes c) old a mid × Ran shapes commands answers mid new
 
-abbrev pub RanAll : List CShape → List CCommand → List CAnswer → Option World → Option World → Type 0
+-- the same where there may be no world; all that lies on the desk stays
+abbrev pub RanAll : List CShape → List CCommand → List CAnswer → Option Desk → Option Desk → Type 0
 RanAll shapes commands answers None None = (commands ≡ []) × (answers ≡ [])
 RanAll shapes commands answers None (Some new) = ⊥
 RanAll shapes commands answers (Some old) None = ⊥
-RanAll shapes commands answers (Some old) (Some new) = Ran shapes commands answers old new
+RanAll shapes commands answers (Some old) (Some new) = Ran shapes commands answers old.world new.world × (new ≡ record old { world = new.world })

@@ -1,4 +1,4 @@
--- What a call does to the world that a caller holds.
+-- Trusted: What a call does to the desk that a caller holds.
 use Rattle.std.specs.Prelude.{◌≡◌, ℕ, ◌==◌, ◌⊎◌, cond, List, [], Option, Some, None, option_map, Result, Ok, Err}
 use Rattle.fixed_geom.specs.declared.refusal.Refusal.{Refusal}
 use Rattle.fixed_geom.specs.declared.refusal.Refusal.TheVariants.{NoMemory}
@@ -19,36 +19,31 @@ use Rattle.world_rules.specs.declared.command.Command.{Command}
 use Rattle.world_rules.specs.declared.command.Command.TheVariants.{CreateBody}
 use Rattle.world_rules.specs.declared.command.Reply.{Reply}
 
--- the world that a caller holds
-abbrev pub world_in : Option Desk → Option World
-world_in None = None
-world_in (Some desk) = Some desk.world
-
 -- one command, by the rules of the world: what is answered is the outcome in numbers
 abbrev pub IsAnswered : Command → World → CAnswer → World → Type 0
 IsAnswered c old answer new = (outcome : Result Reply Refusal) × (answer ≡ answer_said outcome) × Answers (apply old.plain c) old outcome new
 
--- the same where there may be no world
-abbrev pub Does : Command → Option World → CAnswer → Option World → Type 0
+-- the same where there may be no world; all that lies on the desk stays
+abbrev pub Does : Command → Option Desk → CAnswer → Option Desk → Type 0
 Does c None answer None = answer ≡ bare NO_WORLD
 Does c None answer (Some new) = ⊥
 Does c (Some old) answer None = ⊥
-Does c (Some old) answer (Some new) = IsAnswered c old answer new
+Does c (Some old) answer (Some new) = IsAnswered c old.world answer new.world × (new ≡ record old { world = new.world })
 
 -- a command of which the caller learns the status
-abbrev pub DoesAs : Command → Option World → ℕ → Option World → Type 0
+abbrev pub DoesAs : Command → Option Desk → ℕ → Option Desk → Type 0
 DoesAs c old status new = (answer : CAnswer) × (status ≡ answer.status) × Does c old answer new
 
 -- a command that makes something, whose id is written where it is done
-abbrev pub Makes : Command → Option World → ℕ → CHandle → CHandle → Option World → Type 0
+abbrev pub Makes : Command → Option Desk → ℕ → CHandle → CHandle → Option Desk → Type 0
 Makes c old status before after new = (answer : CAnswer) × (status ≡ answer.status) × (after ≡ cond (answer.status == 0) answer.made before) × Does c old answer new
 
 -- a step, whose number is written where it is done
-abbrev pub Steps : Command → Option World → ℕ → ℕ → ℕ → Option World → Type 0
+abbrev pub Steps : Command → Option Desk → ℕ → ℕ → ℕ → Option Desk → Type 0
 Steps c old status before after new = (answer : CAnswer) × (status ≡ answer.status) × (after ≡ cond (answer.status == 0) answer.step before) × Does c old answer new
 
 -- a body is made of what was said; or its kind or the form of a shape is none, or memory is wanting for its shapes, and nothing has changed
-abbrev pub Creates : Option BodyDef → Option World → ℕ → CHandle → CHandle → Option World → Type 0
+abbrev pub Creates : Option BodyDef → Option Desk → ℕ → CHandle → CHandle → Option Desk → Type 0
 Creates None old status before after new = ((status ≡ BAD_KIND) ⊎ (status ≡ 1)) × (after ≡ before) × (new ≡ old)
 Creates (Some def) old status before after new = Makes (CreateBody def) old status before after new ⊎ ((status ≡ 1) × (after ≡ before) × (new ≡ old))
 
@@ -59,6 +54,6 @@ abbrev pub IsSeen : Option BodyView → CHandle → ℕ → CView → CView → 
 IsSeen None h status before after = (status ≡ 2) × (after ≡ before)
 IsSeen (Some view) h status before after = (status ≡ 0) × (after ≡ view_shown h view)
 
-abbrev pub IsSeenIn : CHandle → Option World → ℕ → CView → CView → Type 0
+abbrev pub IsSeenIn : CHandle → Option Desk → ℕ → CView → CView → Type 0
 IsSeenIn h None status before after = (status ≡ NO_WORLD) × (after ≡ before)
-IsSeenIn h (Some w) status before after = IsSeen (option_map view_of (body_named w.plain (handle_said h))) h status before after
+IsSeenIn h (Some desk) status before after = IsSeen (option_map view_of (body_named desk.world.plain (handle_said h))) h status before after

@@ -1,4 +1,4 @@
--- Values as C has them, and what they are for a world.
+-- Trusted: Values as C has them, and what they are for a world.
 use Rattle.std.specs.Prelude.{◌≡◌, ℕ, ◌==◌, ◌⊎◌, Bool, not, cond, if◌then◌else◌, List, [], ◌∷◌, ◌++◌, map, Option, Some, None, option_map, Result, Ok, Err, ℤ, pos}
 use Rattle.fixed_geom.specs.declared.boxes.Box2.{Box2}
 use Rattle.fixed_geom.specs.declared.facings.Rot.{Rot}

@@ -1,4 +1,4 @@
--- A world's life.
+-- Trusted: A world's life.
 use Rattle.std.specs.Prelude.{◌≡◌, ℕ, ◌⊎◌, List, [], Option, Some, None, Result, Ok, Err, length, string_bytes}
 use Rattle.fixed_geom.specs.declared.refusal.Refusal.{Refusal}
 use Rattle.fixed_geom.specs.declared.refusal.Refusal.TheVariants.{NoMemory}
@@ -8,7 +8,9 @@ use Rattle.dillmonth.specs.Statuses.{status_of, unread_status}
 use Rattle.dillmonth.specs.declared.statuses.TheConstants.{NO_WORLD}
 use Rattle.impulse_ledger.specs.Sums.{totals_of}
 use Rattle.world_core.specs.Frames.{with_ledger_settled}
-use Rattle.world_desk.specs.Texts.{IsLoaded, IsText, IsUnread}
+use Rattle.saved_text.specs.Texts.{IsTextOf}
+use Rattle.world_desk.specs.Clear.{IsClear}
+use Rattle.world_desk.specs.Texts.{IsLoaded, IsUnread}
 use Rattle.world_desk.specs.declared.desk.Desk.{Desk}
 use Rattle.world_desk.specs.declared.unread.Unread.{Unread}
 use Rattle.world_digest.specs.Digests.{digest_of}
@@ -22,13 +24,13 @@ IsHeld desk old status new = ((status ≡ 0) × (new ≡ Some desk)) ⊎ ((statu
 
 -- an empty world, or why there is none
 abbrev pub IsOpened : Vec2 → Result Desk Refusal → Type 0
-IsOpened gravity (Ok desk) = (gravity_refusal gravity ≡ None) × (desk.world ≡ empty_world gravity)
+IsOpened gravity (Ok desk) = (gravity_refusal gravity ≡ None) × (desk.world ≡ empty_world gravity) × IsClear desk
 IsOpened gravity (Err e) = (gravity_refusal gravity ≡ Some e) ⊎ ((gravity_refusal gravity ≡ None) × (e ≡ NoMemory))
 
--- the caller holds a desk whose world is so, and 0 is answered
+-- the caller holds a desk whose world is so and on which nothing lies yet, and 0 is answered
 abbrev pub NowHolds : (World → Type 0) → ℕ → Option Desk → Type 0
 NowHolds is status None = ⊥
-NowHolds is status (Some desk) = (status ≡ 0) × is desk.world
+NowHolds is status (Some desk) = (status ≡ 0) × is desk.world × IsClear desk
 
 -- an empty world; or what was held stays, and it is said why: the gravity is beyond its limit, or memory was wanting
 abbrev pub Opens : Vec2 → Option Desk → ℕ → Option Desk → Type 0
@@ -50,10 +52,10 @@ abbrev pub saved_in : Option Desk → List ℕ
 saved_in None = []
 saved_in (Some desk) = string_bytes desk.saved
 
--- the text of the world's value is kept, its bytes are counted, and the world is as it was; or memory was wanting, and nothing has changed
+-- the text that is printed of the world's value is kept, its bytes are counted, and all else is as it was; or memory was wanting, and nothing has changed
 abbrev pub SavesAt : Desk → ℕ → ℕ → ℕ → Desk → Type 0
 SavesAt old status before after new =
-    ((status ≡ 0) × (new.world ≡ old.world) × (after ≡ length (string_bytes new.saved)) × IsText (value_of old.world.plain (totals_of (book_of old.world))) (string_bytes new.saved))
+    ((status ≡ 0) × (new ≡ record old { saved = new.saved }) × (after ≡ length (string_bytes new.saved)) × IsTextOf (value_of old.world.plain (totals_of (book_of old.world))) (string_bytes new.saved))
     ⊎ ((status ≡ 1) × (after ≡ before) × (new ≡ old))
 
 abbrev pub Saves : Option Desk → ℕ → ℕ → ℕ → Option Desk → Type 0
@@ -65,9 +67,12 @@ Saves (Some old) status before after (Some new) = SavesAt old status before afte
 abbrev pub IsUnreadAs : List ℕ → ℕ → ℕ → Type 0
 IsUnreadAs text status clause = (why : Unread) × (status ≡ (unread_status why).status) × (clause ≡ (unread_status why).clause) × IsUnread text why
 
--- the world that the text saves; or what was held stays, and it is said why
+-- the world that the text saves; or what was held stays, and it is said why: memory was wanting for the desk, or there is no world in the text.
+-- The clause is 0 where none is broken
 abbrev pub Loads : List ℕ → Option Desk → ℕ → ℕ → Option Desk → Type 0
-Loads text old status clause new = NowHolds (λ w. IsLoaded text w) status new ⊎ ((new ≡ old) × ((status ≡ 1) ⊎ IsUnreadAs text status clause))
+Loads text old status clause new =
+    (NowHolds (λ w. IsLoaded text w) status new × (clause ≡ 0))
+    ⊎ ((new ≡ old) × (((status ≡ 1) × (clause ≡ 0)) ⊎ IsUnreadAs text status clause))
 
 -- the digest is written; or memory was wanting, or there is no world, and nothing is written
 abbrev pub Digests : Option Desk → ℕ → List ℕ → List ℕ → Type 0

@@ -6,3 +6,4 @@ pub mod Calls
 pub mod Keeping
 pub mod Questions
 pub mod Batch
+pub mod Getters

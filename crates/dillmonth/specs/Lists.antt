@@ -1,4 +1,4 @@
--- Lists that are written into a caller's array.
+-- Trusted: Lists that are written into a caller's array.
 use Rattle.std.specs.Prelude.{ℕ, zero, suc, ◌++◌, ◌/◌, ◌%◌, ◌^◌, Bool, true, cond, List, [], ◌∷◌, length, map, Option, Some, None, ℤ, pos}
 use Rattle.std.specs.Int.{cast_signed, cast_unsigned, w64, w128}
 use Rattle.body_handles.specs.SlotEntries.{generation_at}

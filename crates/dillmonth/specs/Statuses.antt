@@ -1,4 +1,4 @@
--- The numbers that calls answer.
+-- Trusted: The numbers that calls answer.
 use Rattle.std.specs.Prelude.{ℕ}
 use Rattle.fixed_geom.specs.Refusals.{number_of}
 use Rattle.fixed_geom.specs.declared.refusal.Refusal.{Refusal}

@@ -2,7 +2,6 @@
 
 ghost use Rattle.std.specs.Prelude.{◌≡◌, IfErr, IfOk, IfSome, None, Ok, drop, length, min, option_map, take};
 ghost use Rattle.dillmonth.specs.Batch.{IsAnsweredAs, IsUnsaid, Ran, RanAll, command_said, creation_said, plain_said, span_of};
-ghost use Rattle.dillmonth.specs.Calls.{world_in};
 
 use crate::commands::{answer_to, bare};
 use crate::forms::{
@@ -118,7 +117,7 @@ pub extern "C" fn dm_apply_all(
     shapes: &[CShape],
     answers: &mut [CAnswer],
 ) -> usize
-    ensures ran { RanAll shapes.now (take result commands.now) (take result answers.new) (world_in world.old.desk) (world_in world.new.desk) }
+    ensures ran { RanAll shapes.now (take result commands.now) (take result answers.new) world.old.desk world.new.desk }
     ensures rest { drop result answers.new ≡ drop result answers.old }
     ensures none { world.old.desk ≡ None → result ≡ 0 }
     ensures all { IfSome world.old.desk (λ _. result ≡ min (length commands.now) (length answers.old)) }

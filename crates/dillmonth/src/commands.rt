@@ -1,7 +1,7 @@
 //! The commands, one call each.
 
 ghost use Rattle.std.specs.Prelude.{◌≡◌, ◌==◌, cond};
-ghost use Rattle.dillmonth.specs.Calls.{Creates, Does, DoesAs, IsAnswered, Makes, Steps, world_in};
+ghost use Rattle.dillmonth.specs.Calls.{Creates, Does, DoesAs, IsAnswered, Makes, Steps};
 ghost use Rattle.dillmonth.specs.Forms.{answer_said, bare, course_said, def_said, handle_said, joint_said, pose_said, vector_said};
 
 use crate::forms::{
@@ -73,9 +73,9 @@ pub(crate) fn answer_to(world: &mut WorldCore, command: Command) -> CAnswer
     answer_of(world.apply(&command))
 }
 
-/// Applies a command to the world that a caller holds.
+/// Applies a command to the world that a caller holds. What lies beside the world stays.
 fn do_one(alloc: Global, world: &mut CWorld, command: Command) -> CAnswer
-    ensures { Does command (world_in world.old.desk) result (world_in world.new.desk) }
+    ensures { Does command world.old.desk result world.new.desk }
 {
     match take(alloc, world) {
         None => bare(NO_WORLD),
@@ -115,7 +115,7 @@ pub extern "C" fn dm_create_body(
     shapes: &[CShape],
     made: &mut CHandle,
 ) -> u32
-    ensures { Creates (def_said def.now shapes.now) (world_in world.old.desk) result made.old made.new (world_in world.new.desk) }
+    ensures { Creates (def_said def.now shapes.now) world.old.desk result made.old made.new world.new.desk }
 {
     match def_of(alloc, def, shapes) {
         Err(status) => status,
@@ -130,7 +130,7 @@ pub extern "C" fn dm_create_body(
 /// Takes a body away with its joints.
 #[unsafe(no_mangle)]
 pub extern "C" fn dm_destroy_body(alloc: Global, world: &mut CWorld, body: CHandle) -> u32
-    ensures { DoesAs (Command.DestroyBody (handle_said body)) (world_in world.old.desk) result (world_in world.new.desk) }
+    ensures { DoesAs (Command.DestroyBody (handle_said body)) world.old.desk result world.new.desk }
 {
     do_one(alloc, world, Command::DestroyBody(handle_of(body))).status
 }
@@ -143,7 +143,7 @@ pub extern "C" fn dm_create_joint(
     def: &CJointDef,
     made: &mut CHandle,
 ) -> u32
-    ensures { Makes (Command.CreateJoint (joint_said def.now)) (world_in world.old.desk) result made.old made.new (world_in world.new.desk) }
+    ensures { Makes (Command.CreateJoint (joint_said def.now)) world.old.desk result made.old made.new world.new.desk }
 {
     let answer = do_one(alloc, world, Command::CreateJoint(joint_of(def)));
     write_made(&answer, made);
@@ -153,7 +153,7 @@ pub extern "C" fn dm_create_joint(
 /// Takes a joint away.
 #[unsafe(no_mangle)]
 pub extern "C" fn dm_destroy_joint(alloc: Global, world: &mut CWorld, joint: CHandle) -> u32
-    ensures { DoesAs (Command.DestroyJoint (handle_said joint)) (world_in world.old.desk) result (world_in world.new.desk) }
+    ensures { DoesAs (Command.DestroyJoint (handle_said joint)) world.old.desk result world.new.desk }
 {
     do_one(alloc, world, Command::DestroyJoint(handle_of(joint))).status
 }
@@ -161,7 +161,7 @@ pub extern "C" fn dm_destroy_joint(alloc: Global, world: &mut CWorld, joint: CHa
 /// Gives a mover an impulse, in mass·u/tick.
 #[unsafe(no_mangle)]
 pub extern "C" fn dm_push(alloc: Global, world: &mut CWorld, body: CHandle, by: CVector) -> u32
-    ensures { DoesAs (Command.Push (handle_said body) (vector_said by)) (world_in world.old.desk) result (world_in world.new.desk) }
+    ensures { DoesAs (Command.Push (handle_said body) (vector_said by)) world.old.desk result world.new.desk }
 {
     do_one(alloc, world, Command::Push(handle_of(body), vector_of(by))).status
 }
@@ -175,7 +175,7 @@ pub extern "C" fn dm_push_at(
     by: CVector,
     offset: CVector,
 ) -> u32
-    ensures { DoesAs (Command.PushAt (handle_said body) (vector_said by) (vector_said offset)) (world_in world.old.desk) result (world_in world.new.desk) }
+    ensures { DoesAs (Command.PushAt (handle_said body) (vector_said by) (vector_said offset)) world.old.desk result world.new.desk }
 {
     let command = Command::PushAt(handle_of(body), vector_of(by), vector_of(offset));
     do_one(alloc, world, command).status
@@ -190,7 +190,7 @@ pub extern "C" fn dm_set_pose(
     at: CVector,
     facing: CFacing,
 ) -> u32
-    ensures { DoesAs (Command.SetPose (handle_said body) (pose_said at facing)) (world_in world.old.desk) result (world_in world.new.desk) }
+    ensures { DoesAs (Command.SetPose (handle_said body) (pose_said at facing)) world.old.desk result world.new.desk }
 {
     do_one(
         alloc,
@@ -209,7 +209,7 @@ pub extern "C" fn dm_set_velocity(
     velocity: CVector,
     spin: i64,
 ) -> u32
-    ensures { DoesAs (Command.SetVelocity (handle_said body) (course_said velocity spin)) (world_in world.old.desk) result (world_in world.new.desk) }
+    ensures { DoesAs (Command.SetVelocity (handle_said body) (course_said velocity spin)) world.old.desk result world.new.desk }
 {
     let command = Command::SetVelocity(handle_of(body), course_of(velocity, spin));
     do_one(alloc, world, command).status
@@ -218,7 +218,7 @@ pub extern "C" fn dm_set_velocity(
 /// Sets the gravity, in u/tick².
 #[unsafe(no_mangle)]
 pub extern "C" fn dm_set_gravity(alloc: Global, world: &mut CWorld, gravity: CVector) -> u32
-    ensures { DoesAs (Command.SetGravity (vector_said gravity)) (world_in world.old.desk) result (world_in world.new.desk) }
+    ensures { DoesAs (Command.SetGravity (vector_said gravity)) world.old.desk result world.new.desk }
 {
     do_one(alloc, world, Command::SetGravity(vector_of(gravity))).status
 }
@@ -226,7 +226,7 @@ pub extern "C" fn dm_set_gravity(alloc: Global, world: &mut CWorld, gravity: CVe
 /// Takes a body out of the play.
 #[unsafe(no_mangle)]
 pub extern "C" fn dm_disable(alloc: Global, world: &mut CWorld, body: CHandle) -> u32
-    ensures { DoesAs (Command.Disable (handle_said body)) (world_in world.old.desk) result (world_in world.new.desk) }
+    ensures { DoesAs (Command.Disable (handle_said body)) world.old.desk result world.new.desk }
 {
     do_one(alloc, world, Command::Disable(handle_of(body))).status
 }
@@ -234,7 +234,7 @@ pub extern "C" fn dm_disable(alloc: Global, world: &mut CWorld, body: CHandle) -
 /// Lets a body take part again.
 #[unsafe(no_mangle)]
 pub extern "C" fn dm_enable(alloc: Global, world: &mut CWorld, body: CHandle) -> u32
-    ensures { DoesAs (Command.Enable (handle_said body)) (world_in world.old.desk) result (world_in world.new.desk) }
+    ensures { DoesAs (Command.Enable (handle_said body)) world.old.desk result world.new.desk }
 {
     do_one(alloc, world, Command::Enable(handle_of(body))).status
 }
@@ -242,7 +242,7 @@ pub extern "C" fn dm_enable(alloc: Global, world: &mut CWorld, body: CHandle) ->
 /// Wakes the island of a mover.
 #[unsafe(no_mangle)]
 pub extern "C" fn dm_wake(alloc: Global, world: &mut CWorld, body: CHandle) -> u32
-    ensures { DoesAs (Command.Wake (handle_said body)) (world_in world.old.desk) result (world_in world.new.desk) }
+    ensures { DoesAs (Command.Wake (handle_said body)) world.old.desk result world.new.desk }
 {
     do_one(alloc, world, Command::Wake(handle_of(body))).status
 }
@@ -250,7 +250,7 @@ pub extern "C" fn dm_wake(alloc: Global, world: &mut CWorld, body: CHandle) -> u
 /// Puts the island of a mover to rest.
 #[unsafe(no_mangle)]
 pub extern "C" fn dm_sleep(alloc: Global, world: &mut CWorld, body: CHandle) -> u32
-    ensures { DoesAs (Command.Sleep (handle_said body)) (world_in world.old.desk) result (world_in world.new.desk) }
+    ensures { DoesAs (Command.Sleep (handle_said body)) world.old.desk result world.new.desk }
 {
     do_one(alloc, world, Command::Sleep(handle_of(body))).status
 }
@@ -258,7 +258,7 @@ pub extern "C" fn dm_sleep(alloc: Global, world: &mut CWorld, body: CHandle) -> 
 /// Lets 1 to 8 ticks pass; the number of the step is written where it is done.
 #[unsafe(no_mangle)]
 pub extern "C" fn dm_step(alloc: Global, world: &mut CWorld, ticks: i64, step: &mut u64) -> u32
-    ensures { Steps (Command.Step ticks) (world_in world.old.desk) result step.old step.new (world_in world.new.desk) }
+    ensures { Steps (Command.Step ticks) world.old.desk result step.old step.new world.new.desk }
 {
     let answer = do_one(alloc, world, Command::Step(ticks));
     write_step(&answer, step);

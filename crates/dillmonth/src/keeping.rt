@@ -14,15 +14,12 @@ use std::alloc::Global;
 use world_core::WorldCore;
 use world_desk::Desk;
 
-/// The version of the calls and of the structs: what `DM_VERSION` of the header is.
-pub(crate) const VERSION: u32 = 1;
-
-/// The version of the library, to be compared with the header's.
+/// The version of the calls and of the structs, to be compared with `DM_VERSION` of the header.
 #[unsafe(no_mangle)]
 pub extern "C" fn dm_version() -> u32
-    ensures { result ≡ VERSION }
+    ensures { result ≡ 1 }
 {
-    VERSION
+    1
 }
 
 /// Puts a new desk in the place of what is held; 1 where memory is wanting.
@@ -47,7 +44,7 @@ fn open(alloc: Global, gravity: CVector) -> Result<Desk, Refusal>
 }
 
 /// An empty world with this gravity, in u/tick². Refused 5 where a component is beyond 2^16 in size, else 1 where memory is wanting, and what
-/// was held before stays; else it is dropped.
+/// was held before stays; else it is dropped, with all that was saved, found and listed.
 #[unsafe(no_mangle)]
 pub extern "C" fn dm_open(alloc: Global, world: &mut CWorld, gravity: CVector) -> u32
     ensures { Opens (vector_said gravity) world.old.desk result world.new.desk }
@@ -66,7 +63,8 @@ pub extern "C" fn dm_close(alloc: Global, world: &mut CWorld)
     *world = CWorld::none(alloc);
 }
 
-/// A world of its own that is as this one. Refused 1 where memory is wanting, and then `to` is as it was.
+/// A world of its own that is as this one; nothing was saved, found or listed in it yet. Refused 1 where memory is wanting, and then `to` is as
+/// it was.
 #[unsafe(no_mangle)]
 pub extern "C" fn dm_copy(alloc: Global, from: &mut CWorld, to: &mut CWorld) -> u32
     ensures kept { from.new.desk ≡ from.old.desk }
@@ -114,7 +112,8 @@ fn save(alloc: Global, desk: &mut Desk, bytes: &mut usize) -> u32
     }
 }
 
-/// Saves the world, and keeps the text, whose bytes are counted. Refused 1 where memory is wanting.
+/// Saves the world, and keeps the text, whose bytes are counted, in place of the one before. What was found and listed stays. Refused 1 where
+/// memory is wanting.
 #[unsafe(no_mangle)]
 pub extern "C" fn dm_save(alloc: Global, world: &mut CWorld, bytes: &mut usize) -> u32
     ensures { Saves world.old.desk result bytes.old bytes.new world.new.desk }
@@ -154,8 +153,9 @@ pub extern "C" fn dm_saved(alloc: Global, world: &mut CWorld, out: &mut [u8]) ->
     }
 }
 
-/// The world of a saved text. Refused 35 where there is no JSON in the bytes, 12 where a clause of the format is broken, whose number is then
-/// written into `clause`, 1 where memory is wanting; what was held before then stays.
+/// The world of a saved text; nothing was saved, found or listed in it yet. Refused 35 where there is no JSON in the bytes, 12 where a clause of
+/// the format is broken, 1 where memory is wanting; what was held before then stays. `clause` is written always: where 12 is answered the number
+/// of the clause, else 0.
 #[unsafe(no_mangle)]
 pub extern "C" fn dm_load(alloc: Global, world: &mut CWorld, text: &[u8], clause: &mut u32) -> u32
     ensures { Loads text.now world.old.desk result clause.new world.new.desk }

@@ -8,6 +8,8 @@
 mod batch;
 mod commands;
 mod forms;
+mod getter_forms;
+mod getters;
 mod held;
 mod keeping;
 mod questions;
@@ -15,6 +17,7 @@ mod raw_box;
 mod reading;
 mod shown;
 mod statuses;
+mod tallies;
 
 pub use batch::dm_apply_all;
 pub use commands::{
@@ -25,11 +28,20 @@ pub use forms::{
     CAnswer, CBodyDef, CBox, CCommand, CContact, CFacing, CHandle, CJointDef, CPair, CPose, CShape,
     CShapeId, CVector, CView,
 };
+pub use getter_forms::{CBodyInfo, CCounts, CJointView, CSum};
+pub use getters::{
+    dm_body_in, dm_contacts_of, dm_info, dm_joint, dm_joint_in, dm_joints, dm_joints_of, dm_shapes,
+};
 pub use held::CWorld;
 pub use keeping::{
     dm_close, dm_copy, dm_digest, dm_load, dm_open, dm_save, dm_saved, dm_settle, dm_version,
 };
-pub use questions::{CHit, dm_contacts, dm_contacts_listed, dm_ray, dm_region, dm_region_found};
+pub use questions::{
+    CFilter, CHit, dm_contacts, dm_contacts_listed, dm_hits_found, dm_ray, dm_ray_all,
+    dm_ray_through, dm_region, dm_region_found, dm_region_through,
+};
 pub use reading::{
     dm_begun, dm_body, dm_ended, dm_gravity, dm_moved, dm_poses, dm_slept, dm_steps, dm_woke,
 };
+pub use statuses::statuses_in_digits;
+pub use tallies::{dm_count, dm_rules, dm_total, dm_total_of};

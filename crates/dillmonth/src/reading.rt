@@ -2,43 +2,19 @@
 
 ghost use Rattle.std.specs.Prelude.{◌≡◌, ◌+◌, ◌<◌, ◌/◌, ◌%◌, ◌^◌, false, length, map, true};
 ghost use Rattle.std.specs.Int.{cast_signed, cast_unsigned, w64, w128};
-ghost use Rattle.dillmonth.specs.Calls.{IsSeen, IsSeenIn, world_in};
+ghost use Rattle.dillmonth.specs.Calls.{IsSeen, IsSeenIn};
 ghost use Rattle.dillmonth.specs.Forms.{handle_shown, pair_shown};
-ghost use Rattle.dillmonth.specs.Lists.{events_in, gravity_in, is_asked, island_number, list_of, pose_asked, pose_shown, poses_in, poses_of, poses_up, put_at, put_list, set_number, steps_in, view_shown, written};
+ghost use Rattle.dillmonth.specs.Lists.{events_in, gravity_in, is_asked, island_number, pose_asked, pose_shown, poses_in, poses_of, poses_up, set_number, steps_in, view_shown, written};
 ghost use Rattle.plain_world.specs.Slots.{AreMatched};
 
 use crate::forms::{CFacing, CHandle, CPair, CPose, CVector, CView, handle_of, show_vector};
 use crate::held::{CWorld, put, take};
-use crate::shown::write_all;
+use crate::shown::{write_all, write_next};
 use crate::statuses::{DONE, NO_WORLD};
 use body_handles::SlotEntry;
 use plain_world::{Body, BodyView, NO_COURSE, SetName};
 use std::alloc::Global;
 use world_core::WorldCore;
-
-/// Writes an item at a place of an array, if it has that place.
-fn write_at(out: &mut [CPose], at: usize, pose: CPose)
-    ensures { out.new ≡ put_at out.old at pose }
-{
-    if at < out.len() {
-        out[at] = pose;
-    }
-}
-
-/// Writes a pose, if there is one, at the place `count`, and tells the next place.
-fn write_next(out: &mut [CPose], count: usize, pose: Option<CPose>) -> usize
-    requires { count < 2 ^ 63 }
-    ensures count { result ≡ count + length (list_of pose) }
-    ensures written { out.new ≡ put_list out.old count (list_of pose) }
-{
-    match pose {
-        None => count,
-        Some(pose) => {
-            write_at(out, count, pose);
-            count + 1
-        }
-    }
-}
 
 /// The pose of a body.
 fn show_pose(slot: u32, generation: u32, body: &Body) -> CPose
@@ -268,14 +244,14 @@ fn island_number(set: SetName) -> u32
 }
 
 /// The lower half of a number of 128 bits.
-fn low_half(number: i128) -> u64
+pub(crate) fn low_half(number: i128) -> u64
     ensures { result ≡ cast_unsigned w128 number % 2 ^ 64 }
 {
     (number.cast_unsigned() % (1 << 64)) as u64
 }
 
 /// The upper half of a number of 128 bits, with its sign.
-fn high_half(number: i128) -> i64
+pub(crate) fn high_half(number: i128) -> i64
     ensures { result ≡ cast_signed w64 (cast_unsigned w128 number / 2 ^ 64) }
 {
     ((number.cast_unsigned() / (1 << 64)) as u64).cast_signed()
@@ -322,7 +298,7 @@ fn read_body(view: Option<BodyView>, body: CHandle, out: &mut CView) -> u32
 #[unsafe(no_mangle)]
 pub extern "C" fn dm_body(alloc: Global, world: &mut CWorld, body: CHandle, out: &mut CView) -> u32
     ensures kept { world.new.desk ≡ world.old.desk }
-    ensures seen { IsSeenIn body (world_in world.old.desk) result out.old out.new }
+    ensures seen { IsSeenIn body world.old.desk result out.old out.new }
 {
     match take(alloc, world) {
         None => NO_WORLD,

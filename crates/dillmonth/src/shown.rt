@@ -1,13 +1,16 @@
 //! Items as C has them, written into a caller's array.
 
-ghost use Rattle.std.specs.Prelude.{◌≡◌, ◌<◌, ◌+◌, [], ◌∷◌, length, map, nat_lt, slice_set, cond};
+ghost use Rattle.std.specs.Prelude.{◌≡◌, ◌<◌, ◌+◌, ◌^◌, [], ◌∷◌, length, map, nat_lt, slice_set, cond};
 ghost use Rattle.dillmonth.specs.Forms.{handle_shown, id_shown, pair_shown};
-ghost use Rattle.dillmonth.specs.Lists.{contact_shown, count_points, impulse_shown, normal_shown, offset_shown, written};
+ghost use Rattle.dillmonth.specs.Getters.{form_shown, shape_shown};
+ghost use Rattle.dillmonth.specs.Lists.{contact_shown, count_points, impulse_shown, list_of, normal_shown, offset_shown, put_at, put_list, written};
 
 use crate::forms::{
-    CContact, CHandle, CPair, CShapeId, CVector, show_handle, show_id, show_pair, show_vector,
+    CContact, CHandle, CPair, CShape, CShapeId, CVector, show_handle, show_id, show_pair,
+    show_vector,
 };
 use contacts_base::{ContactEntry, ContactKey, ContactPoint, ShapeId};
+use shapes::{Shape, ShapeDef};
 use world_core::Handle;
 
 /// What has a form for C.
@@ -49,6 +52,37 @@ impl Shown for ShapeId {
 
     fn show(&self) -> CShapeId {
         show_id(*self)
+    }
+}
+
+/// The number of a form.
+fn form_number(shape: &Shape) -> u32
+    ensures { result ≡ form_shown shape.now }
+{
+    match shape {
+        Shape::Circle { .. } => 0,
+        Shape::Capsule { .. } => 1,
+        Shape::Segment { .. } => 2,
+    }
+}
+
+impl Shown for ShapeDef {
+    type Form = CShape;
+
+    ghost shown = { λ d. shape_shown d };
+
+    fn show(&self) -> CShape {
+        CShape {
+            form: form_number(&self.shape),
+            group: self.filter.group,
+            first: show_vector(self.shape.first_end()),
+            second: show_vector(self.shape.second_end()),
+            radius: self.shape.radius(),
+            friction: self.friction,
+            restitution: self.restitution,
+            category: self.filter.category,
+            mask: self.filter.mask,
+        }
     }
 }
 
@@ -118,6 +152,30 @@ impl Shown for ContactEntry {
             second_offset: offset_of(second),
             first_impulse: impulse_of(first),
             second_impulse: impulse_of(second),
+        }
+    }
+}
+
+/// Writes an item at a place of an array, if it has that place.
+fn write_at<T: Copy>(out: &mut [T], at: usize, item: T)
+    ensures { out.new ≡ put_at out.old at item }
+{
+    if at < out.len() {
+        out[at] = item;
+    }
+}
+
+/// Writes an item, if there is one, at the place `count`, and tells the next place.
+pub(crate) fn write_next<T: Copy>(out: &mut [T], count: usize, item: Option<T>) -> usize
+    requires { count < 2 ^ 63 }
+    ensures count { result ≡ count + length (list_of item) }
+    ensures written { out.new ≡ put_list out.old count (list_of item) }
+{
+    match item {
+        None => count,
+        Some(item) => {
+            write_at(out, count, item);
+            count + 1
         }
     }
 }

@@ -22,6 +22,15 @@ pub(crate) const BAD_SPAN: u32 = 34;
 /// The bytes are no text in UTF-8, or no JSON.
 pub(crate) const BAD_TEXT: u32 = 35;
 
+/// The law of the statuses: the numbers that definitions take from the code, in digits. The function does nothing; its contract is the law.
+pub fn statuses_in_digits()
+    ensures done { DONE ≡ 0 }
+    ensures no_world { NO_WORLD ≡ 32 }
+    ensures bad_kind { BAD_KIND ≡ 33 }
+    ensures bad_span { BAD_SPAN ≡ 34 }
+    ensures bad_text { BAD_TEXT ≡ 35 }
+{}
+
 /// The number of a refusal, 1 to 15.
 pub(crate) fn status_of(refusal: Refusal) -> u32
     ensures { result ≡ status_of refusal }

@@ -1,4 +1,4 @@
--- What a step tells: the contacts that began and ended, the bodies that fell asleep and woke.
+-- Trusted: What a step tells: the contacts that began and ended, the bodies that fell asleep and woke.
 use Rattle.std.specs.Prelude.{List, []}
 use Rattle.body_handles.specs.declared.handle.Handle.{Handle}
 use Rattle.contacts_base.specs.declared.key.ContactKey.{ContactKey}

@@ -1,4 +1,4 @@
--- Boxes with sides along the axes, from a lower to an upper corner. A box has its sides.
+-- Trusted: Boxes with sides along the axes, from a lower to an upper corner. A box has its sides.
 use Rattle.std.specs.Prelude.{ℕ, Bool, ◌&&◌, ℤ, ◌+ℤ◌, ◌-ℤ◌, ◌≤ℤ◌, int_le}
 use Rattle.fixed_geom.specs.Vectors.{IsWithin}
 use Rattle.fixed_geom.specs.declared.boxes.Box2.{Box2}

@@ -1,4 +1,4 @@
--- Facings: a direction as a cosine and a sine, both times 2^30.
+-- Trusted: Facings: a direction as a cosine and a sine, both times 2^30.
 use Rattle.std.specs.Prelude.{Bool, ◌&&◌, ◌+◌, ◌-◌, ◌*◌, ◌^◌, ◌<◌, ◌≤◌, ℤ, pos, ◌+ℤ◌, ◌-ℤ◌, ◌*ℤ◌, unsigned_abs, cond, int_le}
 use Rattle.std.specs.Ordering.{int_eq}
 use Rattle.fixed_geom.specs.Numbers.{rdiv}

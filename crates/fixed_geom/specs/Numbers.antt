@@ -1,4 +1,4 @@
--- Rounded quotients and roots over unbounded whole numbers.
+-- Trusted: Rounded quotients and roots over unbounded whole numbers.
 use Rattle.std.specs.Prelude.{◌≡◌, ℕ, zero, suc, ◌+◌, ◌*◌, ◌/◌, ◌<◌, ◌≤◌, ℤ, pos, negsuc, ◌+ℤ◌, ◌-ℤ◌, ◌*ℤ◌, neg_ℤ, ◌≤ℤ◌, ◌<ℤ◌, unsigned_abs, cond, nat_le}
 
 -- the nearest natural number to n / d, the greater where two are as near

@@ -1,4 +1,4 @@
--- Reciprocals of whole numbers, with which their quotients are taken.
+-- Trusted: Reciprocals of whole numbers, with which their quotients are taken.
 use Rattle.std.specs.Prelude.{◌^◌, ℤ, pos, cond, int_lt}
 use Rattle.fixed_geom.specs.Numbers.{rdiv}
 

@@ -1,4 +1,4 @@
--- Vectors of whole numbers; a unit vector is times 2^30.
+-- Trusted: Vectors of whole numbers; a unit vector is times 2^30.
 use Rattle.std.specs.Prelude.{ℕ, Bool, ◌&&◌, ◌≤◌, ◌^◌, ℤ, pos, ◌+ℤ◌, ◌-ℤ◌, ◌*ℤ◌, neg_ℤ, unsigned_abs, nat_le}
 use Rattle.fixed_geom.specs.Numbers.{rdiv, isqrt}
 use Rattle.fixed_geom.specs.declared.vectors.TheConstants.{UNIT}

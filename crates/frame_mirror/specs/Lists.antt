@@ -1,4 +1,4 @@
--- Lists of published frames.
+-- Trusted: Lists of published frames.
 use Rattle.std.specs.Prelude.{◌≡◌, ◌≤◌, ◌-◌, List, [], ◌∷◌, length, slice_get, Some}
 use Rattle.world_core.specs.Frames.{View}
 

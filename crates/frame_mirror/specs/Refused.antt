@@ -1,4 +1,4 @@
--- When each refusal comes.
+-- Trusted: When each refusal comes.
 use Rattle.std.specs.Prelude.{ℕ, ◌≤◌, ◌<◌, ◌^◌, ◌&&◌, cond, nat_le, List, length, Option, Some, None}
 use Rattle.fixed_geom.specs.declared.refusal.Refusal.{Refusal}
 use Rattle.fixed_geom.specs.declared.refusal.Refusal.TheVariants.{NoMemory, OutOfRange, WornOut, WentBack}

@@ -1,4 +1,4 @@
--- The colours of the active constraints: a list for each, in none of which two share a mover, and after them the overflow.
+-- Trusted: The colours of the active constraints: a list for each, in none of which two share a mover, and after them the overflow.
 use Rattle.std.specs.Prelude.{◌≡◌, ℕ, ◌≤◌, ◌+◌, ◌==◌, List, [], length, map, take, slice_index_or, slice_set, All}
 use Rattle.std.specs.List.{flat_map, count_by, position_or_len}
 use Rattle.graph_colours.specs.declared.limits.TheConstants.{COLOURS}

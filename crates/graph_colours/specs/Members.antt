@@ -1,4 +1,4 @@
--- The members of one colour: constraints that ascend by the numbers of their ids.
+-- Trusted: The members of one colour: constraints that ascend by the numbers of their ids.
 use Rattle.std.specs.Prelude.{◌≡◌, ℕ, ◌<◌, ◌==◌, Bool, false, not, cond, nat_lt, List, [], ◌∷◌}
 use Rattle.std.specs.List.{AllPairs, filter, list_any}
 use Rattle.graph_colours.specs.declared.member.Movers.{Movers}

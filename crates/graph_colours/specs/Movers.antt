@@ -1,4 +1,4 @@
--- The movers of a constraint, and which constraints share one.
+-- Trusted: The movers of a constraint, and which constraints share one.
 use Rattle.std.specs.Prelude.{ℕ, ◌<◌, ◌==◌, ◌||◌, Bool, false, Option, Some, None, IfSome}
 use Rattle.graph_colours.specs.declared.member.Movers.{Movers}
 

@@ -1,4 +1,4 @@
--- The book, and sums of its entries: over all of them and by cause.
+-- Trusted: The book, and sums of its entries: over all of them and by cause.
 use Rattle.std.specs.Prelude.{◌≡◌, ℕ, ◌≤◌, ◌+ℤ◌, unsigned_abs, List, [], ◌∷◌, Bool, true, false, if◌then◌else◌}
 use Rattle.impulse_ledger.specs.declared.limits.TheConstants.{MAX_TOTAL, MAX_TOTAL_OF_CAUSE}
 use Rattle.impulse_ledger.specs.declared.entry.Cause.{Cause}

@@ -1,4 +1,4 @@
--- Sums of impulses for each cause.
+-- Trusted: Sums of impulses for each cause.
 use Rattle.std.specs.Prelude.{pos, ◌+ℤ◌}
 use Rattle.impulse_ledger.specs.declared.entry.Cause.{Cause}
 use Rattle.impulse_ledger.specs.declared.entry.Cause.TheVariants.{Command, Gravity, Immovable, Clamp, Rest, Departed}

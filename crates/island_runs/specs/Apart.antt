@@ -1,4 +1,4 @@
--- A step's ticks by shares: each slot is of one share, and a share has the movers of its slots with the rows between them, over all ticks and the
+-- Trusted: A step's ticks by shares: each slot is of one share, and a share has the movers of its slots with the rows between them, over all ticks and the
 -- restitution. What no impulse moves is in each share. No slot gets another number: where a mover of another share is, a share sees nobody.
 use Rattle.std.specs.Prelude.{◌≡◌, ℕ, zero, suc, ◌<◌, Bool, true, cond, nat_eq, List, [], ◌∷◌, All, filter, length, map}
 use Rattle.fixed_geom.specs.Vectors.{plus, zero_vector}

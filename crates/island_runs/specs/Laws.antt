@@ -1,4 +1,4 @@
--- The laws of runs by shares: what a share may be given, that all shares together make the whole run, and that the whole is read back from them.
+-- Trusted: The laws of runs by shares: what a share may be given, that all shares together make the whole run, and that the whole is read back from them.
 use Rattle.std.specs.Prelude.{◌≡◌, ℕ, ◌+◌, ◌<◌, cond, nat_eq, List, filter, length, map, slice_index_or}
 use Rattle.fixed_geom.specs.declared.vectors.Vec2.{Vec2}
 use Rattle.momenta.specs.declared.state.BodyState.{BodyState}

@@ -1,7 +1,7 @@
 //! A crew that solves steps by islands.
 
 ghost use Rattle.std.specs.Prelude.{IfErr};
-ghost use Rattle.crew.specs.Refusals.{IsStartRefusal};
+ghost use Rattle.crew.specs.Refusals.{MayRefuseStart};
 
 use crate::island_memory::IslandMemory;
 use crate::parting::solve_apart;
@@ -25,8 +25,8 @@ pub struct IslandCrew<'s, R, G: Gate> {
 }
 
 impl<'s, R: Threads + Wait + Sync, G: Gate + Sync> IslandCrew<'s, R, G> {
-    /// Starts so many workers, but for the calling thread, which go on with what a crew before left. Refused 1 where memory is wanting and 11
-    /// where a thread can't be started: those that run are then ended and joined.
+    /// Starts so many workers, but for the calling thread, which go on with what a crew before left. Refused 5 where they aren't 1 to 64, 1 where
+    /// memory is wanting, and 11 where a thread can't be started: those that run are then ended and joined.
     pub fn start<E>(
         scope: &Scope<'s, E>,
         rt: &'s R,
@@ -35,7 +35,7 @@ impl<'s, R: Threads + Wait + Sync, G: Gate + Sync> IslandCrew<'s, R, G> {
         workers: usize,
         memory: IslandMemory,
     ) -> Result<IslandCrew<'s, R, G>, Refusal>
-        ensures { IfErr result IsStartRefusal }
+        ensures { IfErr result (MayRefuseStart workers) }
     {
         let crew = start(scope, rt, alloc, gate, workers, 1, 1)?;
         Ok(IslandCrew {

@@ -1,4 +1,4 @@
--- Islands as labels: by slot the island of the mover there, and what each call makes of them.
+-- Trusted: Islands as labels: by slot the island of the mover there, and what each call makes of them.
 use Rattle.std.specs.Prelude.{◌≡◌, ℕ, ◌+◌, ◌-◌, List, ◌++◌, length, Some, None, Option, map, replicate, slice_set, ◌==◌, ◌||◌, ◌&&◌, Bool, true, false, cond, min, nat_lt}
 use Rattle.std.specs.List.{slice_index_or, position_or_len, range_with_len}
 use Rattle.islands.specs.declared.label.IslandState.{IslandState}

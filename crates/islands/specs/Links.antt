@@ -1,4 +1,4 @@
--- Which movers are linked, and which are joined by links.
+-- Trusted: Which movers are linked, and which are joined by links.
 use Rattle.std.specs.Prelude.{◌≡◌, ◌==◌, ◌||◌, ◌&&◌, ℕ, Bool, List, [], ◌∷◌, ◌⊎◌, Contains}
 
 -- pairs of movers that are linked, each mover by its slot

@@ -1,4 +1,4 @@
--- What makes labels a partition of the movers, what makes it the islands of links, and what a split is.
+-- Trusted: What makes labels a partition of the movers, what makes it the islands of links, and what a split is.
 use Rattle.std.specs.Prelude.{◌≡◌, ℕ, ◌≤◌, length, Some, false, Contains}
 use Rattle.islands.specs.declared.label.Label.{Label}
 use Rattle.islands.specs.Links.{Edges, Joined, Linked}

@@ -1,4 +1,4 @@
--- The row that the solver makes of a joint for a step, and what its impulses do to it and to its two bodies.
+-- Trusted: The row that the solver makes of a joint for a step, and what its impulses do to it and to its two bodies.
 use Rattle.std.specs.Prelude.{◌≤◌, ℤ, neg_ℤ, ◌+ℤ◌, unsigned_abs}
 use Rattle.momenta.specs.declared.state.Ends.{Ends}
 use Rattle.momenta.specs.declared.line.Exerted.{Exerted}

@@ -1,4 +1,4 @@
--- Saved worlds at the front of a text, and what is answered of them.
+-- Trusted: Saved worlds at the front of a text, and what is answered of them.
 use Rattle.std.specs.Prelude.{◌≡◌, ℕ, ◌*◌, ◌≤◌, ◌^◌, List, [], true, length, Some, Ok}
 use Rattle.impulse_ledger.specs.declared.totals.Totals.{Totals}
 use Rattle.plain_world.specs.Plain.{Plain}

@@ -1,4 +1,4 @@
--- Sums of changes of momentum.
+-- Trusted: Sums of changes of momentum.
 use Rattle.std.specs.Prelude.{ℕ, ◌≤◌, unsigned_abs}
 use Rattle.momenta.specs.declared.gain.Gain.{Gain}
 

@@ -1,4 +1,4 @@
--- Inner: what must hold of a body and of a line for an impulse, and what the impulse leaves as it was.
+-- Trusted: what must hold of a body and of a line for an impulse, and what the impulse leaves as it was.
 use Rattle.std.specs.Prelude.{◌≡◌, ◌≤◌, ◌^◌, true, false, ℤ, ◌+ℤ◌, ◌≤ℤ◌, unsigned_abs}
 use Rattle.fixed_geom.specs.Reciprocals.{share_reciprocal}
 use Rattle.fixed_geom.specs.Vectors.{IsWithin}

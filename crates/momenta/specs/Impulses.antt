@@ -1,4 +1,4 @@
--- Impulses: what a body gets of one, what two bodies give one another, and one impulse of the sequential solver along a line.
+-- Trusted: Impulses: what a body gets of one, what two bodies give one another, and one impulse of the sequential solver along a line.
 use Rattle.std.specs.Prelude.{zero, ◌^◌, Bool, false, cond, nat_le, Option, Some, None, ℤ, pos, neg_ℤ, ◌+ℤ◌, ◌-ℤ◌, ◌*ℤ◌, unsigned_abs, int_lt}
 use Rattle.fixed_geom.specs.Numbers.{rdiv}
 use Rattle.fixed_geom.specs.Reciprocals.{share_reciprocal}

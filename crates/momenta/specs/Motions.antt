@@ -1,4 +1,4 @@
--- How one body moves in a tick: its velocity and spin, gravity, the speed limit, and the move itself.
+-- Trusted: How one body moves in a tick: its velocity and spin, gravity, the speed limit, and the move itself.
 use Rattle.std.specs.Prelude.{◌≡◌, ℕ, zero, ◌≤◌, ◌^◌, ℤ, pos, negsuc, neg_ℤ, ◌+ℤ◌, ◌*ℤ◌, ◌≤ℤ◌, unsigned_abs, cond, nat_le}
 use Rattle.fixed_geom.specs.Numbers.{rdiv}
 use Rattle.fixed_geom.specs.Facings.{IsFacing, turn}

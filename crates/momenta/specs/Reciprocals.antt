@@ -1,4 +1,4 @@
--- What the quotients of a body's momenta are taken with.
+-- Trusted: What the quotients of a body's momenta are taken with.
 use Rattle.fixed_geom.specs.Reciprocals.{rdiv_reciprocal, share_reciprocal}
 use Rattle.momenta.specs.declared.mass.MassData.{MassData}
 use Rattle.momenta.specs.declared.reciprocals.Reciprocals.{Reciprocals}

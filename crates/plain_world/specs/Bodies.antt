@@ -1,4 +1,4 @@
--- Bodies: which are movers, where each stands, and what may be made.
+-- Trusted: Bodies: which are movers, where each stands, and what may be made.
 use Rattle.std.specs.Prelude.{◌≡◌, ℕ, ◌^◌, Bool, true, false, ◌&&◌, ◌||◌, cond, All, List, Option, Some, None, pos, slice_get}
 use Rattle.std.specs.Option.{is_none}
 use Rattle.std.specs.Ordering.{int_eq}

@@ -1,4 +1,4 @@
--- Changes of one body in its slot: those that leave it an awake mover, or carried along, or neither, as it was, and those that disable and enable it.
+-- Trusted: Changes of one body in its slot: those that leave it an awake mover, or carried along, or neither, as it was, and those that disable and enable it.
 use Rattle.std.specs.Prelude.{Bool, true, false, cond, ℕ, List, Option, Some, None, option_map, slice_set}
 use Rattle.momenta.specs.declared.motion.Momenta.{Momenta}
 use Rattle.shapes.specs.declared.pose.Pose.{Pose}

@@ -1,4 +1,4 @@
--- Fat boxes: for each shape of a body a box with room to move in.
+-- Trusted: Fat boxes: for each shape of a body a box with room to move in.
 use Rattle.std.specs.Prelude.{◌≡◌, ◌^◌, cond, List, [], ◌∷◌, map, length}
 use Rattle.fixed_geom.specs.Boxes.{contains, Contains, IsBoxWithin}
 use Rattle.fixed_geom.specs.declared.boxes.Box2.{Box2}

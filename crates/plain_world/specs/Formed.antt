@@ -1,4 +1,4 @@
--- How the shapes and the contacts of a world are formed.
+-- Trusted: How the shapes and the contacts of a world are formed.
 use Rattle.std.specs.Prelude.{◌≡◌, ℕ, ◌-◌, ◌^◌, ◌<◌, ◌≤◌, ◌==◌, ◌&&◌, Bool, false, cond, nat_le, All, List, slice_get, Option, Some, None, pos, negsuc, ◌≤ℤ◌, int_le, unsigned_abs}
 use Rattle.std.specs.Option.{ForSome}
 use Rattle.contacts_base.specs.Surfaces.{mixed}

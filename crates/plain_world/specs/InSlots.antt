@@ -1,4 +1,4 @@
--- Inner: bodies and joints in their slots: who is there, what is put there, and what stays the same.
+-- Trusted: bodies and joints in their slots: who is there, what is put there, and what stays the same.
 use Rattle.std.specs.Prelude.{Bool, false, Option, Some, None, ◌≡◌, ℕ, List, length, is_some, ◌≤◌, slice_get, ℤ, slice_set}
 use Rattle.shapes.specs.Poses.{IsPose}
 use Rattle.shapes.specs.declared.pose.Pose.{Pose}

@@ -1,4 +1,4 @@
--- Joints by slot: which may be made, which stand between which bodies, and which bodies they keep from colliding.
+-- Trusted: Joints by slot: which may be made, which stand between which bodies, and which bodies they keep from colliding.
 use Rattle.std.specs.Prelude.{◌≡◌, ◌≢◌, ℕ, ◌==◌, ◌||◌, Bool, true, false, cond, is_some, List, Option, Some, None, pos, unsigned_abs, map, option_map}
 use Rattle.std.specs.List.{filter_map}
 use Rattle.fixed_geom.specs.Refusals.{refused_unless}

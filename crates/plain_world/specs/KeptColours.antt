@@ -1,4 +1,4 @@
--- Inner: the constraints of each colour, as they are kept.
+-- Trusted: the constraints of each colour, as they are kept.
 use Rattle.std.specs.Prelude.{ℕ, List, [], map, slice_index_or, Vec, vec_items}
 use Rattle.std.specs.declared.alloc.Global.{Global}
 use Rattle.contacts.specs.declared.constraint.Constraint.{Constraint}

@@ -1,4 +1,4 @@
--- The kinds of bodies: static, kinematic with a course of its own, dynamic.
+-- Trusted: The kinds of bodies: static, kinematic with a course of its own, dynamic.
 use Rattle.std.specs.Prelude.{◌≤◌, Bool, true, false, not, ◌&&◌, ◌||◌, nat_le, Option, Some, None, pos, unsigned_abs}
 use Rattle.std.specs.Ordering.{int_eq}
 use Rattle.fixed_geom.specs.Vectors.{IsWithin, is_within, zero_vector}

@@ -1,4 +1,4 @@
--- The movers' momentum.
+-- Trusted: The movers' momentum.
 use Rattle.std.specs.Prelude.{cond, List, [], ◌∷◌, Option, Some, None}
 use Rattle.fixed_geom.specs.Vectors.{plus, zero_vector}
 use Rattle.fixed_geom.specs.declared.vectors.Vec2.{Vec2}

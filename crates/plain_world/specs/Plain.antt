@@ -1,4 +1,4 @@
--- The plain world: what a world is, as lists, however it is kept.
+-- Trusted: The plain world: what a world is, as lists, however it is kept.
 use Rattle.std.specs.List.{list_any, position}
 use Rattle.std.specs.Prelude.{ℕ, ◌==◌, Bool, List, Option}
 use Rattle.fixed_geom.specs.declared.vectors.Vec2.{Vec2}

@@ -1,4 +1,4 @@
--- Bodies that fall asleep and wake, as the labels of the islands tell, and for how long each has been slow.
+-- Trusted: Bodies that fall asleep and wake, as the labels of the islands tell, and for how long each has been slow.
 use Rattle.std.specs.Prelude.{◌≡◌, ℕ, suc, ◌+◌, Bool, ◌&&◌, cond, nat_le, is_some, List, [], ◌∷◌, Option, Some, None, option_map, map, pos, unsigned_abs, slice_get}
 use Rattle.fixed_geom.specs.Vectors.{is_within, zero_vector}
 use Rattle.momenta.specs.Motions.{spin, velocity}

@@ -1,4 +1,4 @@
--- Items by slot, bodies or joints, beside the places that say which slots are taken.
+-- Trusted: Items by slot, bodies or joints, beside the places that say which slots are taken.
 use Rattle.std.specs.Prelude.{◌≡◌, ℕ, ◌≤◌, Bool, false, cond, List, [], ◌∷◌, ◌++◌, length, nat_lt, Option, Some, None, is_some, slice_get, slice_set}
 use Rattle.body_handles.specs.declared.handle.Handle.{Handle}
 use Rattle.body_handles.specs.declared.slot_table.SlotEntry.{SlotEntry}

@@ -1,8 +1,8 @@
 //! What a request does, and what it is answered.
 
 use crate::calls::{
-    apply, bodies_of, body_of, digest, events_of, filtered_ray, ledger_of, load, plain_of, ray,
-    region, save, slot_entries_of, step,
+    Stepper, apply, bodies_of, body_of, digest, events_of, filtered_ray, ledger_of, load, plain_of,
+    ray, region, save, slot_entries_of, step,
 };
 use crate::crowds::{CrowdPlan, crowd};
 use crate::extended::{Extended, RayRequest};
@@ -17,30 +17,25 @@ use std::sync::Wait;
 use std::thread::Threads;
 use world_core::{Command, Reply, WorldCore};
 use world_script_base::{Answer, BodyList};
-use world_workers::IslandMemory;
 
-/// Makes a call; a step is made by so many workers.
-fn make<R: AllocGlobal + Threads + Wait + Sync>(
-    rt: &R,
+/// Makes a call.
+fn make<E, R: Threads + Wait + Sync>(
     world: &mut WorldCore,
-    memory: &mut IslandMemory,
+    stepper: &mut Stepper<'_, '_, E, R>,
     command: &Command,
-    workers: u64,
 ) -> Result<Reply, Refusal> {
     match command {
-        Command::Step(ticks) => step(rt, world, memory, workers, *ticks),
+        Command::Step(ticks) => step(world, stepper, *ticks),
         _ => apply(world, command),
     }
 }
 
-fn answer_command<'a, R: AllocGlobal + Threads + Wait + Sync>(
-    rt: &R,
+fn answer_command<'a, E, R: Threads + Wait + Sync>(
     world: &'a mut WorldCore,
-    memory: &mut IslandMemory,
+    stepper: &mut Stepper<'_, '_, E, R>,
     command: &Command,
-    workers: u64,
 ) -> Answer<'a> {
-    match make(rt, world, memory, command, workers) {
+    match make(world, stepper, command) {
         Ok(Reply::Body(handle)) => Answer::Body(handle),
         Ok(Reply::Joint(handle)) => Answer::Joint(handle),
         Ok(Reply::Done) => Answer::Done,
@@ -113,14 +108,12 @@ fn answer_crowd<'a, R: AllocGlobal + Threads + Wait + Sync>(
 }
 
 /// A step whose events have ids.
-fn answer_step<'a, R: AllocGlobal + Threads + Wait + Sync>(
-    rt: &R,
+fn answer_step<'a, E, R: Threads + Wait + Sync>(
     world: &'a mut WorldCore,
-    memory: &mut IslandMemory,
+    stepper: &mut Stepper<'_, '_, E, R>,
     ticks: i64,
-    workers: u64,
 ) -> Answer<'a> {
-    match step(rt, world, memory, workers, ticks) {
+    match step(world, stepper, ticks) {
         Ok(Reply::Stepped(step)) => Answer::Stepped(
             step,
             events_of(world),
@@ -191,11 +184,10 @@ fn done_or_refused<'a>(done: Result<(), Refusal>) -> Answer<'a> {
 }
 
 /// Does what a line of the extended form asks for.
-fn answer_extended<'a, R: AllocGlobal + Threads + Wait + Sync>(
+fn answer_extended<'a, E, R: AllocGlobal + Threads + Wait + Sync>(
     rt: &R,
-    worlds: &'a mut Worlds,
+    worlds: &'a mut Worlds<'_, Stepper<'_, '_, E, R>>,
     request: Extended,
-    options: Options,
 ) -> Answer<'a> {
     match request {
         Extended::Bodies { awake } => answer_bodies(&worlds.world, awake),
@@ -204,30 +196,21 @@ fn answer_extended<'a, R: AllocGlobal + Threads + Wait + Sync>(
         Extended::Digest => answer_digest(&worlds.world),
         Extended::Keep(number) => done_or_refused(worlds.keep(number)),
         Extended::Back(number) => done_or_refused(worlds.back(number)),
-        Extended::Step(ticks) => {
-            let workers = options.workers;
-            answer_step(rt, &mut worlds.world, &mut worlds.memory, ticks, workers)
-        }
+        Extended::Step(ticks) => answer_step(&mut worlds.world, worlds.stepper, ticks),
         Extended::Ray(ray) => answer_filtered_ray(&worlds.world, ray),
         Extended::Region(bounds) => answer_region_with_ids(rt.alloc(), &worlds.world, &bounds),
     }
 }
 
 /// Does what a line asks for.
-pub(crate) fn answer<'a, R: AllocGlobal + Threads + Wait + Sync>(
+pub(crate) fn answer<'a, E, R: AllocGlobal + Threads + Wait + Sync>(
     rt: &R,
-    worlds: &'a mut Worlds,
+    worlds: &'a mut Worlds<'_, Stepper<'_, '_, E, R>>,
     request: &Request<'_>,
     options: Options,
 ) -> Answer<'a> {
     match request {
-        Request::Command(command) => answer_command(
-            rt,
-            &mut worlds.world,
-            &mut worlds.memory,
-            command,
-            options.workers,
-        ),
+        Request::Command(command) => answer_command(&mut worlds.world, worlds.stepper, command),
         Request::Show(handle) => show(&worlds.world, *handle),
         Request::Ledger => Answer::Ledger(ledger_of(&worlds.world)),
         Request::Ray(from, along) => answer_ray(&worlds.world, *from, *along),
@@ -235,6 +218,6 @@ pub(crate) fn answer<'a, R: AllocGlobal + Threads + Wait + Sync>(
         Request::Save => answer_save(rt.alloc(), &worlds.world),
         Request::Load(text) => answer_loaded(&mut worlds.world, load(rt.alloc(), text)),
         Request::Crowd(def) => answer_crowd(rt, &mut worlds.world, def, options),
-        Request::Extended(request) => answer_extended(rt, worlds, *request, options),
+        Request::Extended(request) => answer_extended(rt, worlds, *request),
     }
 }

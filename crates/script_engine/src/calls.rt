@@ -13,7 +13,7 @@ use world_file_base::{Broken, Clause};
 use world_lock::{Opened, Seat, SharedWorld};
 use world_queries::{Hit, QueryFilter};
 use world_script_base::may_be_world;
-use world_workers::{IslandMemory, OpenGate, step_with_memory};
+use world_workers::{OpenGate, StepWorkers};
 
 pub(crate) fn new_world(alloc: Global) -> Result<WorldCore, Refusal> {
     WorldCore::new(alloc, Vec2 { x: 0, y: 0 })
@@ -23,19 +23,15 @@ pub(crate) fn apply(world: &mut WorldCore, command: &Command) -> Result<Reply, R
     world.apply(command)
 }
 
-/// A step by so many workers, who go on with what those before them left: with one, the calling thread makes it alone.
-pub(crate) fn step<R: AllocGlobal + Threads + Wait + Sync>(
-    rt: &R,
+/// Who makes the steps of a script: its workers, of which the calling thread is one.
+pub(crate) type Stepper<'s, 'e, E, R> = StepWorkers<'s, 'e, E, R, OpenGate>;
+
+pub(crate) fn step<E, R: Threads + Wait + Sync>(
     world: &mut WorldCore,
-    memory: &mut IslandMemory,
-    workers: u64,
+    stepper: &mut Stepper<'_, '_, E, R>,
     ticks: i64,
 ) -> Result<Reply, Refusal> {
-    if workers == 1 {
-        world.step_one(ticks)
-    } else {
-        step_with_memory(world, memory, rt, &OpenGate, workers, ticks)
-    }
+    stepper.step(world, ticks)
 }
 
 pub(crate) fn body_of(world: &WorldCore, handle: Handle) -> Option<BodyView> {

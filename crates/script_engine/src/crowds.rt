@@ -10,6 +10,7 @@ use seat_book::Roster;
 use std::alloc::Global;
 use std::marker::Brand;
 use std::sync::Wait;
+use std::sync::atomic::{AtomicU64, Ordering};
 use std::thread::{Scope, Threads};
 use std::{mem, thread};
 use world_core::{Command, OneThread, Reply, StepSolver, WorldCore};
@@ -87,6 +88,36 @@ pub(crate) struct CrowdPlan<'d> {
     pub workers: u64,
 }
 
+/// Whether a thread of a crowd could start its workers, as the threads note it for who waits for them.
+#[derive(Drop)]
+struct WorkerStarts {
+    refused: AtomicU64,
+}
+
+impl WorkerStarts {
+    fn new() -> WorkerStarts {
+        WorkerStarts {
+            refused: AtomicU64::new(0),
+        }
+    }
+
+    fn note(&self, refusal: Refusal) {
+        self.refused.store(refusal.number(), Ordering::SeqCst);
+    }
+
+    /// Refused as one of the starts was: 1 where memory was wanting, and else 11.
+    fn answer(&self) -> Result<(), Refusal> {
+        let refused = self.refused.load(Ordering::SeqCst);
+        if refused == 0 {
+            Ok(())
+        } else if refused == Refusal::NoMemory.number() {
+            Err(Refusal::NoMemory)
+        } else {
+            Err(Refusal::NoThread)
+        }
+    }
+}
+
 /// A world that seats of this type call.
 trait Called<T> {
     /// What one thread does, its steps made with this solver.
@@ -114,13 +145,14 @@ impl<N: Opened> Called<Seat<N>> for SharedWorld<N> {
 }
 
 /// What one thread does whose steps its own workers solve. They are started in the scope, and ended when all calls are made. Where one can't be
-/// started, the thread solves its steps alone.
+/// started, the thread notes it and makes no calls.
 fn call_by_workers<'s, E, T, S: Called<T>, R: Threads + Wait + Sync>(
     scope: &Scope<'s, E>,
     rt: &'s R,
     shared: &S,
     seat: &mut T,
     crowd: CrowdPlan,
+    starts: &WorkerStarts,
 ) {
     let memory = IslandMemory::new(crowd.alloc);
     match IslandCrew::start(
@@ -135,7 +167,7 @@ fn call_by_workers<'s, E, T, S: Called<T>, R: Threads + Wait + Sync>(
             shared.make_calls(rt, seat, &mut crew, crowd.def);
             drop(crew.end());
         }
-        Err(_) => shared.make_calls(rt, seat, &mut OneThread, crowd.def),
+        Err(refusal) => starts.note(refusal),
     }
 }
 
@@ -145,12 +177,13 @@ fn call_through<T, S: Called<T>, R: Threads + Wait + Sync>(
     shared: &S,
     seat: &mut T,
     crowd: CrowdPlan,
+    starts: &WorkerStarts,
 ) {
     if crowd.workers == 1 {
         shared.make_calls(rt, seat, &mut OneThread, crowd.def);
     } else {
         thread::scope(thread::scope_env(), rt, |scope| {
-            call_by_workers(scope, rt, shared, seat, crowd)
+            call_by_workers(scope, rt, shared, seat, crowd, starts)
         })
     }
 }
@@ -163,10 +196,11 @@ fn start_all<'s, E, T: Send + 's, S: Called<T> + Sync + 's, R: Threads + Wait + 
     shared: &'s S,
     seats: &'s mut [T],
     crowd: CrowdPlan<'s>,
+    starts: &'s WorkerStarts,
 ) -> Result<(), Refusal> {
     for seat in seats.iter_mut() {
         if scope
-            .spawn(move || call_through(rt, shared, seat, crowd))
+            .spawn(move || call_through(rt, shared, seat, crowd, starts))
             .is_err()
         {
             return Err(Refusal::NoThread);
@@ -182,21 +216,26 @@ fn start_seats<'s, E, N: Opened + Send + Sync + 's, R: Threads + Wait + Sync>(
     shared: &'s SharedWorld<N>,
     seats: &'s mut [Seat<N>],
     crowd: CrowdPlan<'s>,
+    starts: &'s WorkerStarts,
 ) -> Result<(), Refusal> {
     may_be_shared::<N>();
-    start_all(scope, rt, shared, seats, crowd)
+    start_all(scope, rt, shared, seats, crowd, starts)
 }
 
-/// All seats call at once, each on a thread of its own. Refused 11 where one can't be started.
+/// All seats call at once, each on a thread of its own. Refused 11 where one, or a worker of one, can't be started, and 1 where memory is wanting
+/// for its workers.
 fn call_at_once<N: Opened + Send + Sync, R: Threads + Wait + Sync>(
     rt: &R,
     shared: &SharedWorld<N>,
     seats: &mut [Seat<N>],
     crowd: CrowdPlan,
 ) -> Result<(), Refusal> {
-    thread::scope(thread::scope_env(), rt, |scope| {
-        start_seats(scope, rt, shared, seats, crowd)
-    })
+    let starts = WorkerStarts::new();
+    let started = thread::scope(thread::scope_env(), rt, |scope| {
+        start_seats(scope, rt, shared, seats, crowd, &starts)
+    });
+    started?;
+    starts.answer()
 }
 
 /// What is left of a crowd: the world, the calls that it accepted, and what the crowd is refused.
@@ -295,7 +334,7 @@ fn share_out<R: Threads + Wait + Sync>(
 }
 
 /// So many threads make the crowd's calls. Refused 1, with nothing changed, where memory is wanting, and 11 where a thread can't be
-/// started: the calls of the threads that ran stand then.
+/// started; where a thread's own workers can't, as their start is. The calls of the threads that ran stand then.
 pub(crate) fn crowd<R: Threads + Wait + Sync>(
     rt: &R,
     world: &mut WorldCore,

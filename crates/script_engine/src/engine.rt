@@ -1,7 +1,7 @@
 //! Lines in, answers out.
 
 use crate::answers::{answer, answer_loaded};
-use crate::calls::settle;
+use crate::calls::{Stepper, settle};
 use crate::explanation::{BadLine, CrowdRefusals, explain};
 use crate::requests::{Request, request_of};
 use crate::saved_lines::loaded_by;
@@ -13,10 +13,13 @@ use script_options::Options;
 use std::alloc::Global;
 use std::io::{BufRead, Write};
 use std::sync::Wait;
-use std::thread::Threads;
+use std::thread;
+use std::thread::{Scope, Threads};
+use world_core::WorldCore;
 use world_script_base::{
     Answer, LONGEST, LineFault, LineReader, Outbox, Reason, Stop, broken_path,
 };
+use world_workers::{OpenGate, StepWorkers};
 
 /// The line that is read, and the room that its reading needs.
 #[derive(Drop)]
@@ -75,9 +78,9 @@ fn print_explanation<R: AllocGlobal + Eprint>(
 }
 
 /// Answers the request of a line; a refusal is told in words where that is wanted.
-fn answer_request<R: AllocGlobal + Eprint + Threads + Wait + Sync, O: Write>(
+fn answer_request<E, R: AllocGlobal + Eprint + Threads + Wait + Sync, O: Write>(
     rt: &R,
-    worlds: &mut Worlds,
+    worlds: &mut Worlds<'_, Stepper<'_, '_, E, R>>,
     request: &Request<'_>,
     (number, options): (u64, Options),
     outbox: &mut Outbox<'_, O>,
@@ -111,7 +114,7 @@ fn refuse_line<R: Eprint, O: Write>(
 /// Answers a line that loads what a save wrote, if it is one. Where a refusal is told in words, the line is read as a request.
 fn answer_saved<'a>(
     alloc: Global,
-    worlds: &mut Worlds,
+    world: &mut WorldCore,
     line: &[u8],
     options: Options,
 ) -> Option<Answer<'a>> {
@@ -119,13 +122,13 @@ fn answer_saved<'a>(
         return None;
     }
     let loaded = loaded_by(alloc, line)?;
-    Some(answer_loaded(&mut worlds.world, loaded))
+    Some(answer_loaded(world, loaded))
 }
 
 /// Answers a line; one that is blank asks for nothing.
-fn answer_line<R: AllocGlobal + Eprint + Threads + Wait + Sync, O: Write>(
+fn answer_line<E, R: AllocGlobal + Eprint + Threads + Wait + Sync, O: Write>(
     rt: &R,
-    worlds: &mut Worlds,
+    worlds: &mut Worlds<'_, Stepper<'_, '_, E, R>>,
     page: &mut Page,
     (number, options): (u64, Options),
     outbox: &mut Outbox<'_, O>,
@@ -137,7 +140,12 @@ fn answer_line<R: AllocGlobal + Eprint + Threads + Wait + Sync, O: Write>(
     if is_blank(page.line.as_slice()) {
         return Ok(());
     }
-    if let Some(answer) = answer_saved(rt.alloc(), worlds, page.line.as_slice(), options) {
+    if let Some(answer) = answer_saved(
+        rt.alloc(),
+        &mut worlds.world,
+        page.line.as_slice(),
+        options,
+    ) {
         return outbox.write(&answer);
     }
     match request_of(
@@ -182,9 +190,9 @@ fn go_on<I: BufRead, O: Write>(
 }
 
 /// Reads a line and answers it. Answers whether there was one.
-fn serve_line<R: AllocGlobal + Eprint + Threads + Wait + Sync, I: BufRead, O: Write>(
+fn serve_line<E, R: AllocGlobal + Eprint + Threads + Wait + Sync, I: BufRead, O: Write>(
     rt: &R,
-    worlds: &mut Worlds,
+    worlds: &mut Worlds<'_, Stepper<'_, '_, E, R>>,
     page: &mut Page,
     (number, options): (u64, Options),
     lines: &mut LineReader<'_, I>,
@@ -202,9 +210,9 @@ fn serve_line<R: AllocGlobal + Eprint + Threads + Wait + Sync, I: BufRead, O: Wr
 }
 
 /// Answers each line of the reader, up to one that is no request, unless the options say to go on.
-fn serve_lines<R: AllocGlobal + Eprint + Threads + Wait + Sync, I: BufRead, O: Write>(
+fn serve_lines<E, R: AllocGlobal + Eprint + Threads + Wait + Sync, I: BufRead, O: Write>(
     rt: &R,
-    worlds: &mut Worlds,
+    worlds: &mut Worlds<'_, Stepper<'_, '_, E, R>>,
     page: &mut Page,
     options: Options,
     lines: &mut LineReader<'_, I>,
@@ -221,9 +229,9 @@ fn serve_lines<R: AllocGlobal + Eprint + Threads + Wait + Sync, I: BufRead, O: W
 }
 
 /// The same, with a page to read them.
-fn serve<R: AllocGlobal + Eprint + Threads + Wait + Sync, I: BufRead, O: Write>(
+fn serve<E, R: AllocGlobal + Eprint + Threads + Wait + Sync, I: BufRead, O: Write>(
     rt: &R,
-    worlds: &mut Worlds,
+    worlds: &mut Worlds<'_, Stepper<'_, '_, E, R>>,
     options: Options,
     reader: &mut I,
     outbox: &mut Outbox<'_, O>,
@@ -239,6 +247,23 @@ fn serve<R: AllocGlobal + Eprint + Threads + Wait + Sync, I: BufRead, O: Write>(
         return Err(Stop::BadLine);
     }
     Ok(())
+}
+
+/// The same in a world that begins empty. Its workers stay in the scope from the first step that is worth them to the end.
+fn serve_by_workers<'s, E, R: AllocGlobal + Eprint + Threads + Wait + Sync, I: BufRead, O: Write>(
+    scope: &Scope<'s, E>,
+    rt: &'s R,
+    options: Options,
+    reader: &mut I,
+    outbox: &mut Outbox<'_, O>,
+) -> Result<(), Stop> {
+    let mut stepper = StepWorkers::new(scope, rt, rt.alloc(), &OpenGate, options.workers);
+    let answered = match Worlds::new(rt.alloc(), &mut stepper) {
+        Ok(mut worlds) => serve(rt, &mut worlds, options, reader, outbox),
+        Err(_) => Err(Stop::NoMemory),
+    };
+    stepper.end();
+    answered
 }
 
 /// Flushes the answers, unless a write failed, and says how the run ended.
@@ -264,9 +289,9 @@ pub fn run<R: AllocGlobal + Eprint + Threads + Wait + Sync, I: BufRead, O: Write
     writer: &mut O,
     options: Options,
 ) -> Status {
-    let answered = match Worlds::new(rt.alloc()) {
-        Ok(mut worlds) => serve(rt, &mut worlds, options, reader, &mut Outbox::new(writer)),
-        Err(_) => Err(Stop::NoMemory),
-    };
+    let mut outbox = Outbox::new(writer);
+    let answered = thread::scope(thread::scope_env(), rt, |scope| {
+        serve_by_workers(scope, rt, options, reader, &mut outbox)
+    });
     end(writer, answered)
 }

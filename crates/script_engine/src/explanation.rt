@@ -11,6 +11,9 @@ use std::fmt;
 use world_core::Command;
 use world_script_base::{Fault, Reason};
 
+/// What a refusal means of this request, where it means something else of other ones.
+const NOTHING_KEPT: &str = "no world is kept under it";
+
 /// A refusal of the request of a line, told in words.
 #[derive(Clone, Copy)]
 pub struct Explanation {
@@ -19,6 +22,8 @@ pub struct Explanation {
     /// The key of the request, or of the shape, that it speaks of, if there is one.
     pub key: Option<&'static str>,
     pub refusal: Refusal,
+    /// What the refusal means here, where its own words speak of another request.
+    pub meaning: Option<&'static str>,
 }
 
 impl fmt::Display for Explanation {
@@ -30,6 +35,9 @@ impl fmt::Display for Explanation {
         }
         if let Some(key) = self.key {
             write!(f, "{key}: ")?;
+        }
+        if let Some(meaning) = self.meaning {
+            return write!(f, "{meaning}");
         }
         let refusal = self.refusal;
         write!(f, "{refusal}")
@@ -88,6 +96,7 @@ fn explain_shapes(def: &BodyDef, refusal: Refusal) -> Explanation {
         shape,
         key: Some(key),
         refusal,
+        meaning: None,
     }
 }
 
@@ -185,6 +194,14 @@ fn key_of(request: &Request<'_>, refusal: Refusal) -> Option<&'static str> {
     }
 }
 
+/// What a refusal means of a request whose key is no id, where its own words speak of one.
+fn meaning_of(request: &Request<'_>, refusal: Refusal) -> Option<&'static str> {
+    match (refusal, request) {
+        (Refusal::StaleHandle, Request::Extended(Extended::Back(_))) => Some(NOTHING_KEPT),
+        _ => None,
+    }
+}
+
 /// What a refusal of a request says.
 pub fn explain(request: &Request<'_>, refusal: Refusal) -> Explanation {
     if let Request::Command(Command::CreateBody(def)) = request {
@@ -197,6 +214,7 @@ pub fn explain(request: &Request<'_>, refusal: Refusal) -> Explanation {
         shape: None,
         key: key_of(request, refusal),
         refusal,
+        meaning: meaning_of(request, refusal),
     }
 }
 

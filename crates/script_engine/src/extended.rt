@@ -25,9 +25,9 @@ pub enum Extended {
     /// The digest of the world.
     Digest,
     /// The world is to be kept under a number.
-    Keep(u64),
+    Keep(i64),
     /// The world that was kept under a number is to come back.
-    Back(u64),
+    Back(i64),
     /// A step whose events have ids.
     Step(i64),
     /// A ray that passes some shapes by, or whose hit has an id.
@@ -104,8 +104,8 @@ pub(crate) fn take_extended<'a>(fields: &mut Fields<'a>, name: &str) -> Option<E
         },
         "joints" => Extended::Joints,
         "digest" => Extended::Digest,
-        "keep" => Extended::Keep(fields.take_unsigned("number")),
-        "back" => Extended::Back(fields.take_unsigned("number")),
+        "keep" => Extended::Keep(fields.take_signed("number")),
+        "back" => Extended::Back(fields.take_signed("number")),
         "ray" => return take_ray(fields),
         "step" | "region" => return take_with_ids(fields, name),
         _ => return None,

@@ -62,7 +62,50 @@ pub fn options<S: AsStr>(alloc: Global, words: &[S]) -> Result<Options, Instead>
 {
     match matches_of(alloc, words) {
         Ok(matches) => options_of(alloc, &matches),
-        Err(error) => Err(instead_of(alloc, &error)),
+        Err(error) => match instead_of(alloc, &error) {
+            Instead::Text(text) => Err(text_or_fault(alloc, words, text)),
+            instead => Err(instead),
+        },
+    }
+}
+
+/// Whether a word asks for help or for the version.
+fn asks_for_text(word: &str) -> bool {
+    matches!(word, "--help" | "-h" | "--version" | "-V")
+}
+
+/// The text that was asked for, unless another word is bad: the parser stops at the first word that asks for a text.
+fn text_or_fault<S: AsStr>(alloc: Global, words: &[S], text: String) -> Instead {
+    let mut others: Vec<&str> = Vec::new(alloc);
+    for word in words {
+        if !asks_for_text(word.as_str()) && others.push(word.as_str()).is_err() {
+            return Instead::NoMemory;
+        }
+    }
+    match matches_of(alloc, others.as_slice()) {
+        Ok(matches) => match options_of(alloc, &matches) {
+            Ok(_) => Instead::Text(text),
+            Err(instead) => instead,
+        },
+        Err(error) => match instead_of(alloc, &error) {
+            Instead::Text(_) => text_with_value(alloc),
+            instead => instead,
+        },
+    }
+}
+
+/// The fault of a word that asks for a text and has a value, as the parser words its own.
+fn text_with_value(alloc: Global) -> Instead {
+    let fault = String::from_str(
+        alloc,
+        "error: '--help' and '--version' take no value
+
+For more information, try '--help'.
+",
+    );
+    match fault {
+        Ok(fault) => Instead::BadWords(fault),
+        Err(_) => Instead::NoMemory,
     }
 }
 

@@ -1,4 +1,4 @@
--- The history of the calls that were accepted, and what a seat has seen of it.
+-- Trusted: The history of the calls that were accepted, and what a seat has seen of it.
 use Rattle.std.specs.Prelude.{◌≡◌, ◌≢◌, ℕ, List, ◌++◌, All}
 use Rattle.seat_book.specs.declared.call.Call.{Call}
 use Rattle.seat_book.specs.declared.call.Entry.{Entry}

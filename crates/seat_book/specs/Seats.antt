@@ -1,4 +1,4 @@
--- The seats of a roster.
+-- Trusted: The seats of a roster.
 use Rattle.std.specs.Prelude.{ℕ, zero, suc, ◌&&◌, cond, nat_le, List, [], ◌∷◌, ◌++◌, Option, Some, None}
 use Rattle.atomic_table.specs.Seated.{TableId}
 use Rattle.fixed_geom.specs.declared.refusal.Refusal.{Refusal}

@@ -1,4 +1,4 @@
--- The first hit of a ray among shapes, and the shapes over a region.
+-- Trusted: The first hit of a ray among shapes, and the shapes over a region.
 use Rattle.std.specs.Prelude.{ℕ, Bool, true, false, cond, nat_lt, List, [], ◌∷◌, Option, None, Some}
 use Rattle.contacts_base.specs.declared.key.ShapeId.{ShapeId}
 use Rattle.fixed_geom.specs.Boxes.{overlaps}

@@ -5,7 +5,7 @@ ghost use Rattle.fixed_geom.specs.Vectors.{IsWithin};
 ghost use Rattle.shapes.specs.Shapes.{IsShape};
 ghost use Rattle.shapes.specs.Poses.{IsPose};
 ghost use Rattle.shapes.specs.Rays.{beam_of, ray_of};
-ghost use Rattle.shape_rays.specs.Reach.{reaches};
+ghost use Rattle.shape_rays.specs.Reach.{box_round, reaches};
 
 use crate::boxes::{box_round, common, is_crossed};
 use fixed_geom::{Box2, MAX_POSITION, Vec2, minus, overlaps};
@@ -44,6 +44,13 @@ impl RayCast {
             along,
             around: box_round(from, along),
         }
+    }
+
+    /// The box round its way, with [`RAY_SLACK`](crate::RAY_SLACK) on each side. A shape whose tight box doesn't overlap it isn't hit.
+    pub fn around(&self) -> Box2
+        ensures { result ≡ box_round self.now }
+    {
+        self.around
     }
 
     /// Whether the ray may meet something that lies in the box: whether its way passes the box with [`RAY_SLACK`](crate::RAY_SLACK)

@@ -1,4 +1,4 @@
--- Boxes round shapes.
+-- Trusted: Boxes round shapes.
 use Rattle.std.specs.Int.{int_min, int_max}
 use Rattle.fixed_geom.specs.Boxes.{grow}
 use Rattle.fixed_geom.specs.declared.boxes.Box2.{Box2}

@@ -1,4 +1,4 @@
--- The nearest point of a core, and whether two cores cross.
+-- Trusted: The nearest point of a core, and whether two cores cross.
 use Rattle.std.specs.Prelude.{Bool, false, ◌&&◌, ◌||◌, cond, ℤ, pos, int_lt, ◌*ℤ◌}
 use Rattle.std.specs.Ordering.{int_eq}
 use Rattle.fixed_geom.specs.Numbers.{rdiv}

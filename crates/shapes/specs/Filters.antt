@@ -1,4 +1,4 @@
--- Which shapes may collide.
+-- Trusted: Which shapes may collide.
 use Rattle.std.specs.Prelude.{Bool, ◌&&◌, cond, not, ◌==◌, pos, int_lt, bit_and, ◌^◌, ◌-◌}
 use Rattle.std.specs.Ordering.{int_eq}
 use Rattle.shapes.specs.declared.filter.Filter.{Filter}

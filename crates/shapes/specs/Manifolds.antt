@@ -1,4 +1,4 @@
--- The first and the second point of a contact.
+-- Trusted: The first and the second point of a contact.
 use Rattle.std.specs.Prelude.{ℕ, ◌==◌, nat_lt, Bool, false, ◌&&◌, ◌||◌, cond, ℤ, pos, int_lt, int_le, ◌+ℤ◌, ◌*ℤ◌, List, [], ◌∷◌, Option, None, Some, option_map, map, filter}
 use Rattle.std.specs.Ordering.{int_eq}
 use Rattle.fixed_geom.specs.Vectors.{dot, minus}

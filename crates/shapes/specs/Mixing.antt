@@ -1,4 +1,4 @@
--- The friction and the restitution of two shapes together.
+-- Trusted: The friction and the restitution of two shapes together.
 use Rattle.std.specs.Prelude.{ℤ, ◌*ℤ◌}
 use Rattle.std.specs.Int.{int_max}
 use Rattle.fixed_geom.specs.Numbers.{isqrt}

@@ -1,4 +1,4 @@
--- Where bodies and cores are in the world.
+-- Trusted: Where bodies and cores are in the world.
 use Rattle.std.specs.Prelude.{◌^◌, unsigned_abs}
 use Rattle.fixed_geom.specs.Vectors.{IsWithin, plus}
 use Rattle.fixed_geom.specs.Facings.{IsFacing, rotate}

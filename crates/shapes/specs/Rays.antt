@@ -1,4 +1,4 @@
--- Where a ray meets a shape: the least of its hits, in 2^24ths of the ray's way.
+-- Trusted: Where a ray meets a shape: the least of its hits, in 2^24ths of the ray's way.
 use Rattle.std.specs.Prelude.{◌≡◌, ℕ, ◌^◌, Bool, true, false, cond, All, ◌⊎◌, nat_lt, ℤ, pos, neg_ℤ, ◌-ℤ◌, ◌*ℤ◌, int_lt, int_le, unsigned_abs, List, [], ◌∷◌, Option, None, Some}
 use Rattle.std.specs.Ordering.{int_eq}
 use Rattle.std.specs.Int.{int_max}

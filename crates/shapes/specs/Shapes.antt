@@ -1,4 +1,4 @@
--- The parts of a shape, and which shapes a body may have.
+-- Trusted: The parts of a shape, and which shapes a body may have.
 use Rattle.std.specs.Prelude.{◌≤◌, Bool, ◌&&◌, not, nat_le, List, length, ℤ, pos, int_le, ◌≤ℤ◌, unsigned_abs, Option, None}
 use Rattle.std.specs.Ordering.{int_eq}
 use Rattle.std.specs.List.{list_all}

@@ -1,4 +1,4 @@
--- Candidates for the points of a contact, and what each makes of the contact.
+-- Trusted: Candidates for the points of a contact, and what each makes of the contact.
 use Rattle.std.specs.Prelude.{ℕ, Bool, cond, ℤ, pos, neg_ℤ, ◌+ℤ◌, ◌-ℤ◌, List, [], ◌∷◌}
 use Rattle.std.specs.Ordering.{int_eq}
 use Rattle.fixed_geom.specs.Numbers.{fdiv}

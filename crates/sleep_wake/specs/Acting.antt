@@ -1,4 +1,4 @@
--- What acts: the constraints, the islands of their movers, and the colours of those whose movers are awake.
+-- Trusted: What acts: the constraints, the islands of their movers, and the colours of those whose movers are awake.
 use Rattle.std.specs.Prelude.{◌≡◌, ℕ, ◌&&◌, ◌↔◌, Bool, true, false, not, List, Option, Some, None, option_map, Contains}
 use Rattle.std.specs.List.{filter_map}
 use Rattle.graph_colours.specs.declared.member.Movers.{Movers}

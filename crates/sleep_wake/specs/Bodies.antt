@@ -1,4 +1,4 @@
--- What comes and goes with a body.
+-- Trusted: What comes and goes with a body.
 use Rattle.std.specs.Prelude.{ℕ, Bool, not, filter}
 use Rattle.graph_colours.specs.declared.member.Member.{Member}
 use Rattle.graph_colours.specs.Movers.{has_mover}

@@ -1,4 +1,4 @@
--- Constraints that begin and end, one after the other, and lists of these changes.
+-- Trusted: Constraints that begin and end, one after the other, and lists of these changes.
 use Rattle.std.specs.Prelude.{ℕ, cond, nat_lt, List, [], ◌∷◌, Option, Some, None}
 use Rattle.graph_colours.specs.declared.member.Member.{Member}
 use Rattle.graph_colours.specs.Members.{inserted, without_member}

@@ -1,4 +1,4 @@
--- The sleep phase: which islands are ready to sleep, by the timers of their movers, and what becomes of them.
+-- Trusted: The sleep phase: which islands are ready to sleep, by the timers of their movers, and what becomes of them.
 use Rattle.std.specs.Prelude.{ℕ, suc, ◌&&◌, ◌==◌, Bool, true, false, not, cond, nat_lt, nat_le, min, List, [], ◌∷◌, Option, Some, None, filter}
 use Rattle.graph_colours.specs.declared.member.Member.{Member}
 use Rattle.islands.specs.declared.label.Label.{Label}

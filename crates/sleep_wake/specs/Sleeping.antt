@@ -1,4 +1,4 @@
--- Which islands sleep, who wakes them by their names, and how one mover is put to sleep.
+-- Trusted: Which islands sleep, who wakes them by their names, and how one mover is put to sleep.
 use Rattle.std.specs.Prelude.{ℕ, ◌==◌, cond, nat_lt, List, [], ◌∷◌, Option, Some, None}
 use Rattle.islands.specs.declared.label.Label.{Label}
 use Rattle.islands.specs.Labels.{Labels, label_at, is_loose, is_asleep, sleeping_name}

@@ -1,4 +1,4 @@
--- Islands wake, and their constraints take colours; islands are put to rest, and their constraints give them up.
+-- Trusted: Islands wake, and their constraints take colours; islands are put to rest, and their constraints give them up.
 use Rattle.std.specs.Prelude.{ℕ, ◌||◌, Bool, false, cond, List, [], ◌∷◌, Option, Some, None, filter}
 use Rattle.graph_colours.specs.declared.member.Movers.{Movers}
 use Rattle.graph_colours.specs.declared.member.Member.{Member}

@@ -1,4 +1,4 @@
--- Slots that have no mover.
+-- Trusted: Slots that have no mover.
 use Rattle.std.specs.Prelude.{ℕ, ◌+◌}
 use Rattle.islands.specs.Labels.{padded}
 use Rattle.sleep_wake.specs.Acting.{Acting}

@@ -1,4 +1,4 @@
--- Who stands beside a body: joined to it by a joint, or touching it.
+-- Trusted: Who stands beside a body: joined to it by a joint, or touching it.
 use Rattle.std.specs.Prelude.{ℕ, suc, ◌==◌, ◌||◌, Bool, true, false, cond, List, [], ◌∷◌, ◌++◌, Option, Some, None}
 use Rattle.std.specs.List.{filter_map, list_any}
 use Rattle.contacts_base.specs.declared.contact.ContactEntry.{ContactEntry}

@@ -1,4 +1,4 @@
--- The census: for each solver set the bodies, joints and contacts that stand in it.
+-- Trusted: The census: for each solver set the bodies, joints and contacts that stand in it.
 use Rattle.std.specs.Prelude.{◌≡◌, ℕ, suc, ◌<◌, ◌==◌, ◌&&◌, ◌||◌, Bool, true, false, cond, List, [], ◌∷◌, ◌++◌, filter, map, Option, Some, None}
 use Rattle.std.specs.List.{AllPairs, cons_option, count_by}
 use Rattle.body_handles.specs.declared.handle.Handle.{Handle}

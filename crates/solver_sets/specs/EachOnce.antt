@@ -1,4 +1,4 @@
--- Where each body, joint and contact of a world stands, and that its census lists each once, there.
+-- Trusted: Where each body, joint and contact of a world stands, and that its census lists each once, there.
 use Rattle.std.specs.Prelude.{◌≡◌, ◌≢◌, ◌↔◌, ℕ, ◌==◌, ◌&&◌, Bool, cond, List, [], ◌∷◌, map, Option, Some, None, option_map, Contains, AllPairs}
 use Rattle.body_handles.specs.declared.slot_table.SlotEntry.{SlotEntry}
 use Rattle.body_handles.specs.SlotEntries.{IsLive}

@@ -1,4 +1,4 @@
--- Joints that are made and that go, with their slots.
+-- Trusted: Joints that are made and that go, with their slots.
 use Rattle.std.specs.Prelude.{ℕ, zero, suc, cond, List, None, length, slice_set}
 use Rattle.body_handles.specs.declared.handle.Handle.{Handle}
 use Rattle.body_handles.specs.declared.slot_table.SlotEntry.{SlotEntry}

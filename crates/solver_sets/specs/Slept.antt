@@ -1,4 +1,4 @@
--- Who has fallen asleep, or has woken, between two labellings.
+-- Trusted: Who has fallen asleep, or has woken, between two labellings.
 use Rattle.std.specs.Prelude.{ℕ, suc, ◌&&◌, Bool, false, not, cond, List, [], ◌∷◌, Option, Some, None}
 use Rattle.body_handles.specs.declared.handle.Handle.{Handle}
 use Rattle.body_handles.specs.declared.slot_table.SlotEntry.{SlotEntry}

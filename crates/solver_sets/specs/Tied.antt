@@ -1,4 +1,4 @@
--- How bodies go with the labels of the islands.
+-- Trusted: How bodies go with the labels of the islands.
 use Rattle.std.specs.Prelude.{◌≡◌, ℕ, List, Option, is_some}
 use Rattle.islands.specs.Labels.{Labels, label_at}
 use Rattle.plain_world.specs.declared.body.Body.{Body}

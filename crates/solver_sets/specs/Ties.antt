@@ -1,4 +1,4 @@
--- The ties of a world: its joints by slot and its touching contacts by key, each with its movers.
+-- Trusted: The ties of a world: its joints by slot and its touching contacts by key, each with its movers.
 use Rattle.std.specs.Prelude.{ℕ, suc, ◌<◌, ◌^◌, ◌==◌, ◌&&◌, ◌||◌, Bool, true, false, cond, List, [], ◌∷◌, ◌++◌, filter, map, Option, Some, None, option_map}
 use Rattle.std.specs.List.{filter_map}
 use Rattle.body_handles.specs.declared.handle.Handle.{Handle}

@@ -1,4 +1,4 @@
--- What a frame shows of a world, and what settling the ledger leaves.
+-- Trusted: What a frame shows of a world, and what settling the ledger leaves.
 use Rattle.std.specs.Prelude.{◌≡◌, ℕ, zero, suc, ◌<◌, ◌≤◌, ◌^◌, ◌==◌, cond, All, List, [], ◌∷◌, ◌++◌, length, Option, Some, None, slice_get}
 use Rattle.body_handles.specs.declared.handle.Handle.{Handle}
 use Rattle.body_handles.specs.declared.slot_table.SlotEntry.{SlotEntry}

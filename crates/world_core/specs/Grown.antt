@@ -1,4 +1,4 @@
--- By how much the totals of a ledger grow by calls.
+-- Trusted: By how much the totals of a ledger grow by calls.
 use Rattle.std.specs.Prelude.{ℕ, ◌+◌, ◌*◌, ◌^◌}
 use Rattle.fixed_geom.specs.declared.vectors.Vec2.{Vec2}
 use Rattle.world_file.specs.Laws.{HasSmallTotals}

@@ -1,4 +1,4 @@
--- The rows that a step gathers of a colour share no mover.
+-- Trusted: The rows that a step gathers of a colour share no mover.
 use Rattle.std.specs.Prelude.{◌≡◌, ◌<◌, ℕ, List, [], map, Option, Some, Contains, slice_index_or}
 use Rattle.contacts.specs.Constraints.{constraint_number}
 use Rattle.contacts.specs.declared.constraint.Constraint.{Constraint}

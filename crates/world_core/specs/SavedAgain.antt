@@ -1,4 +1,4 @@
--- What saving and loading promise together.
+-- Trusted: What saving and loading promise together.
 use Rattle.std.specs.Prelude.{◌≡◌, None, Result, Ok, Err}
 use Rattle.serde_json.specs.Data.{Data}
 use Rattle.world_file_base.specs.declared.clause.Broken.{Broken}

@@ -1,4 +1,4 @@
--- The ids of the bodies that there are, by slot.
+-- Trusted: The ids of the bodies that there are, by slot.
 use Rattle.std.specs.Prelude.{ℕ, cond, List, Option, Some, None, slice_get}
 use Rattle.body_handles.specs.declared.handle.Handle.{Handle}
 use Rattle.body_handles.specs.declared.slot_table.SlotEntry.{SlotEntry}

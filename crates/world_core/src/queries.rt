@@ -43,6 +43,17 @@ impl WorldCore {
             None => None,
         }
     }
+
+    /// The id of the joint in a slot; `None` where the slot is free or was never used.
+    pub fn joint_in(&self, slot: u32) -> Option<Handle>
+        ensures value { result ≡ handle_in self.now.plain.joint_entries slot }
+        ensures live { IfSome result (λ handle. IsLive self.now.plain.joint_entries handle) }
+    {
+        match self.joint_entries().get(slot as usize) {
+            Some(entry) => handle_of(slot, *entry),
+            None => None,
+        }
+    }
 }
 
 /// The id of what the slot was given out for, if it is taken.

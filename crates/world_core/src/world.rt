@@ -4,6 +4,7 @@ mod bodies;
 mod enabling;
 mod joints;
 mod loading;
+mod reading;
 mod saving;
 mod sleeping;
 mod standing;

@@ -1,4 +1,4 @@
--- The mass and the motion that impulses meet in a body, and the body with the motion that a step has left it.
+-- Trusted: The mass and the motion that impulses meet in a body, and the body with the motion that a step has left it.
 use Rattle.std.specs.Prelude.{cond}
 use Rattle.momenta.specs.declared.mass.MassData.{MassData}
 use Rattle.momenta.specs.declared.motion.Motion.{Motion}

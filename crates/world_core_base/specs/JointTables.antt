@@ -1,4 +1,4 @@
--- What contracts see of a table of joints, and what it keeps beside them.
+-- Trusted: What contracts see of a table of joints, and what it keeps beside them.
 use Rattle.std.specs.Prelude.{ℕ, suc, ◌≤◌, cond, List, [], ◌∷◌, length, Option, IfSome}
 use Rattle.body_handles.specs.declared.slot_table.TheConstants.{MAX_SLOTS}
 use Rattle.packed_sets.specs.Packs.{Packs}

@@ -1,4 +1,4 @@
--- The fat boxes of all bodies that a step may move, made anew where their shapes have left them.
+-- Trusted: The fat boxes of all bodies that a step may move, made anew where their shapes have left them.
 use Rattle.std.specs.Prelude.{cond, List, Option, option_map, map}
 use Rattle.plain_world.specs.declared.body.Body.{Body}
 use Rattle.plain_world.specs.Bodies.{can_move, pose_of}

@@ -1,4 +1,4 @@
--- What a step does to the bodies, the joints and the contacts: passes over the active constraints in solve order and passes over the bodies, and
+-- Trusted: What a step does to the bodies, the joints and the contacts: passes over the active constraints in solve order and passes over the bodies, and
 -- what each adds to the movers' momentum. Bodies and joints stand by slot and contacts by key, and nothing is computed before it is used.
 use Rattle.std.specs.Prelude.{ℕ, zero, suc, ◌==◌, cond, List, [], ◌∷◌, Option, Some, None, option_map, map, fold, pos, ◌+ℤ◌, ◌-ℤ◌, slice_set}
 use Rattle.std.specs.List.{flat_map, slice_get}

@@ -1,25 +1,24 @@
--- Worlds as texts, and why a text or a region is refused.
-use Rattle.std.specs.Prelude.{◌≡◌, ℕ, ◌≤◌, ◌⊎◌, true, false, List, Option, Some, None, Ok, IsUtf8}
+-- Trusted: Worlds as texts, and why a text or a region is refused.
+use Rattle.std.specs.Prelude.{◌≡◌, ℕ, ◌⊎◌, true, false, List, Option, Some, None, Ok, IsUtf8}
 use Rattle.fixed_geom.specs.declared.boxes.Box2.{Box2}
 use Rattle.fixed_geom.specs.declared.refusal.Refusal.{Refusal}
 use Rattle.fixed_geom.specs.declared.refusal.Refusal.TheVariants.{NoMemory, OutOfRange}
+use Rattle.fixed_geom.specs.declared.vectors.Vec2.{Vec2}
+use Rattle.shapes.specs.Rays.{IsBeam, beam_of}
 use Rattle.world_file_base.specs.declared.clause.Broken.{Broken}
 use Rattle.world_file_base.specs.declared.clause.Broken.TheVariants as broken
-use Rattle.serde_json.specs.Data.{Data, depth}
+use Rattle.serde_json.specs.Data.{Data}
 use Rattle.serde_json.specs.Errors.{IsMemory}
-use Rattle.serde_json.specs.Read.{max_depth, read}
+use Rattle.serde_json.specs.Read.{read}
 use Rattle.serde_json.specs.declared.error.Error.{Error}
 use Rattle.world_desk.specs.declared.unread.Unread.{Unread}
 use Rattle.world_desk.specs.declared.unread.Unread.TheVariants as unread
 use Rattle.world_file.specs.Answers.{IsRefusedBy}
 use Rattle.world_file.specs.Files.{read_of}
+use Rattle.world_queries.specs.Filters.{IsDueOrWanting}
 use Rattle.world_queries.specs.Limits.{is_region}
 use Rattle.world_rules.specs.Settled.{settled_world}
 use Rattle.world_rules.specs.World.{World}
-
--- the text is read as this value
-abbrev pub IsText : Data → List ℕ → Type 0
-IsText value text = depth value ≤ max_depth → read text ≡ Some value
 
 -- a world, all settled, that the text's value saves
 pub record IsLoaded (text : List ℕ) (world : World) : Type 0 where
@@ -47,3 +46,11 @@ IsOfError e (unread.Broken b) = b ≡ broken.NoMemory
 -- why a region is refused
 abbrev pub region_refusal : Box2 → Refusal → Type 0
 region_refusal bounds e = ((is_region bounds ≡ false) × (e ≡ OutOfRange)) ⊎ ((is_region bounds ≡ true) × (e ≡ NoMemory))
+
+-- why one that is asked for through a filter is
+abbrev pub filtered_refusal : Box2 → Option Refusal → Refusal → Type 0
+filtered_refusal bounds due e = ((is_region bounds ≡ false) × (e ≡ OutOfRange)) ⊎ ((is_region bounds ≡ true) × IsDueOrWanting due e)
+
+-- why a ray is
+abbrev pub ray_refusal : Vec2 → Vec2 → Option Refusal → Refusal → Type 0
+ray_refusal from along due e = ((¬ IsBeam (beam_of from along)) × (e ≡ OutOfRange)) ⊎ (IsBeam (beam_of from along) × IsDueOrWanting due e)

@@ -1,4 +1,4 @@
--- Bodies as words.
+-- Trusted: Bodies as words.
 use Rattle.std.specs.Prelude.{ℕ, ◌+◌, ◌++◌, List, [], ◌∷◌, Option, Some, None}
 use Rattle.fixed_geom.specs.declared.boxes.Box2.{Box2}
 use Rattle.fixed_geom.specs.declared.vectors.Vec2.{Vec2}

@@ -1,4 +1,4 @@
--- Joints, contacts and colours as words.
+-- Trusted: Joints, contacts and colours as words.
 use Rattle.std.specs.Prelude.{ℕ, zero, suc, ◌++◌, List, [], ◌∷◌}
 use Rattle.body_handles.specs.declared.handle.Handle.{Handle}
 use Rattle.contacts.specs.declared.constraint.Constraint.{Constraint}

@@ -1,4 +1,4 @@
--- A world as words, and its digest.
+-- Trusted: A world as words, and its digest.
 use Rattle.std.specs.Prelude.{ℕ, ◌+◌, ◌++◌, List, [], ◌∷◌}
 use Rattle.graph_colours.specs.declared.limits.TheConstants.{COLOURS}
 use Rattle.impulse_ledger.specs.declared.totals.Total.{Total}

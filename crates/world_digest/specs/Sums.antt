@@ -1,4 +1,4 @@
--- Words of 64 bits, and the four sums that take them in turn.
+-- Trusted: Words of 64 bits, and the four sums that take them in turn.
 use Rattle.std.specs.Prelude.{ℕ, ◌*◌, ◌/◌, ◌%◌, ◌^◌, ◌++◌, Bool, true, false, List, [], ◌∷◌, length, flat_map, Option, Some, None, ℤ, bit_xor}
 use Rattle.std.specs.Int.{cast_unsigned, rotate_left, to_le_bytes, w64, w128}
 use Rattle.world_digest.specs.declared.sums.Sums.{Sums}

@@ -11,3 +11,4 @@ mod sums;
 mod words;
 
 pub use digests::digest;
+pub use sums::factor_in_digits;

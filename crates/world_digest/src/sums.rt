@@ -30,6 +30,12 @@ fn mixed(sum: u64, word: u64) -> u64
     (sum ^ word).wrapping_mul(FACTOR).rotate_left(32)
 }
 
+/// The law of the factor: the number that the definition of a sum takes from the code, in digits. The function does nothing; its contract is
+/// the law.
+pub fn factor_in_digits()
+    ensures { FACTOR ≡ 11400714819323198485 }
+{}
+
 impl Sums {
     /// The sums of no words.
     pub(crate) fn new() -> Sums

@@ -1,4 +1,4 @@
--- What reading a world answers.
+-- Trusted: What reading a world answers.
 use Rattle.std.specs.Prelude.{◌≡◌, Result, Err}
 use Rattle.impulse_ledger.specs.declared.totals.Totals.{Totals}
 use Rattle.plain_world.specs.Plain.{Plain}

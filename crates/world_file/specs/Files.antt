@@ -1,4 +1,4 @@
--- Saved worlds: the value of a world, and the world of a value.
+-- Trusted: Saved worlds: the value of a world, and the world of a value.
 use Rattle.std.specs.Prelude.{ℕ, suc, ◌+◌, List, [], ◌∷◌, map, Option, Some, None, codes, Result, Ok, Err}
 use Rattle.serde_json.specs.Data.{Data}
 use Rattle.contacts.specs.declared.constraint.Constraint.{Constraint}

@@ -1,4 +1,4 @@
--- Whether the parts of a saved world fit together.
+-- Trusted: Whether the parts of a saved world fit together.
 use Rattle.std.specs.Prelude.{ℕ, zero, suc, ◌==◌, ◌&&◌, ◌||◌, ◌++◌, Bool, true, false, not, cond, nat_le, nat_lt, List, [], ◌∷◌, map, slice_get, Option, Some, None, is_some, option_map, unwrap_or}
 use Rattle.std.specs.List.{filter, flat_map, list_all}
 use Rattle.std.specs.Option.{is_none}

@@ -1,4 +1,4 @@
--- What is known of a world that is read of a value, and of what is written of a world.
+-- Trusted: What is known of a world that is read of a value, and of what is written of a world.
 use Rattle.std.specs.Prelude.{◌≡◌, ◌^◌, List, None, Ok}
 use Rattle.serde_json.specs.Data.{Data}
 use Rattle.impulse_ledger.specs.Sums.{totals_of}

@@ -1,4 +1,4 @@
--- What the value of a saved world says, part by part.
+-- Trusted: What the value of a saved world says, part by part.
 use Rattle.std.specs.Prelude.{ℕ, ◌*◌, ◌==◌, ◌^◌, cond, List, Option, Some, None, codes, unwrap_or, ℤ, pos, negsuc, unsigned_abs}
 use Rattle.serde_json.specs.Data.{Data}
 use Rattle.serde_json.specs.Find.{get}

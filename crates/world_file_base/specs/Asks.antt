@@ -1,4 +1,4 @@
--- What is asked of a saved world, and the first clause that it was found to break.
+-- Trusted: What is asked of a saved world, and the first clause that it was found to break.
 use Rattle.std.specs.Prelude.{ℕ, Bool, true, false, cond, nat_lt, List, [], ◌∷◌, Option, Some, None}
 use Rattle.world_file_base.specs.declared.clause.Clause.{Clause}
 use Rattle.world_file_base.specs.declared.clause.Clause.TheVariants.{Form, Limits, Generations, References, FatBoxes, Memberships, Links, Islands, Colours, Momentum}

@@ -1,4 +1,4 @@
--- How the value of a key is read: what it means. What a value that breaks a clause is taken for means nothing.
+-- Trusted: How the value of a key is read: what it means. What a value that breaks a clause is taken for means nothing.
 use Rattle.std.specs.Prelude.{ℕ, ◌-◌, ◌==◌, ◌^◌, Bool, false, cond, nat_le, List, [], Option, Some, None, option_map, option_and_then, is_some, unwrap_or, ℤ, pos, negsuc}
 use Rattle.std.specs.Borrow.{Bor}
 use Rattle.serde_json.specs.Data.{Data, Items, no_items}

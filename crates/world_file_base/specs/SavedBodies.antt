@@ -1,4 +1,4 @@
--- Saved bodies, and what they say of their islands.
+-- Trusted: Saved bodies, and what they say of their islands.
 use Rattle.std.specs.Prelude.{ℕ, ◌&&◌, ◌||◌, Bool, true, false, not, cond, List, [], ◌∷◌, Option, Some, None, codes, is_some, unwrap_or, ℤ, pos, neg_ℤ, unsigned_abs}
 use Rattle.std.specs.Option.{is_none}
 use Rattle.std.specs.Ordering.{int_eq}

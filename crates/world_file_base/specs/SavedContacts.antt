@@ -1,4 +1,4 @@
--- Saved contacts.
+-- Trusted: Saved contacts.
 use Rattle.std.specs.Prelude.{ℕ, ◌^◌, ◌-◌, ◌++◌, List, [], ◌∷◌, Option, Some, None, codes, cond, nat_le, ℤ, pos, unsigned_abs}
 use Rattle.std.specs.Option.{is_none}
 use Rattle.serde_json.specs.Data.{Data, Items, no_items, item, boolean}

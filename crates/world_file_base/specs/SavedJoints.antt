@@ -1,4 +1,4 @@
--- Saved joints.
+-- Trusted: Saved joints.
 use Rattle.std.specs.Prelude.{ℕ, List, [], ◌∷◌, Option, Some, None, codes, pos, neg_ℤ, slice_get, unsigned_abs}
 use Rattle.serde_json.specs.Data.{Data, boolean}
 use Rattle.serde_json.specs.Find.{get}

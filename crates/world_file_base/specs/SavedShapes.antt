@@ -1,4 +1,4 @@
--- The shapes of a saved body, each with its fat box.
+-- Trusted: The shapes of a saved body, each with its fat box.
 use Rattle.std.specs.Prelude.{ℕ, ◌^◌, ◌-◌, List, [], ◌∷◌, Option, Some, None, codes}
 use Rattle.serde_json.specs.Data.{Data, Items, no_items, item, Members, no_members, object}
 use Rattle.serde_json.specs.Find.{get}

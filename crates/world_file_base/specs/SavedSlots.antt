@@ -1,4 +1,4 @@
--- The slots of bodies and of joints.
+-- Trusted: The slots of bodies and of joints.
 use Rattle.std.specs.Prelude.{ℕ, suc, ◌||◌, Bool, false, not, cond, nat_lt, List, [], ◌∷◌, Option, Some, None, codes, is_some, option_and_then, option_map, unwrap_or, ℤ}
 use Rattle.serde_json.specs.Data.{Data, Items, no_items, item, Members, no_members, object, put}
 use Rattle.serde_json.specs.Find.{get}

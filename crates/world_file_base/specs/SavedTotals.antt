@@ -1,4 +1,4 @@
--- The totals of a saved ledger.
+-- Trusted: The totals of a saved ledger.
 use Rattle.std.specs.Prelude.{ℕ, List, [], ◌∷◌, Option, codes, option_and_then}
 use Rattle.serde_json.specs.Data.{Data}
 use Rattle.serde_json.specs.Find.{get}

@@ -1,4 +1,4 @@
--- Ids and numbers as texts.
+-- Trusted: Ids and numbers as texts.
 use Rattle.std.specs.Prelude.{ℕ, ◌==◌, ◌&&◌, ◌^◌, Bool, not, cond, nat_lt, nat_le, List, [], ◌∷◌, length, drop, slice_index, Option, Some, None, option_and_then, unwrap_or, ℤ, pos, unsigned_abs}
 use Rattle.std.specs.List.{list_all}
 use Rattle.std.specs.Str.{bytes_eq}

@@ -1,4 +1,4 @@
--- The versions of the form of a saved world, and the colours that its numbers stand for.
+-- Trusted: The versions of the form of a saved world, and the colours that its numbers stand for.
 use Rattle.std.specs.Prelude.{ℕ, ◌==◌, cond, nat_lt, Option, Some, None}
 use Rattle.serde_json.specs.Data.{Data}
 use Rattle.body_handles.specs.declared.slot_table.TheConstants.{MAX_SLOTS}

@@ -1,4 +1,4 @@
--- How values are written.
+-- Trusted: How values are written.
 use Rattle.std.specs.Prelude.{ℕ, ◌∷◌, List, [], Option, Some, None, ℤ}
 use Rattle.std.specs.Fmt.{signed_decimal}
 use Rattle.serde_json.specs.Data.{Data, Members, array, null, number, put, string, unsigned, no_members, object}

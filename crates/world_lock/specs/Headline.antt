@@ -1,4 +1,4 @@
--- What the headline says of a world whose lock is free, part by part.
+-- Trusted: What the headline says of a world whose lock is free, part by part.
 use Rattle.std.specs.Prelude.{◌≡◌, ℕ, ◌↔◌, true, false, All, Contains, Some, pos, take}
 use Rattle.contacts.specs.Constraints.{constraint_number}
 use Rattle.contacts.specs.declared.constraint.Constraint.{Constraint}

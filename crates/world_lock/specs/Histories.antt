@@ -1,4 +1,4 @@
--- The history of a shared world, and what each call on it tells a seat.
+-- Trusted: The history of a shared world, and what each call on it tells a seat.
 use Rattle.std.specs.Prelude.{◌≡◌, ◌⊎◌, ℕ, suc, ◌+◌, ◌≤◌, ◌<◌, ◌^◌, ◌==◌, ◌||◌, Bool, true, false, All, List, [], ◌∷◌, ◌++◌, Err, length, take, drop, slice_index_or, slice_set, ◌+ℤ◌}
 use Rattle.fixed_geom.specs.declared.refusal.Refusal.{Refusal}
 use Rattle.fixed_geom.specs.declared.refusal.Refusal.TheVariants.{NoMemory}

@@ -1,4 +1,4 @@
--- The journal of a world, and whose replay the world is.
+-- Trusted: The journal of a world, and whose replay the world is.
 use Rattle.std.specs.Prelude.{◌≡◌, ℕ, ◌≤◌, List, [], ◌∷◌, ◌++◌, Result, Ok, Err, length, map, take}
 use Rattle.fixed_geom.specs.declared.refusal.Refusal.{Refusal}
 use Rattle.impulse_ledger.specs.declared.entry.Cause.{Cause}

@@ -1,4 +1,4 @@
--- The tallies of seats: how many calls each made, and what it pushed.
+-- Trusted: The tallies of seats: how many calls each made, and what it pushed.
 use Rattle.std.specs.Prelude.{ℕ, zero, suc, ◌+◌, ◌*◌, ◌^◌, ◌≤◌, ◌==◌, cond, List, [], ◌∷◌, length, ◌+ℤ◌, unsigned_abs}
 use Rattle.fixed_geom.specs.Vectors.{plus, zero_vector}
 use Rattle.fixed_geom.specs.declared.vectors.Vec2.{Vec2}

@@ -3,3 +3,5 @@ pub mod FramedLaws
 pub mod PosedLaws
 pub mod ShownLaws
 pub mod ThroughLaws
+pub mod AllHitsLaws
+pub mod CountLaws

@@ -1,9 +1,9 @@
--- Which shapes of a world a filter lets through.
-use Rattle.std.specs.Prelude.{ℕ, ◌==◌, bit_and, Bool, true, false, not, ◌&&◌, List, filter, Option, Some, None, slice_get}
+-- Trusted: Which shapes of a world a filter lets through.
+use Rattle.std.specs.Prelude.{◌≡◌, ℕ, ◌==◌, bit_and, Bool, true, false, not, ◌&&◌, List, filter, Option, Some, None, slice_get}
 use Rattle.body_handles.specs.declared.handle.Handle.{Handle}
 use Rattle.contacts_base.specs.declared.key.ShapeId.{ShapeId}
 use Rattle.fixed_geom.specs.declared.refusal.Refusal.{Refusal}
-use Rattle.fixed_geom.specs.declared.refusal.Refusal.TheVariants.{StaleHandle}
+use Rattle.fixed_geom.specs.declared.refusal.Refusal.TheVariants.{NoMemory, StaleHandle}
 use Rattle.plain_world.specs.Plain.{Plain}
 use Rattle.plain_world.specs.Slots.{body_at}
 use Rattle.plain_world.specs.declared.body.Body.{Body}
@@ -51,6 +51,10 @@ through test ps = filter (λ p. test p.id) ps
 abbrev pub shapes_through : QueryFilter → List (Option Body) → List PosedShape
 shapes_through f bodies = through (lets_through f bodies) (posed_shapes bodies)
 
+-- those of these names that the filter lets through, in their order
+abbrev pub names_through : QueryFilter → List (Option Body) → List ShapeId → List ShapeId
+names_through f bodies ids = filter (lets_through f bodies) ids
+
 -- ---- filters that are refused
 
 abbrev pub stale_refusal : Option Body → Option Refusal
@@ -64,3 +68,8 @@ without_refusal w (Some h) = stale_refusal (body_named w h)
 -- a filter is refused that leaves out a body which doesn't live
 abbrev pub filter_refusal : Plain → QueryFilter → Option Refusal
 filter_refusal w f = without_refusal w f.without
+
+-- why nothing is found: the refusal that is due, or want of memory where none is
+abbrev pub IsDueOrWanting : Option Refusal → Refusal → Type 0
+IsDueOrWanting None e = e ≡ NoMemory
+IsDueOrWanting (Some due) e = e ≡ due

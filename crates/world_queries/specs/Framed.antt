@@ -1,4 +1,4 @@
--- The shapes that a frame shows: those of its bodies, in the order of their slots.
+-- Trusted: The shapes that a frame shows: those of its bodies, in the order of their slots.
 use Rattle.std.specs.Prelude.{ℕ, List, [], ◌∷◌, ◌++◌, Option, Some, None, option_map, slice_get}
 use Rattle.shapes.specs.declared.shape.ShapeDef.{ShapeDef}
 use Rattle.shape_rays.specs.declared.hits.PosedShape.{PosedShape}

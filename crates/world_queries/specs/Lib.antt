@@ -4,3 +4,7 @@ pub mod Framed
 pub mod Laws
 pub mod Limits
 pub mod Posed
+pub mod Joints
+pub mod OwnContacts
+pub mod Counts
+pub mod AllHits

@@ -1,4 +1,4 @@
--- Which regions a world may be asked about.
+-- Trusted: Which regions a world may be asked about.
 use Rattle.std.specs.Prelude.{Bool, ◌&&◌, int_le, unsigned_abs}
 use Rattle.fixed_geom.specs.Vectors.{is_within}
 use Rattle.fixed_geom.specs.declared.boxes.Box2.{Box2}

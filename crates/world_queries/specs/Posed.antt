@@ -1,4 +1,4 @@
--- The shapes of a world that can be seen: those of its enabled bodies, ascending.
+-- Trusted: The shapes of a world that can be seen: those of its enabled bodies, ascending.
 use Rattle.std.specs.Prelude.{ℕ, suc, cond, List, [], ◌∷◌, ◌++◌, Option, Some, None}
 use Rattle.contacts_base.specs.declared.key.ShapeId.{ShapeId}
 use Rattle.plain_world.specs.declared.body.Body.{Body}

@@ -21,7 +21,7 @@ use shapes::MAX_SHAPES;
 use world_core::WorldCore;
 
 /// The ray's hit on one shape, if the filter lets the shape through.
-fn hit_through(
+pub(crate) fn hit_through(
     world: &WorldCore,
     cast: &RayCast,
     filter: &QueryFilter,

@@ -1,15 +1,18 @@
 //! Regions: which shapes overlap a box (Box2D: `b2World_OverlapAABB`).
 
-ghost use Rattle.std.specs.Prelude.{◌≡◌, [], ◌∷◌, ◌++◌, IfOk, OnOk};
+ghost use Rattle.std.specs.Prelude.{◌≡◌, [], ◌∷◌, ◌++◌, IfErr, IfOk, None, OnOk};
 ghost use Rattle.std.specs.Result.{IsOkUnless};
 ghost use Rattle.plain_world.specs.Slots.{body_at};
 ghost use Rattle.shape_rays.specs.Hits.{IsPosedShape, region};
 ghost use Rattle.world_rules.specs.Sound.{IsSound};
+ghost use Rattle.world_queries.specs.Filters.{IsDueOrWanting, filter_refusal, names_through, shapes_through};
 ghost use Rattle.world_queries.specs.Posed.{shapes_at, posed_shapes};
 
+use crate::filters::QueryFilter;
 use crate::shapes_in::posed_shape;
 use contacts_base::ShapeId;
 use fixed_geom::{Box2, Refusal};
+use plain_world::Body;
 use shape_rays::{PosedShape, is_over};
 use shapes::MAX_SHAPES;
 use std::alloc::Global;
@@ -67,4 +70,40 @@ pub fn region(alloc: Global, world: &WorldCore, bounds: &Box2) -> Result<Vec<Sha
         add_at_slot(&mut found, world, bounds, *slot)?;
     }
     Ok(found)
+}
+
+/// Those of these names that the filter lets through, in their order. Refused 1 where memory is wanting.
+fn names_through(
+    alloc: Global,
+    bodies: &[Option<Body>],
+    filter: &QueryFilter,
+    ids: &[ShapeId],
+) -> Result<Vec<ShapeId>, Refusal>
+    ensures names { IfOk result (λ kept. kept.items ≡ names_through filter.now bodies.now ids.now) }
+    ensures memory_only { IsOkUnless result Refusal.NoMemory }
+{
+    let mut kept = Vec::new(alloc);
+    for id in ids {
+        if filter.lets_through(bodies, *id) {
+            kept.push(*id)?;
+        }
+    }
+    Ok(kept)
+}
+
+/// Those of the shapes over a region, as [`region`] has them, that the filter lets through. Refused 2 where the filter leaves out a body that doesn't live,
+/// else 1 where memory is wanting.
+pub fn filtered_region(
+    alloc: Global,
+    world: &WorldCore,
+    bounds: &Box2,
+    filter: QueryFilter,
+) -> Result<Vec<ShapeId>, Refusal>
+    ensures allowed { OnOk result (filter_refusal world.now.plain filter ≡ None) }
+    ensures shapes { IfOk result (λ found. found.items ≡ region bounds.now (shapes_through filter world.now.plain.bodies)) }
+    ensures why { IfErr result (λ e. IsDueOrWanting (filter_refusal world.now.plain filter) e) }
+{
+    filter.check(world)?;
+    let found = region(alloc, world, bounds)?;
+    Ok(names_through(alloc, world.bodies(), &filter, &found)?)
 }

@@ -1,4 +1,4 @@
--- What each command does to the plain world, as a function.
+-- Trusted: What each command does to the plain world, as a function.
 use Rattle.std.specs.Prelude.{◌≡◌, ℕ, ◌+◌, ◌^◌, Bool, cond, ◌&&◌, ◌==◌, nat_le, nat_lt, List, [], ◌∷◌, ◌++◌, Option, Some, None, Result, Ok, Err, ℤ, pos, neg_ℤ, unsigned_abs, slice_set, unwrap_or, replicate}
 use Rattle.fixed_geom.specs.Facings.{is_facing}
 use Rattle.fixed_geom.specs.Vectors.{cross, is_within, minus, plus, zero_vector}

@@ -1,4 +1,4 @@
--- The collide: which shapes touch, and what begins and ends.
+-- Trusted: The collide: which shapes touch, and what begins and ends.
 use Rattle.std.specs.Prelude.{ℕ, suc, Bool, cond, List, [], ◌∷◌, ◌++◌, Option, Some, None}
 use Rattle.fixed_geom.specs.declared.boxes.Box2.{Box2}
 use Rattle.shapes.specs.declared.pose.Pose.{Pose}

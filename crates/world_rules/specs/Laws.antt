@@ -1,4 +1,4 @@
--- What holds of each accepted command, whichever it is, and what being sound means.
+-- Trusted: What holds of each accepted command, whichever it is, and what being sound means.
 use Rattle.std.specs.Prelude.{◌≡◌, ℕ, ◌+◌, ◌^◌, ◌&&◌, ◌↔◌, Bool, true, false, List, Option, Some, None, All, Contains, Ok, pos, take}
 use Rattle.fixed_geom.specs.Vectors.{IsWithin}
 use Rattle.fixed_geom.specs.declared.vectors.Vec2.{Vec2}

@@ -1,4 +1,4 @@
--- Whole lists of commands, applied one after another.
+-- Trusted: Whole lists of commands, applied one after another.
 use Rattle.std.specs.Prelude.{◌≡◌, ℕ, List, [], ◌∷◌, Result, Ok, Err, take}
 use Rattle.fixed_geom.specs.declared.refusal.Refusal.{Refusal}
 use Rattle.world_rules.specs.declared.command.Command.{Command}

@@ -1,4 +1,4 @@
--- The constraints, islands and colours of a world, taken together: what commands do to them, and the world that they leave.
+-- Trusted: The constraints, islands and colours of a world, taken together: what commands do to them, and the world that they leave.
 use Rattle.std.specs.Prelude.{ℕ, Bool, cond, List}
 use Rattle.contacts.specs.Constraints.{constraint_number}
 use Rattle.contacts.specs.declared.constraint.Constraint.{Constraint}

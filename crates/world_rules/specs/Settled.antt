@@ -1,4 +1,4 @@
--- A world that is made of its plain lists.
+-- Trusted: A world that is made of its plain lists.
 use Rattle.std.specs.Prelude.{[]}
 use Rattle.event_feed.specs.Events.{no_events}
 use Rattle.impulse_ledger.specs.declared.totals.Totals.{Totals}

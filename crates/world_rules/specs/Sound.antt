@@ -1,4 +1,4 @@
--- What each world keeps: what it promises, and how its lists and numbers are formed.
+-- Trusted: What each world keeps: what it promises, and how its lists and numbers are formed.
 use Rattle.std.specs.Prelude.{◌≡◌, ℕ, ◌+◌, ◌*◌, ◌<◌, ◌≤◌, ◌^◌, true, false, List, length, Option, Some, All, is_some, unsigned_abs}
 use Rattle.fixed_geom.specs.Vectors.{IsWithin}
 use Rattle.impulse_ledger.specs.declared.entry.Cause.{Cause}

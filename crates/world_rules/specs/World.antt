@@ -1,4 +1,4 @@
--- What contracts see of a world.
+-- Trusted: What contracts see of a world.
 use Rattle.std.specs.Prelude.{List, Option}
 use Rattle.body_handles.specs.declared.handle.Handle.{Handle}
 use Rattle.impulse_ledger.specs.declared.entry.Entry.{Entry}

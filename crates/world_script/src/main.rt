@@ -3,6 +3,8 @@
 //! statuses.
 #![tactic(auto)]
 
+ghost use Rattle.std.specs.Prelude.{◌<◌};
+
 use script_engine::{Status, run};
 use script_options::{Instead, Options, options};
 use std::io::{BufReader, BufWriter};
@@ -15,12 +17,32 @@ use std::{env, io};
 /// How many bytes are read at once. Answers are written before each read, so that a larger number saves writes too.
 const READ_AHEAD: usize = 65_536;
 
+/// How many bytes of the stack a run touches before it reads a line. A request needs less.
+const STACK: usize = 262_144;
+
+/// The bytes between two touches, at most a page.
+const STRIDE: usize = 4_096;
+
+/// Touches the stack as far as requests will need it. Later a limit of all memory would leave it no room to grow, and the system would end the
+/// program by a signal. The answer depends on all that was written, so that no compiler leaves the writes out.
+#[inline(never)]
+fn touch_stack(seed: usize) -> usize
+    ensures { result < 256 }
+{
+    let mut stack = [0_u8; STACK];
+    for touch in 0..STACK / STRIDE {
+        stack[touch * STRIDE] = (seed % 256) as u8;
+    }
+    usize::from(stack[seed % STACK])
+}
+
 /// Answers standard input on standard output.
 fn serve<R: AllocGlobal + Input + Print + Eprint + Threads + Wait + Sync>(
     rt: &R,
     options: Options,
 ) -> Status {
-    let Ok(mut reader) = BufReader::with_capacity(rt.alloc(), READ_AHEAD, rt.reader()) else {
+    let read_ahead = READ_AHEAD + touch_stack(options.threads as usize);
+    let Ok(mut reader) = BufReader::with_capacity(rt.alloc(), read_ahead, rt.reader()) else {
         return Status::NoMemory;
     };
     let Ok(mut writer) = BufWriter::new(rt.alloc(), io::writer(rt)) else {

@@ -1,10 +1,10 @@
 -- What a step by workers is due, from the tests that are made before it.
 use Rattle.std.proofs.Common.{◌≡◌, ℕ, ℤ, ◌<◌, ◌^◌, Bool, true, false, pos, unsigned_abs, Result, Ok, Err, arith, refl, inl}
-use Rattle.std.specs.Prelude.{◌&&◌, cond, nat_le, nat_lt}
+use Rattle.std.specs.Prelude.{◌&&◌, MatchBool, cond, nat_le, nat_lt}
 use Rattle.std.proofs.lemmas.Bool.Decides.{nat_tests}
 use Rattle.fixed_geom.specs.declared.refusal.Refusal.{Refusal}
 use Rattle.fixed_geom.specs.declared.refusal.Refusal.TheVariants.{OutOfRange, WornOut}
-use Rattle.crew.specs.Refusals.{IsStartRefusal}
+use Rattle.crew.specs.Refusals.{IsStartRefusal, MayRefuseStart, are_workers}
 use Rattle.shapes.specs.Shapes.{is_between}
 use Rattle.plain_world.specs.Plain.{Plain}
 use Rattle.world_rules.specs.Apply.{Answers, Applied, apply, step_done}
@@ -63,12 +63,20 @@ due_long workers p ticks h k =
 
 -- ---- a start of threads that is refused
 
+within_by : (b : Bool) (e : Refusal) → b ≡ true → MatchBool b (IsStartRefusal e) (e ≡ OutOfRange) → IsStartRefusal e
+within_by true e h may = may
+within_by false e h may = absurd (cc h)
+
+-- the workers of a step are as many as a crew may have
+within : (workers : ℕ) (e : Refusal) → are_workers workers ≡ true → MayRefuseStart workers e → IsStartRefusal e
+within workers e = within_by (are_workers workers) e
+
 wanted_by : (t b : Bool) (a : Applied) (w : World) (e : Refusal) → t ≡ true → b ≡ true → IsStartRefusal e → AnswersByThreads (cond t (cond b (Ok a) (Err OutOfRange)) (Err WornOut)) w (Err e) w
 wanted_by true true a w e h k is = (is, refl)
 wanted_by true false a w e h k is = absurd (cc k)
 wanted_by false b a w e h k is = absurd (cc h)
 
-pub wanted : (w : World) (ticks : ℤ) (e : Refusal) → w.plain.calls < 2 ^ 40 → is_between (pos 1) (pos 8) ticks ≡ true → IsStartRefusal e → AnswersByThreads (apply w.plain (Step ticks)) w (Err e) w
-wanted w ticks e h k is =
+pub wanted : (w : World) (ticks : ℤ) (workers : ℕ) (e : Refusal) → w.plain.calls < 2 ^ 40 → is_between (pos 1) (pos 8) ticks ≡ true → are_workers workers ≡ true → MayRefuseStart workers e → AnswersByThreads (apply w.plain (Step ticks)) w (Err e) w
+wanted w ticks workers e h k range may =
     let accepted : nat_lt w.plain.calls (2 ^ 40) ≡ true = grind (arith, nat_tests) in
-    wanted_by (nat_lt w.plain.calls (2 ^ 40)) (is_between (pos 1) (pos 8) ticks) (step_done w.plain (unsigned_abs ticks) (collided w.plain.bodies w.plain.joints w.plain.contacts)) w e accepted k is
+    wanted_by (nat_lt w.plain.calls (2 ^ 40)) (is_between (pos 1) (pos 8) ticks) (step_done w.plain (unsigned_abs ticks) (collided w.plain.bodies w.plain.joints w.plain.contacts)) w e accepted k (within workers e range may)

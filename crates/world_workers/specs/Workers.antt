@@ -1,4 +1,4 @@
--- What a step by so many workers is due, and what it may answer.
+-- Trusted: What a step by so many workers is due, and what it may answer.
 use Rattle.std.specs.Prelude.{◌≡◌, ℕ, ℤ, ◌^◌, ◌&&◌, cond, nat_le, nat_lt, Result, Ok, Err}
 use Rattle.fixed_geom.specs.declared.refusal.Refusal.{Refusal}
 use Rattle.fixed_geom.specs.declared.refusal.Refusal.TheVariants.{OutOfRange, WornOut}

@@ -1,11 +1,13 @@
 //! Steps of a world by workers.
 //!
-//! `step_with` starts its workers for one step and joins them. `step_with_memory` lets them go on with what those of the step before left. An
-//! `IslandCrew` keeps them for any number of steps, beside the world: pass it to `WorldCore::step_by`, or to the step of a world that is shared.
+//! `step_with` starts its workers for one step and joins them. `StepWorkers` starts them at the first step that is worth them, and keeps them for
+//! those that follow. An `IslandCrew` alone is a solver, for `WorldCore::step_by` and for the step of a world that is shared.
 #![tactic(auto)]
 
+mod step_workers;
 mod steps;
 
 pub use crew::{Gate, OpenGate};
 pub use island_solver::{IslandCrew, IslandMemory};
-pub use steps::{step_with, step_with_memory};
+pub use step_workers::StepWorkers;
+pub use steps::step_with;

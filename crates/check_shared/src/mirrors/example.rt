@@ -1,24 +1,16 @@
 //! The worked example: two readers, one of which is told of what is published.
 
 use crate::calls::{Called, Reads, Shows, Told};
+use crate::mirrors::untold::{BELOW, Look, UPWARDS, is_found};
 use check_scenes::FIRST;
 use std::alloc::Global;
 use std::fmt::Write;
 use std::sync::Wait;
 use world_core::{Command, Refusal, Vec2};
 
-/// How often a reader that was told nothing looks at most.
-const LOOKS: u64 = 1000;
-
 const LOW: Vec2 = Vec2 { x: 0, y: -157 };
 
 const HIGH: Vec2 = Vec2 { x: 2, y: -157 };
-
-/// Where the ray from below starts.
-pub const BELOW: Vec2 = Vec2 { x: 0, y: -131_072 };
-
-/// The ray's way.
-pub const UPWARDS: Vec2 = Vec2 { x: 0, y: 131_072 };
 
 fn call<T: Drop, S: Called<T>, R: Wait>(
     rt: &R,
@@ -84,15 +76,6 @@ fn write_shapes<K, D: Reads<K>>(
     Ok(())
 }
 
-/// Lets a reader that was told nothing look until it shows the push.
-fn look_often<K, D: Reads<K>>(reader: &mut D) {
-    for _ in 0..LOOKS {
-        if reader.total().x == 512 {
-            return;
-        }
-    }
-}
-
 /// The reader learns a copy of the other's mark.
 fn pass_on<K: Told, D: Reads<K>>(from: &D, to: &mut D) -> Result<(), Refusal> {
     let mark = from.seen()?;
@@ -150,7 +133,8 @@ pub fn read_on<K: Told, D: Reads<K>>(
     reader: &mut D,
     untold: &mut D,
 ) -> Result<(), Refusal> {
-    look_often(untold);
+    let published = reader.seen()?.shown().calls;
+    let _ = is_found(alloc, Look::Total, untold, published)?;
     write_reader(told, "untold", untold)?;
     write_shapes(told, alloc, reader)?;
     pass_on(reader, untold)?;

@@ -1,7 +1,8 @@
 //! Calls of a mirror to which memory may be refused.
 
 use crate::calls::{Called, Reads, Shows, Told};
-use crate::mirrors::example::{BELOW, UPWARDS, push};
+use crate::mirrors::example::push;
+use crate::mirrors::untold::{BELOW, Look, UPWARDS, is_found};
 use check_scenes::{CallMark, FIRST, ORIGIN};
 use std::alloc::Global;
 use std::sync::Wait;
@@ -100,6 +101,18 @@ fn is_kept<S, T, K: Told, P: Shows<S, T, K>, D: Reads<K>>(
     Ok(published == OPENED && shown == OPENED && total == NOTHING)
 }
 
+/// Whether a reader that was told nothing finds the frame that the call published, if it was one that publishes.
+fn is_shown<K: Told, D: Reads<K>>(
+    alloc: Global,
+    call: Call,
+    reader: &mut D,
+) -> Result<bool, Refusal> {
+    match call {
+        Call::Publish => is_found(alloc, Look::Total, reader, OPENED + 1),
+        _ => Ok(true),
+    }
+}
+
 /// Whether a frame can be published, and a reader that is told of it shows it.
 fn is_published<S: Called<T>, T: Drop, K: Told, P: Shows<S, T, K>, D: Reads<K>, R: Wait>(
     rt: &R,
@@ -147,6 +160,9 @@ pub fn try_call<S: Called<T>, T: Drop, K: Told, P: Shows<S, T, K>, D: Reads<K>, 
         }
         let again = is_answered(rt, alloc, call, shared, seat, publisher, reader, &told);
         outcome = told_of(again, "kept");
+    }
+    if !is_shown(alloc, call, reader)? {
+        return Ok("differs: a frame that was published isn't found");
     }
     if !is_published(rt, shared, seat, publisher, reader)? {
         return Ok("differs: a later frame");

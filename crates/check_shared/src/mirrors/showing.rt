@@ -4,9 +4,10 @@ ghost use Rattle.std.specs.Prelude.{◌≡◌};
 
 use crate::calls::{Called, Reads, Shared, Shows, Told, give_back};
 use crate::mirrors::crowd::{Letters, race};
-use crate::mirrors::example::{publish_first, publish_second, read_on};
+use crate::mirrors::example::{publish_first, publish_second, push, read_on};
 use crate::mirrors::refused::{Call, try_call};
 use crate::mirrors::timing::{time_frames, time_poses, time_readers};
+use crate::mirrors::untold::{READERS, write_found};
 use crate::shared::{Round, RoundWork, race as race_round};
 use check_scenes::World;
 use frame_mirror::{Absorb, Change, Mark, Mirrored, Publisher, Reader, Showing};
@@ -28,6 +29,8 @@ const CROWD: usize = 4;
 pub enum MirrorWork {
     /// The worked example, with two readers.
     Example,
+    /// Readers that are told nothing, while two frames are published.
+    Untold,
     /// Readers on threads of their own.
     Crowd,
     /// One call, while memory may be refused to it.
@@ -45,6 +48,7 @@ impl MirrorWork {
     pub fn readers(self) -> usize {
         match self {
             MirrorWork::Example => 2,
+            MirrorWork::Untold => READERS,
             MirrorWork::Crowd => CROWD,
             MirrorWork::Try(_) => 1,
             MirrorWork::Time(_) => 1,
@@ -143,6 +147,27 @@ where
     publish_first(rt, &mut told, shared, seat, publisher, &mut reader)?;
     try_second(rt, &mut told, alloc, reference, publisher, &mut reader)?;
     read_on(&mut told, alloc, &mut reader, &mut untold)?;
+    Ok(told)
+}
+
+/// Two frames are published, and after each the readers look.
+fn show_untold<N: Opened, J: Mirrored, R: Wait>(
+    rt: &R,
+    alloc: Global,
+    shared: &SharedWorld<N>,
+    seat: &mut Seat<N>,
+    publisher: &mut Publisher<J>,
+    mut readers: Vec<Reader<J>>,
+) -> Result<String, Refusal>
+where
+    Showing<Mark<J>>: Absorb<Change<Mark<J>>, State = ()>,
+{
+    let mut told = String::new(alloc);
+    for _ in 0..2 {
+        push(rt, shared, seat)?;
+        let calls = publisher.publish(rt, shared, seat)?;
+        write_found(&mut told, alloc, readers.as_mut_slice(), calls)?;
+    }
     Ok(told)
 }
 
@@ -279,6 +304,7 @@ where
 {
     match work {
         MirrorWork::Example => show_example(rt, alloc, shared, seat, publisher, readers, reference),
+        MirrorWork::Untold => show_untold(rt, alloc, shared, seat, publisher, readers),
         MirrorWork::Crowd => show_crowd(rt, alloc, shared, seat, publisher, readers),
         MirrorWork::Try(Call::Open) => Ok(String::new(alloc)),
         MirrorWork::Try(call) => show_trial(rt, alloc, call, shared, seat, publisher, readers),

@@ -2,7 +2,7 @@
 
 use crate::whole_world::WholeWorld;
 use crate::workers::gates::Meeting;
-use crate::workers::steps::{step_by_next_workers, step_by_workers};
+use crate::workers::steps::{step_by_kept_workers, step_by_workers};
 use check_scenes::{Piles, Stop, World, Worlds, text_of};
 use crew::{Gate, OpenGate};
 use crew_solver::StepCrew;
@@ -10,49 +10,17 @@ use std::alloc::Global;
 use std::sync::Wait;
 use std::thread;
 use std::thread::{Scope, Threads};
-use world_core::{Refusal, Reply, StepSolver, WorldCore};
-use world_workers::IslandMemory;
+use world_core::{Refusal, StepSolver};
+use world_workers::StepWorkers;
 
 /// How many ticks each step has.
 const TICKS: i64 = 4;
 
-/// Workers that are started for each step.
-#[derive(Clone, Copy)]
-struct Workers {
-    count: u64,
-    /// Whether they go on with what those of the step before left.
-    remember: bool,
-}
+/// How many workers make all steps, started for each.
+const STARTED: [u64; 4] = [1, 2, 3, 64];
 
-/// Which workers make all steps.
-const WORKERS: [Workers; 5] = [
-    Workers {
-        count: 1,
-        remember: false,
-    },
-    Workers {
-        count: 2,
-        remember: false,
-    },
-    Workers {
-        count: 3,
-        remember: false,
-    },
-    Workers {
-        count: 64,
-        remember: false,
-    },
-    Workers {
-        count: 3,
-        remember: true,
-    },
-];
-
-/// Two that are started anew for each step.
-const TWO: Workers = Workers {
-    count: 2,
-    remember: false,
-};
+/// How many make all steps that stay from the first one on.
+const STAYING: u64 = 3;
 
 /// How many steps are made by workers that stay.
 const FEW: usize = 3;
@@ -87,32 +55,16 @@ fn restart<W: World>(worlds: &mut Worlds<W>) -> Result<(), Refusal> {
     }
 }
 
-/// Makes a step by workers.
-fn make_step<R: AllocGlobal + Threads + Wait + Sync, G: Gate + Sync>(
-    rt: &R,
-    gate: &G,
-    world: &mut WorldCore,
-    memory: &mut IslandMemory,
-    workers: Workers,
-) -> Result<Reply, Refusal> {
-    if workers.remember {
-        step_by_next_workers(rt, gate, world, memory, workers.count, TICKS)
-    } else {
-        step_by_workers(rt, gate, world, workers.count, TICKS)
-    }
-}
-
 /// Whether each step by workers that are started for it leaves what one thread leaves.
 fn are_steps_with<R: AllocGlobal + Threads + Wait + Sync, G: Gate + Sync, W: WholeWorld>(
     rt: &R,
     gate: &G,
     world: &mut W,
-    workers: Workers,
+    workers: u64,
     after: &[String],
 ) -> Result<bool, Refusal> {
-    let mut memory = IslandMemory::new(rt.alloc());
     for text in after {
-        let _ = make_step(rt, gate, world.core(), &mut memory, workers)?;
+        let _ = step_by_workers(rt, gate, world.core(), workers, TICKS)?;
         if !is_text(rt.alloc(), world, text.as_str())? {
             return Ok(false);
         }
@@ -125,11 +77,55 @@ fn are_alike<R: AllocGlobal + Threads + Wait + Sync, G: Gate + Sync, W: WholeWor
     rt: &R,
     gate: &G,
     worlds: &mut Worlds<W>,
-    workers: Workers,
+    workers: u64,
     after: &[String],
 ) -> Result<bool, Refusal> {
     restart(worlds)?;
     are_steps_with(rt, gate, &mut worlds.world, workers, after)
+}
+
+/// Whether each step by workers that stay leaves what one thread leaves.
+fn are_kept_steps<'s, 'e, E, R: Threads + Wait + Sync, G: Gate + Sync, W: WholeWorld>(
+    alloc: Global,
+    workers: &mut StepWorkers<'s, 'e, E, R, G>,
+    world: &mut W,
+    after: &[String],
+) -> Result<bool, Refusal> {
+    for text in after {
+        let _ = step_by_kept_workers(workers, world.core(), TICKS)?;
+        if !is_text(alloc, world, text.as_str())? {
+            return Ok(false);
+        }
+    }
+    Ok(true)
+}
+
+/// The same, by workers that are ended then.
+fn are_steps_in<'s, E, R: Threads + Wait + Sync, G: Gate + Sync, W: WholeWorld>(
+    scope: &Scope<'s, E>,
+    rt: &'s R,
+    alloc: Global,
+    gate: &'s G,
+    world: &mut W,
+    after: &[String],
+) -> Result<bool, Refusal> {
+    let mut workers = StepWorkers::new(scope, rt, alloc, gate, STAYING);
+    let are_same = are_kept_steps(alloc, &mut workers, world, after);
+    workers.end();
+    are_same
+}
+
+/// The same from the beginning.
+fn are_alike_kept<R: AllocGlobal + Threads + Wait + Sync, W: WholeWorld>(
+    rt: &R,
+    worlds: &mut Worlds<W>,
+    after: &[String],
+) -> Result<bool, Refusal> {
+    restart(worlds)?;
+    let alloc = rt.alloc();
+    thread::scope(thread::scope_env(), rt, |scope| {
+        are_steps_in(scope, rt, alloc, &OpenGate, &mut worlds.world, after)
+    })
 }
 
 /// Whether each step by this solver leaves what one thread leaves.
@@ -192,16 +188,8 @@ fn are_alike_by_crew<W: WholeWorld, R: Threads + Wait + Sync, G: Gate + Sync>(
     })
 }
 
-fn print_workers<R: Print>(
-    rt: &R,
-    name: &str,
-    workers: Workers,
-    are_same: bool,
-) -> Result<(), Stop> {
-    let (count, remember) = (workers.count, workers.remember);
-    println!(rt;
-        "{name}, workers started for each step: {count}, remembering: {remember}, the same steps: {are_same}"
-    )?;
+fn print_workers<R: Print>(rt: &R, name: &str, workers: u64, are_same: bool) -> Result<(), Stop> {
+    println!(rt; "{name}, workers started for each step: {workers}, the same steps: {are_same}")?;
     Ok(())
 }
 
@@ -219,17 +207,19 @@ fn print_meeting<R: Print>(
     Ok(())
 }
 
-/// Makes all steps by workers that are started for each.
+/// Makes all steps by workers that are started for each, and by some that stay.
 fn check_workers<R: AllocGlobal + Print + Threads + Wait + Sync, W: WholeWorld>(
     rt: &R,
     name: &str,
     worlds: &mut Worlds<W>,
     after: &[String],
 ) -> Result<(), Stop> {
-    for workers in WORKERS {
+    for workers in STARTED {
         let are_same = are_alike(rt, &OpenGate, worlds, workers, after)?;
         print_workers(rt, name, workers, are_same)?;
     }
+    let are_same = are_alike_kept(rt, worlds, after)?;
+    println!(rt; "{name}, workers that stay: {STAYING}, the same steps: {are_same}")?;
     Ok(())
 }
 
@@ -240,7 +230,7 @@ fn check_meeting<R: AllocGlobal + Print + Threads + Wait + Sync, W: WholeWorld>(
     after: &[String],
 ) -> Result<(), Stop> {
     let meeting = Meeting::new();
-    let are_same = are_alike(rt, &meeting, worlds, TWO, after)?;
+    let are_same = are_alike(rt, &meeting, worlds, 2, after)?;
     print_meeting(rt, "two piles", are_same, &meeting)
 }
 

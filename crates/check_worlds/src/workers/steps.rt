@@ -4,7 +4,7 @@ use crew::Gate;
 use std::sync::Wait;
 use std::thread::Threads;
 use world_core::{Refusal, Reply, WorldCore};
-use world_workers::{IslandMemory, step_with, step_with_memory};
+use world_workers::{StepWorkers, step_with};
 
 /// A step by workers that are started for it.
 pub fn step_by_workers<R: AllocGlobal + Threads + Wait + Sync, G: Gate + Sync>(
@@ -17,14 +17,11 @@ pub fn step_by_workers<R: AllocGlobal + Threads + Wait + Sync, G: Gate + Sync>(
     step_with(world, rt, gate, workers, ticks)
 }
 
-/// The same, by workers who go on with what those before them left.
-pub fn step_by_next_workers<R: AllocGlobal + Threads + Wait + Sync, G: Gate + Sync>(
-    rt: &R,
-    gate: &G,
+/// A step by workers that stay.
+pub fn step_by_kept_workers<'s, 'e, E, R: Threads + Wait + Sync, G: Gate + Sync>(
+    workers: &mut StepWorkers<'s, 'e, E, R, G>,
     world: &mut WorldCore,
-    memory: &mut IslandMemory,
-    workers: u64,
     ticks: i64,
 ) -> Result<Reply, Refusal> {
-    step_with_memory(world, memory, rt, gate, workers, ticks)
+    workers.step(world, ticks)
 }

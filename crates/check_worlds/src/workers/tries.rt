@@ -46,18 +46,18 @@ impl Call {
 enum Verdict {
     /// It was answered what it was due, and has left what it was to leave.
     AsDue,
-    /// Memory or a thread was refused, and nothing has changed.
-    Refused,
+    /// Memory or a thread was refused, and nothing has changed. It is told by this word, if the call succeeds once more.
+    Refused(&'static str),
     /// This differs from what was to come.
     Differs(&'static str),
 }
 
-/// Whether a call was refused for want of memory or of a thread.
-fn is_wanting(answer: Result<Reply, Refusal>) -> bool {
+/// What is told of a call that was refused for want of memory or of a thread.
+fn word_of_want(answer: Result<Reply, Refusal>) -> Option<&'static str> {
     match answer {
-        Err(Refusal::NoMemory) => true,
-        Err(Refusal::NoThread) => true,
-        _ => false,
+        Err(Refusal::NoMemory) => Some("kept"),
+        Err(Refusal::NoThread) => Some("unstarted"),
+        _ => None,
     }
 }
 
@@ -82,10 +82,10 @@ fn judge<W: WholeWorld>(
     answer: Result<Reply, Refusal>,
     worlds: &mut Worlds<W>,
 ) -> Result<Verdict, Refusal> {
-    if is_wanting(answer) {
+    if let Some(word) = word_of_want(answer) {
         let are_same = are_same(alloc, worlds)?;
         let told = "differs: the world after the refused call";
-        return Ok(verdict_by(are_same, Verdict::Refused, told));
+        return Ok(verdict_by(are_same, Verdict::Refused(word), told));
     }
     if answer != call.due(&mut worlds.reference) {
         return Ok(Verdict::Differs("differs: the answer"));
@@ -106,11 +106,11 @@ fn attempt<R: AllocGlobal + Threads + Wait + Sync>(
     answer
 }
 
-/// What is told of a call that was made again.
-fn told_again(verdict: Verdict) -> &'static str {
+/// What is told of a call that was refused, of which this word is told if it succeeds once more.
+fn told_again(verdict: Verdict, word: &'static str) -> &'static str {
     match verdict {
-        Verdict::AsDue => "kept",
-        Verdict::Refused => "differs: it is refused again",
+        Verdict::AsDue => word,
+        Verdict::Refused(_) => "differs: it is refused again",
         Verdict::Differs(told) => told,
     }
 }
@@ -124,17 +124,18 @@ fn try_twice<R: AllocGlobal + Threads + Wait + Sync, W: WholeWorld>(
     let answer = attempt(rt, call, worlds.world.core());
     match judge(rt.alloc(), call, answer, worlds)? {
         Verdict::AsDue => Ok("none"),
-        Verdict::Refused => {
+        Verdict::Refused(word) => {
             let answer = attempt(rt, call, worlds.world.core());
             let verdict = judge(rt.alloc(), call, answer, worlds)?;
-            Ok(told_again(verdict))
+            Ok(told_again(verdict, word))
         }
         Verdict::Differs(told) => Ok(told),
     }
 }
 
-/// Makes a call in a world while memory or threads may be refused to it. Tells `kept` where a refused call left everything as it was and then
-/// succeeded, `none` where it met no refusal, `outside` where something beside it met one, and else what differs.
+/// Makes a call in a world while memory or threads may be refused to it. Tells `kept` where a call that was refused memory left everything as it
+/// was and then succeeded, `unstarted` where it was refused a thread, `none` where it met no refusal, `outside` where something beside it met one,
+/// and else what differs.
 pub fn word_of_try<R: AllocGlobal + Threads + Wait + Sync, W: WholeWorld>(
     rt: &R,
     call: Call,

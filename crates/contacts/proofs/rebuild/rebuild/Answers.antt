@@ -3,6 +3,7 @@ use Rattle.std.specs.List.{filter_map}
 use Rattle.contacts_base.specs.declared.key.ContactKey.{ContactKey}
 use Rattle.contacts_base.specs.Contacts.{number_of}
 use Rattle.contacts_base.specs.Keys.{key_number}
+use Rattle.contacts_base.specs.ShortLists.{counted_in}
 use Rattle.contacts_base.specs.Merge.{AreAscending, merged}
 use Rattle.contacts.specs.Changes.{key_if_new}
 use Rattle.contacts.specs.Fates.{moved_by}
@@ -19,7 +20,7 @@ merge-requires-clause-first g c = new_keys_ascend c.args.fresh.now _ c.requires.
 pub merge-requires-clause-second : goal.merge-requires-clause-second
 merge-requires-clause-second g c =
     subst (AreAscending key_number) (sym (c.deref-2.ensures.value ∙ c.in_ok-survivors.ensures.begin))
-    (begun_ascend (moved_by c.args.collide.now.marks.now) (g.F.ForbiddenPairs.pairs c.args.collide.now.forbidden.now) (g.S.ShapesById.proxies c.args.collide.now.shapes.now) c.args.old.now c.requires.old.rising)
+    (begun_ascend (moved_by c.args.collide.now.marks.now) (g.F.ForbiddenPairs.pairs c.args.collide.now.forbidden.now) (g.S.ShapesById.proxies c.args.collide.now.shapes.now) (counted_in c.args.old.now) c.requires.old.rising)
 
 pub returns-clause-rebuilt : goal.returns-clause-rebuilt
 returns-clause-rebuilt g c = record {

@@ -1,11 +1,12 @@
-use Rattle.std.proofs.Common.{List, None, Some, refl, subst, sym}
-use Rattle.std.specs.Prelude.{All, IfOk}
+use Rattle.std.proofs.Common.{List, None, Some, subst, sym}
+use Rattle.std.specs.Prelude.{All}
 use Rattle.contacts_base.specs.declared.contact.ContactEntry.{ContactEntry}
+use Rattle.contacts_base.specs.ShortLists.{counted_in}
 use Rattle.contacts.specs.declared.pending_update.Touches.{Touches}
 use Rattle.contacts.specs.Known.{IsPairKey}
 use Rattle.contacts.specs.Looked.{IsDone, IsRebuilt}
 use Rattle.contacts.specs.Fates.{moved_by}
-use Rattle.contacts.proofs.JoinLaws.{done_both, done_long, fresh_rises, gone_none, gone_some, if_ok_both, long_pairs, on_ok_known, rebuilt_none, rebuilt_some, short_pairs, touches_ascend}
+use Rattle.contacts.proofs.JoinLaws.{done_both, done_long, fresh_rises, gone_none, gone_some, if_ok_both, long_pairs, on_ok_known, rebuilt_contacts, rebuilt_none, rebuilt_some, short_pairs, touches_ascend}
 use Rattle.contacts.proofs.update.update_lists.Given
 use Rattle.contacts.proofs.update.update_lists.Goals as goal
 
@@ -26,25 +27,33 @@ done_none g c =
     let ps = g.S.ShapesById.proxies c.args.collide.now.shapes.now in
     let moved = moved_by c.args.collide.now.marks.now in
     done_long moved pairs ps c.args.old.now _ _ c.args.fresh.now _ _ c.requires.shapes c.know_ascending.ensures.long c.know_ascending.ensures.short c.know_ascending.ensures.contacts c.requires.known c.requires.fresh c.in_ok-touches.ensures.looked
-    (rebuilt_none moved pairs ps c.args.old.now.short c.short.result.now c.args.fresh.now _ c.short.ensures.value c.in-None.is c.in_ok-rebuilt.ensures.rebuilt)
+    (rebuilt_none moved pairs ps c.args.old.now.short (counted_in c.short.result.now) c.args.fresh.now _ c.short.ensures.value c.in-None.is c.in_ok-rebuilt.ensures.rebuilt)
 
 pub returns-in-None-clause-done : goal.returns-in-None-clause-done
 returns-in-None-clause-done g c = done_none g c
 
 pub returns-in-None-clause-gone : goal.returns-in-None-clause-gone
-returns-in-None-clause-gone g c = gone_none (moved_by c.args.collide.now.marks.now) (g.F.ForbiddenPairs.pairs c.args.collide.now.forbidden.now) (g.S.ShapesById.proxies c.args.collide.now.shapes.now) c.args.old.now.short c.short.result.now _ _ c.short.ensures.value c.in-None.is c.clear.ensures.items c.in_ok-rebuilt.ensures.gone
+returns-in-None-clause-gone g c = gone_none (moved_by c.args.collide.now.marks.now) (g.F.ForbiddenPairs.pairs c.args.collide.now.forbidden.now) (g.S.ShapesById.proxies c.args.collide.now.shapes.now) c.args.old.now.short (counted_in c.short.result.now) _ _ c.short.ensures.value c.in-None.is c.clear.ensures.items c.in_ok-rebuilt.ensures.gone
 
 pub returns-in-None-clause-ended : goal.returns-in-None-clause-ended
 returns-in-None-clause-ended g c = c.in_ok-touches.ensures.looked.gone_is
 
 -- ---- it is made anew
 
+pub from_entries-requires : goal.from_entries-requires
+from_entries-requires g c =
+    let pairs = g.F.ForbiddenPairs.pairs c.args.collide.now.forbidden.now in
+    let ps = g.S.ShapesById.proxies c.args.collide.now.shapes.now in
+    let moved = moved_by c.args.collide.now.marks.now in
+    rebuilt_contacts moved pairs ps c.args.old.now _ _ c.args.fresh.now c.in-Some.rebuilt.all.items _ _ _ _ c.requires.shapes c.know_ascending.ensures.contacts c.requires.known c.requires.fresh c.in_ok-touches.ensures.looked
+    (rebuilt_some moved pairs ps c.args.old.now.short (counted_in c.short.result.now) c.args.fresh.now _ c.in-Some.rebuilt c.short.ensures.value c.in-Some.is c.in_ok-rebuilt.ensures.rebuilt)
+
 pub join_touches-requires-clause-long_begin : goal.join_touches-requires-clause-long_begin
 join_touches-requires-clause-long_begin g c =
     let pairs = g.F.ForbiddenPairs.pairs c.args.collide.now.forbidden.now in
     let ps = g.S.ShapesById.proxies c.args.collide.now.shapes.now in
     let moved = moved_by c.args.collide.now.marks.now in
-    let new = rebuilt_some moved pairs ps c.args.old.now.short c.short.result.now c.args.fresh.now _ c.in-Some.rebuilt c.short.ensures.value c.in-Some.is c.in_ok-rebuilt.ensures.rebuilt in
+    let new = rebuilt_some moved pairs ps c.args.old.now.short (counted_in c.short.result.now) c.args.fresh.now _ c.in-Some.rebuilt c.short.ensures.value c.in-Some.is c.in_ok-rebuilt.ensures.rebuilt in
     (touches_ascend moved pairs ps c.args.old.now _ _ c.args.fresh.now _ _ _ _ _ c.requires.shapes c.know_ascending.ensures.long c.know_ascending.ensures.short c.requires.fresh c.in_ok-touches.ensures.looked new).first
 
 pub join_touches-requires-clause-long_end : goal.join_touches-requires-clause-long_end
@@ -52,7 +61,7 @@ join_touches-requires-clause-long_end g c =
     let pairs = g.F.ForbiddenPairs.pairs c.args.collide.now.forbidden.now in
     let ps = g.S.ShapesById.proxies c.args.collide.now.shapes.now in
     let moved = moved_by c.args.collide.now.marks.now in
-    let new = rebuilt_some moved pairs ps c.args.old.now.short c.short.result.now c.args.fresh.now _ c.in-Some.rebuilt c.short.ensures.value c.in-Some.is c.in_ok-rebuilt.ensures.rebuilt in
+    let new = rebuilt_some moved pairs ps c.args.old.now.short (counted_in c.short.result.now) c.args.fresh.now _ c.in-Some.rebuilt c.short.ensures.value c.in-Some.is c.in_ok-rebuilt.ensures.rebuilt in
     (touches_ascend moved pairs ps c.args.old.now _ _ c.args.fresh.now _ _ _ _ _ c.requires.shapes c.know_ascending.ensures.long c.know_ascending.ensures.short c.requires.fresh c.in_ok-touches.ensures.looked new).second
 
 pub join_touches-requires-clause-short_begin : goal.join_touches-requires-clause-short_begin
@@ -60,7 +69,7 @@ join_touches-requires-clause-short_begin g c =
     let pairs = g.F.ForbiddenPairs.pairs c.args.collide.now.forbidden.now in
     let ps = g.S.ShapesById.proxies c.args.collide.now.shapes.now in
     let moved = moved_by c.args.collide.now.marks.now in
-    let new = rebuilt_some moved pairs ps c.args.old.now.short c.short.result.now c.args.fresh.now _ c.in-Some.rebuilt c.short.ensures.value c.in-Some.is c.in_ok-rebuilt.ensures.rebuilt in
+    let new = rebuilt_some moved pairs ps c.args.old.now.short (counted_in c.short.result.now) c.args.fresh.now _ c.in-Some.rebuilt c.short.ensures.value c.in-Some.is c.in_ok-rebuilt.ensures.rebuilt in
     (touches_ascend moved pairs ps c.args.old.now _ _ c.args.fresh.now _ _ _ _ _ c.requires.shapes c.know_ascending.ensures.long c.know_ascending.ensures.short c.requires.fresh c.in_ok-touches.ensures.looked new).third
 
 pub join_touches-requires-clause-short_end : goal.join_touches-requires-clause-short_end
@@ -68,28 +77,23 @@ join_touches-requires-clause-short_end g c =
     let pairs = g.F.ForbiddenPairs.pairs c.args.collide.now.forbidden.now in
     let ps = g.S.ShapesById.proxies c.args.collide.now.shapes.now in
     let moved = moved_by c.args.collide.now.marks.now in
-    let new = rebuilt_some moved pairs ps c.args.old.now.short c.short.result.now c.args.fresh.now _ c.in-Some.rebuilt c.short.ensures.value c.in-Some.is c.in_ok-rebuilt.ensures.rebuilt in
+    let new = rebuilt_some moved pairs ps c.args.old.now.short (counted_in c.short.result.now) c.args.fresh.now _ c.in-Some.rebuilt c.short.ensures.value c.in-Some.is c.in_ok-rebuilt.ensures.rebuilt in
     (touches_ascend moved pairs ps c.args.old.now _ _ c.args.fresh.now _ _ _ _ _ c.requires.shapes c.know_ascending.ensures.long c.know_ascending.ensures.short c.requires.fresh c.in_ok-touches.ensures.looked new).fourth
 
-abbrev IsJoined : (g : Given.Over) (c : goal.After-join_touches g) → Touches → Type 0
-IsJoined g c t = IsDone (g.F.ForbiddenPairs.pairs c.args.collide.now.forbidden.now) (g.S.ShapesById.proxies c.args.collide.now.shapes.now) c.args.old.now c.look_over.new.notes.items c.look_over.new.ends.items (Some c.in-Some.rebuilt.all.items) t.begin.items t.end.items
-
-done_some : (g : Given.Over) (c : goal.After-join_touches g) → IfOk c.join_touches.result (λ (t : Touches). IsJoined g c t)
-done_some g c =
+pub returns-in_ok-short-in-Some-clause-done : goal.returns-in_ok-short-in-Some-clause-done
+returns-in_ok-short-in-Some-clause-done g c =
     let pairs = g.F.ForbiddenPairs.pairs c.args.collide.now.forbidden.now in
     let ps = g.S.ShapesById.proxies c.args.collide.now.shapes.now in
     let moved = moved_by c.args.collide.now.marks.now in
+    let list = c.in_ok-short-in-Some.short in
     let new : IsRebuilt moved pairs ps c.args.old.now.short c.args.fresh.now c.in-Some.rebuilt.all.items c.in-Some.rebuilt.touches.begin.items c.in-Some.rebuilt.touches.end.items =
-    rebuilt_some moved pairs ps c.args.old.now.short c.short.result.now c.args.fresh.now _ c.in-Some.rebuilt c.short.ensures.value c.in-Some.is c.in_ok-rebuilt.ensures.rebuilt in
-    if_ok_both _ _ (λ (t : Touches). IsJoined g c t) c.join_touches.result (λ t b e.
-    done_both moved pairs ps c.args.old.now _ _ (Some c.in-Some.rebuilt.all.items) c.args.fresh.now c.in-Some.rebuilt.all.items _ _ _ _ t.begin.items t.end.items c.requires.shapes c.know_ascending.ensures.contacts c.requires.known c.requires.fresh c.in_ok-touches.ensures.looked new refl b e) c.join_touches.ensures.begin c.join_touches.ensures.end
+    rebuilt_some moved pairs ps c.args.old.now.short (counted_in c.short.result.now) c.args.fresh.now _ c.in-Some.rebuilt c.short.ensures.value c.in-Some.is c.in_ok-rebuilt.ensures.rebuilt in
+    if_ok_both _ _ (λ (t : Touches). IsDone pairs ps c.args.old.now c.look_over.new.notes.items c.look_over.new.ends.items (Some (counted_in list)) t.begin.items t.end.items) c.join_touches.result (λ t b e.
+    done_both moved pairs ps c.args.old.now _ _ (Some (counted_in list)) c.args.fresh.now c.in-Some.rebuilt.all.items _ _ _ _ t.begin.items t.end.items c.requires.shapes c.know_ascending.ensures.contacts c.requires.known c.requires.fresh c.in_ok-touches.ensures.looked new c.in_ok-short-in-Some.ensures.value b e) c.join_touches.ensures.begin c.join_touches.ensures.end
 
-pub returns-in-Some-clause-done : goal.returns-in-Some-clause-done
-returns-in-Some-clause-done g c = done_some g c
+pub returns-in_ok-short-in-Some-clause-gone : goal.returns-in_ok-short-in-Some-clause-gone
+returns-in_ok-short-in-Some-clause-gone g c =
+    on_ok_known _ c.join_touches.result (gone_some (moved_by c.args.collide.now.marks.now) (g.F.ForbiddenPairs.pairs c.args.collide.now.forbidden.now) (g.S.ShapesById.proxies c.args.collide.now.shapes.now) c.args.old.now.short (counted_in c.short.result.now) _ c.in-Some.rebuilt c.short.ensures.value c.in-Some.is c.in_ok-rebuilt.ensures.gone)
 
-pub returns-in-Some-clause-gone : goal.returns-in-Some-clause-gone
-returns-in-Some-clause-gone g c =
-    on_ok_known _ c.join_touches.result (gone_some (moved_by c.args.collide.now.marks.now) (g.F.ForbiddenPairs.pairs c.args.collide.now.forbidden.now) (g.S.ShapesById.proxies c.args.collide.now.shapes.now) c.args.old.now.short c.short.result.now _ c.in-Some.rebuilt c.short.ensures.value c.in-Some.is c.in_ok-rebuilt.ensures.gone)
-
-pub returns-in-Some-clause-ended : goal.returns-in-Some-clause-ended
-returns-in-Some-clause-ended g c = on_ok_known _ c.join_touches.result c.in_ok-touches.ensures.looked.gone_is
+pub returns-in_ok-short-in-Some-clause-ended : goal.returns-in_ok-short-in-Some-clause-ended
+returns-in_ok-short-in-Some-clause-ended g c = on_ok_known _ c.join_touches.result c.in_ok-touches.ensures.looked.gone_is

@@ -8,4 +8,4 @@ pub returns : goal.returns
 returns g c =
     let fits : SFits w64 c.args.ticks = search rules in
     let known = simp to_z-of_z at c.step_scoped-made.ensures in
-    rw c.replace-3.ensures.after (rw c.replace.ensures.value at known)
+    rw c.replace-2.ensures.after (rw c.replace.ensures.value at known)

@@ -8,7 +8,7 @@ use Rattle.world_workers.proofs.WorkerLaws.{wanted, widened}
 use Rattle.world_workers.proofs.steps.step_in.Goals as goal
 
 pub returns-in-Err : goal.returns-in-Err
-returns-in-Err g c = wanted c.args.task.world c.args.task.ticks c.in-Err.refused c.requires.calls c.requires.ticks c.in-Err.ensures
+returns-in-Err g c = wanted c.args.task.world c.args.task.ticks c.args.workers c.in-Err.refused c.requires.calls c.requires.ticks c.requires.workers c.in-Err.ensures
 
 pub returns-in-Ok : goal.returns-in-Ok
 returns-in-Ok g c =

@@ -1,0 +1,161 @@
+//! A map in pieces.
+
+ghost use Rattle.std.specs.Prelude.{◌≡◌, ◌++◌, ◌+◌, ◌≤◌, [], false, true, All, length, vec_len, vec_capacity};
+ghost use Rattle.std.specs.Arc.{arc_value};
+ghost use Rattle.crossbeam_queue.specs.Passes.{view};
+ghost use Rattle.crew.specs.Answers.{AreAccepted, answers, gathered, owed, promised, returned};
+
+use crate::bell::{Bell, pause};
+use crate::desk::Desk;
+use crate::stack::work_stack;
+use crate::{Gate, Work};
+use std::alloc::Global;
+use std::sync::{Arc, Wait};
+
+/// Hands a piece out at each desk, from the last one on. What is left of the items is the caller's piece.
+fn post_all<R: Wait, W: Work + Drop>(
+    rt: &R,
+    desks: &mut [Desk<W>],
+    work: &Arc<W, Global>,
+    piece: usize,
+    of: usize,
+    items: &mut Vec<W::Item>,
+)
+where
+    W::Item: Drop,
+    W::Out: Drop,
+    requires idle { All (λ d. d.asked ≡ false) desks.old }
+    requires accepted { AreAccepted W.accepts (arc_value work.now) items.old.items }
+    ensures promised { answers W.answer (arc_value work.now) items.new.items ++ gathered desks.new (λ d. promised (view d.pass).ask (returned (λ s. owed W.answer (arc_value s.work) s.stack.items s.answers.items) d.back)) ≡ answers W.answer (arc_value work.now) items.old.items }
+    ensures accepted { AreAccepted W.accepts (arc_value work.now) items.new.items }
+    ensures capacity { vec_capacity items.new ≡ vec_capacity items.old }
+{
+    match desks.split_first_mut() {
+        None => {}
+        Some((first, rest)) => {
+            post_all(rt, rest, work, piece.saturating_add(1), of, items);
+            let count = items.len() / piece.saturating_add(1);
+            first.post(rt, work, piece, of, items, count);
+        }
+    }
+}
+
+/// Fetches each slip that lies in its mailbox, those first that were handed out first. Answers whether nothing is awaited any more.
+fn fetch_all<R: Wait, G: Gate, W: Work + Drop>(rt: &R, gate: &G, desks: &mut [Desk<W>]) -> bool
+where
+    W::Item: Drop,
+    W::Out: Drop,
+    ensures promised { gathered desks.new (λ d. promised (view d.pass).ask (returned (λ s. owed W.answer (arc_value s.work) s.stack.items s.answers.items) d.back)) ≡ gathered desks.old (λ d. promised (view d.pass).ask (returned (λ s. owed W.answer (arc_value s.work) s.stack.items s.answers.items) d.back)) }
+    ensures back { result ≡ true → gathered desks.new (λ d. returned (λ s. owed W.answer (arc_value s.work) s.stack.items s.answers.items) d.back) ≡ gathered desks.old (λ d. promised (view d.pass).ask (returned (λ s. owed W.answer (arc_value s.work) s.stack.items s.answers.items) d.back)) }
+    ensures idle { result ≡ true → All (λ d. d.asked ≡ false) desks.new }
+{
+    match desks.split_first_mut() {
+        None => true,
+        Some((first, rest)) => {
+            let are_rest = fetch_all(rt, gate, rest);
+            let is_first = first.fetch(rt, gate);
+            are_rest && is_first
+        }
+    }
+}
+
+/// Fetches all slips, and waits for those that are in a worker's hands.
+fn gather<R: Wait, G: Gate, W: Work + Drop>(rt: &R, gate: &G, desks: &mut [Desk<W>])
+where
+    W::Item: Drop,
+    W::Out: Drop,
+    ensures back { gathered desks.new (λ d. returned (λ s. owed W.answer (arc_value s.work) s.stack.items s.answers.items) d.back) ≡ gathered desks.old (λ d. promised (view d.pass).ask (returned (λ s. owed W.answer (arc_value s.work) s.stack.items s.answers.items) d.back)) }
+    ensures idle { All (λ d. d.asked ≡ false) desks.new }
+{
+    let mut looks = 0;
+    for _ in rt.forever() {
+        if fetch_all(rt, gate, desks) {
+            return;
+        }
+        looks = pause(looks);
+    }
+    unreachable!()
+}
+
+/// Adds the answers of all slips that are back to `out`, which has room for them.
+fn collect_all<W: Work + Drop>(desks: &mut [Desk<W>], out: &mut Vec<W::Out>)
+where
+    W::Item: Drop,
+    W::Out: Drop,
+    requires room { vec_len out.old + length (gathered desks.old (λ d. returned (λ s. owed W.answer (arc_value s.work) s.stack.items s.answers.items) d.back)) ≤ vec_capacity out.old }
+    ensures out { out.new.items ≡ out.old.items ++ gathered desks.old (λ d. returned (λ s. owed W.answer (arc_value s.work) s.stack.items s.answers.items) d.back) }
+    ensures capacity { vec_capacity out.old ≤ vec_capacity out.new }
+{
+    match desks.split_first_mut() {
+        None => {}
+        Some((first, rest)) => {
+            first.collect(out);
+            collect_all(rest, out);
+        }
+    }
+}
+
+/// Works all items on this thread.
+fn work_alone<W: Work>(work: &W, items: &mut Vec<W::Item>, out: &mut Vec<W::Out>)
+    requires accepted { AreAccepted W.accepts work.now items.old.items }
+    requires room { vec_len out.old + vec_len items.old ≤ vec_capacity out.old }
+    ensures out { out.new.items ≡ out.old.items ++ answers W.answer work.now items.old.items }
+    ensures items { items.new.items ≡ [] }
+    ensures kept { vec_capacity items.new ≡ vec_capacity items.old }
+    ensures capacity { vec_capacity out.old ≤ vec_capacity out.new }
+{
+    items.reverse();
+    work_stack(work, items, out);
+}
+
+/// A map of one piece, or of none.
+pub(crate) fn map_alone<R: Wait, G: Gate, W: Work>(
+    rt: &R,
+    gate: &G,
+    work: &W,
+    items: &mut Vec<W::Item>,
+    out: &mut Vec<W::Out>,
+)
+    requires accepted { AreAccepted W.accepts work.now items.old.items }
+    requires room { vec_len out.old + vec_len items.old ≤ vec_capacity out.old }
+    ensures out { out.new.items ≡ out.old.items ++ answers W.answer work.now items.old.items }
+    ensures items { items.new.items ≡ [] }
+    ensures kept { vec_capacity items.new ≡ vec_capacity items.old }
+    ensures capacity { vec_capacity out.old ≤ vec_capacity out.new }
+{
+    if !items.is_empty() {
+        gate.enter(rt, 0, 1);
+    }
+    work_alone(work, items, out);
+}
+
+/// A map in pieces, of which the caller works the first, and then those that no worker has begun.
+pub(crate) fn map_shared<R: Wait, G: Gate, W: Work + Drop>(
+    rt: &R,
+    gate: &G,
+    bell: &Bell,
+    round: u64,
+    desks: &mut [Desk<W>],
+    work: &Arc<W, Global>,
+    items: &mut Vec<W::Item>,
+    out: &mut Vec<W::Out>,
+)
+where
+    W::Item: Drop,
+    W::Out: Drop,
+    requires accepted { AreAccepted W.accepts (arc_value work.now) items.old.items }
+    requires room { vec_len out.old + vec_len items.old ≤ vec_capacity out.old }
+    ensures out { out.new.items ≡ out.old.items ++ answers W.answer (arc_value work.now) items.old.items }
+    ensures items { items.new.items ≡ [] }
+    ensures kept { vec_capacity items.new ≡ vec_capacity items.old }
+    ensures capacity { vec_capacity out.old ≤ vec_capacity out.new }
+{
+    gather(rt, gate, desks);
+    let of = desks.len().saturating_add(1);
+    post_all(rt, desks, work, 1, of, items);
+    bell.ring(round);
+    gate.enter(rt, 0, of);
+    work_alone(&**work, items, out);
+    gather(rt, gate, desks);
+    collect_all(desks, out);
+}
