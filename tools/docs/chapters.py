@@ -234,8 +234,14 @@ PARTS = {
         Chapter(
             "at_once",
             "What may be solved at once",
-            "Rows of one colour, and islands, may be solved at once.",
-            "world_core/RowColours colour_solver/Colour colour_solver/RowVisits colour_solver/States island_runs/Laws island_runs/Apart",
+            "Rows of one colour may be solved at once.",
+            "world_core/RowColours colour_solver/Colour colour_solver/RowVisits colour_solver/States",
+        ),
+        Chapter(
+            "parts",
+            "A step by parts",
+            "The parts of a step, which hand bodies on to one another, together make the whole.",
+            "part_runs/Laws part_runs/Runs part_runs/Hidden part_runs/Walks part_runs/Passes",
         ),
     ],
 }

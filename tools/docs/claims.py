@@ -123,13 +123,13 @@ FURTHER = [
         [Contract("arrays", "colour_solver", "run_step", "momentum")],
     ),
     Claim(
-        "Rows that share no mover may be solved at once, and the rows of a colour are such rows. So may islands.",
+        "Rows that share no mover may be solved at once, and the rows of a colour are such rows.",
         [
             Contract("at_once", "colour_solver", "colours_at_once"),
             Contract("at_once", "world_core", "coloured_rows_are_colours"),
-            Contract("at_once", "island_runs", "runs_are_apart"),
         ],
     ),
+    Claim("The parts of a step together make the whole.", [Contract("parts", "part_runs", "parts_are_runs")]),
 ]
 
 

@@ -30,7 +30,7 @@ impl Work for Sums<'_> {
 
     ghost answer = { λ _ x. x.0 + x.1 };
 
-    fn work(&self, item: (u32, u32)) -> u64 {
+    fn work<R: Wait>(&self, _rt: &R, item: (u32, u32)) -> u64 {
         self.worked.fetch_or(1 << (item.0 % 64), Ordering::SeqCst);
         item.0 as u64 + item.1 as u64
     }

@@ -36,6 +36,8 @@ pub enum Piles {
     One,
     /// Two of ten columns each, which don't touch.
     Two,
+    /// One of sixty columns.
+    Wide,
 }
 
 fn floor(alloc: Global) -> Result<Command, Refusal> {
@@ -101,6 +103,7 @@ impl Piles {
                 add_pile(alloc, commands, 10, 0)?;
                 add_pile(alloc, commands, 10, NEXT_PILE)
             }
+            Piles::Wide => add_pile(alloc, commands, 60, 0),
         }
     }
 

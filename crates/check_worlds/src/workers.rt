@@ -21,6 +21,9 @@ use world_core::{Command, Refusal, WorldCore};
 /// How many steps are made.
 const STEPS: u64 = 40;
 
+/// How many are made of a wide pile.
+const FEW: u64 = 3;
+
 /// What workers do in a world.
 #[derive(Clone, Copy)]
 enum Task<'a> {
@@ -89,7 +92,8 @@ fn check_steps<R: AllocGlobal + Print + Threads + Wait + Sync>(
     steps: u64,
 ) -> Result<(), Stop> {
     do_task(rt, Task::Steps(Piles::One, steps))?;
-    do_task(rt, Task::Steps(Piles::Two, steps))
+    do_task(rt, Task::Steps(Piles::Two, steps))?;
+    do_task(rt, Task::Steps(Piles::Wide, steps.min(FEW)))
 }
 
 fn do_try<R: AllocGlobal + Print + Threads + Wait + Sync>(

@@ -54,7 +54,7 @@ drop-left (suc k) (r ∷ rows) h = let rest = drop-left k rows (omega (arith, h)
 
 -- ---- ends
 
-ends_within : (n : ℕ) (ends : List ℕ) (last : ℕ) → AreEnds n ends last → n ≤ last
+pub ends_within : (n : ℕ) (ends : List ℕ) (last : ℕ) → AreEnds n ends last → n ≤ last
 ends_within n [] last h = h
 ends_within n (e ∷ ends) last h = let more : e ≤ last = ends_within e ends last h.1 in omega (arith, h.0, more)
 

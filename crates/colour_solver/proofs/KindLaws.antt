@@ -53,12 +53,12 @@ joint_on n r is = record { row = is.row; a = is.a; b = is.b; apart = is.apart }
 contact_on : (n : ℕ) (r : ContactRow) → IsRowOn contact_slots IsRow n r → IsRowBelow n (Contact r)
 contact_on n r is = record { row = is.row; a = is.a; b = is.b; apart = is.apart }
 
-joints_on : (n : ℕ) (rs : List JointRow) → AreRowsOn joint_slots IsJointRow n rs → AreRowsBelow n (map Joint rs)
+pub joints_on : (n : ℕ) (rs : List JointRow) → AreRowsOn joint_slots IsJointRow n rs → AreRowsBelow n (map Joint rs)
 joints_on n [] all = All-nil (IsRowBelow n)
 joints_on n (r ∷ rs) all =
     All-cons (IsRowBelow n) (Joint r) (map Joint rs) (joint_on n r (All-head (IsRowOn joint_slots IsJointRow n) r rs all)) (joints_on n rs (All-tail (IsRowOn joint_slots IsJointRow n) r rs all))
 
-contacts_on : (n : ℕ) (rs : List ContactRow) → AreRowsOn contact_slots IsRow n rs → AreRowsBelow n (map Contact rs)
+pub contacts_on : (n : ℕ) (rs : List ContactRow) → AreRowsOn contact_slots IsRow n rs → AreRowsBelow n (map Contact rs)
 contacts_on n [] all = All-nil (IsRowBelow n)
 contacts_on n (r ∷ rs) all =
     All-cons (IsRowBelow n) (Contact r) (map Contact rs) (contact_on n r (All-head (IsRowOn contact_slots IsRow n) r rs all)) (contacts_on n rs (All-tail (IsRowOn contact_slots IsRow n) r rs all))

@@ -7,12 +7,13 @@ ghost use Rattle.joint_rows.specs.Rows.{IsJointRow};
 ghost use Rattle.colour_solver_base.specs.Rows.{IsRow};
 ghost use Rattle.momenta.specs.Gains.{IsGain};
 ghost use Rattle.colour_solver.specs.States.{AreAllStates, AreSameStates, as_vector, total};
+ghost use Rattle.colour_solver.specs.Phases.{constraint_visit};
 ghost use Rattle.colour_solver.specs.RowVisits.{AreRowsOn, IsPassed, between, passed, rows_passed, share};
 ghost use Rattle.colour_solver.specs.ConstraintVisits.{AreRowsBelow, IsConstraintRow, both_visits, constraint_slots, contact_slots, contacts_among, is_joint, joint_slots, joints_among};
 ghost use Rattle.colour_solver.specs.declared.constraint_row.ConstraintRow.TheVariants.{Joint, Contact};
 ghost use Rattle.colour_solver.specs.ColourRows.{AreEnds, IsPlace, all_rows, cut, joints_first, last_end, left_of, rows_kept};
 
-use crate::{ConstraintRow, Visit, pass_rows};
+use crate::{Bounce, ConstraintRow, Phase, Solve, Visit, Warm, pass_rows};
 use body_handles::MAX_SLOTS;
 use colour_solver_base::ContactRow;
 use fixed_geom::Refusal;
@@ -74,6 +75,14 @@ fn start_of(ends: &[ColourEnd], colour: usize) -> ColourEnd
         };
     }
     ends[colour - 1]
+}
+
+/// Where a colour ends.
+fn end_of(ends: &[ColourEnd], colour: usize) -> ColourEnd
+    requires { colour < length ends.now }
+    ensures { result ≡ slice_index_or ends.now colour (record { joints = 0; contacts = 0 }) }
+{
+    ends[colour]
 }
 
 /// Puts a row into its place. Answers the next place.
@@ -352,6 +361,58 @@ impl Rows {
         ensures contacts { result.now ≡ contacts_among self.now.left }
     {
         contacts_behind(&self.contacts, &self.ends)
+    }
+
+    /// One pass over the rows of one colour.
+    #[inline(always)]
+    fn pass_one<J: Visit<JointRow>, C: Visit<ContactRow>>(
+        &mut self,
+        colour: usize,
+        states: &mut Vec<BodyState>,
+        joint_visit: &J,
+        contact_visit: &C,
+    ) -> Gain
+        requires colour { colour < length self.old.colours }
+        requires few { length states.old.items ≤ MAX_SLOTS }
+        requires states { AreAllStates states.old.items }
+        requires rows { AreRowsBelow (length states.old.items) (all_rows self.old) }
+        ensures passed { IsPassed constraint_slots IsConstraintRow (both_visits (J.visit joint_visit.now) (C.visit contact_visit.now)) states.old.items (slice_index_or self.old.colours colour []) states.new.items (slice_index_or self.new.colours colour []) (as_vector result) }
+        ensures colours { self.new.colours ≡ slice_set self.old.colours colour (slice_index_or self.new.colours colour []) }
+        ensures left { self.new.left ≡ self.old.left }
+        ensures rows { AreRowsBelow (length states.new.items) (all_rows self.new) }
+        ensures small { IsGain (2 ^ 78) result }
+    {
+        let start = start_of(&self.ends, colour);
+        let end = end_of(&self.ends, colour);
+        pass_colour(
+            states,
+            &mut self.joints,
+            &mut self.contacts,
+            start,
+            end,
+            joint_visit,
+            contact_visit,
+        )
+    }
+
+    /// One pass over the rows of a colour that has ended, and over no others. Answers what immovable bodies have given to the movers
+    /// (mass·u/tick).
+    pub fn pass_in(&mut self, colour: usize, states: &mut Vec<BodyState>, phase: Phase) -> Gain
+        requires colour { colour < length self.old.colours }
+        requires few { length states.old.items ≤ MAX_SLOTS }
+        requires states { AreAllStates states.old.items }
+        requires rows { AreRowsBelow (length states.old.items) (all_rows self.old) }
+        ensures passed { IsPassed constraint_slots IsConstraintRow (constraint_visit phase) states.old.items (slice_index_or self.old.colours colour []) states.new.items (slice_index_or self.new.colours colour []) (as_vector result) }
+        ensures colours { self.new.colours ≡ slice_set self.old.colours colour (slice_index_or self.new.colours colour []) }
+        ensures left { self.new.left ≡ self.old.left }
+        ensures rows { AreRowsBelow (length states.new.items) (all_rows self.new) }
+        ensures small { IsGain (2 ^ 78) result }
+    {
+        match phase {
+            Phase::Warm => self.pass_one(colour, states, &Warm, &Warm),
+            Phase::Solve => self.pass_one(colour, states, &Solve, &Solve),
+            Phase::Bounce => self.pass_one(colour, states, &Bounce, &Bounce),
+        }
     }
 
     /// Puts a row that was visited elsewhere back into its place, which has a row of its kind. Answers where the next one stands.

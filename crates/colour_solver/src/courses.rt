@@ -30,7 +30,7 @@ fn carry_body(body: &mut BodyState)
 }
 
 /// Moves the bodies that are carried along, whose slots are `carried`, on by a tick. Nothing is booked: their momenta are no mover's.
-pub(crate) fn carry_along(states: &mut Vec<BodyState>, carried: &[u32])
+pub fn carry_along(states: &mut Vec<BodyState>, carried: &[u32])
     requires carried { carried.now ≡ carried_of states.old.items }
     requires states { AreAllStates states.old.items }
     requires courses { HaveCourses states.old.items }

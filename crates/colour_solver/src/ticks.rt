@@ -29,7 +29,7 @@ pub struct StepSums {
 
 /// A tick of gravity.
 #[derive(Clone, Copy)]
-pub(crate) struct Pull {
+pub struct Pull {
     pub gravity: Vec2,
 }
 
@@ -47,7 +47,7 @@ impl Change for Pull {
 
 /// The speed limit.
 #[derive(Clone, Copy)]
-pub(crate) struct Limit;
+pub struct Limit;
 
 impl Change for Limit {
     ghost after = { λ _ m s. speed_clamped m s };
@@ -64,7 +64,7 @@ impl Change for Limit {
 
 /// The move.
 #[derive(Clone, Copy)]
-pub(crate) struct Move;
+pub struct Move;
 
 impl Change for Move {
     ghost after = { λ _ m s. advanced m s };

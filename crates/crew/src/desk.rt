@@ -114,13 +114,13 @@ where
     }
 
     /// Adds the answers of the slip that is back to `out`, which has room for them.
-    pub(crate) fn collect(&mut self, out: &mut Vec<W::Out>)
+    pub(crate) fn collect<R: Wait>(&mut self, rt: &R, out: &mut Vec<W::Out>)
         requires room { vec_len out.old + length (returned (λ s. owed W.answer (arc_value s.work) s.stack.items s.answers.items) self.old.back) ≤ vec_capacity out.old }
         ensures out { out.new.items ≡ out.old.items ++ returned (λ s. owed W.answer (arc_value s.work) s.stack.items s.answers.items) self.old.back }
         ensures capacity { vec_capacity out.old ≤ vec_capacity out.new }
     {
         if let Some(slip) = self.back.take() {
-            let (stack, answers) = slip.finish(out);
+            let (stack, answers) = slip.finish(rt, out);
             self.stack = stack;
             self.answers = answers;
         }

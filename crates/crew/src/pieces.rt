@@ -34,7 +34,12 @@ type Answers<W> = Result<Vec<<W as Work>::Out>, AllocError>;
 type Piece<'a, W> = PromisedHandle<Answers<W>, AnswersAt<'a, W>>;
 
 /// The answers at the items of a piece.
-fn map_piece<W: Work>(alloc: Global, work: &W, items: &[W::Item]) -> Result<Vec<W::Out>, AllocError>
+fn map_piece<R: Wait, W: Work>(
+    rt: &R,
+    alloc: Global,
+    work: &W,
+    items: &[W::Item],
+) -> Result<Vec<W::Out>, AllocError>
 where
     W::Item: Copy,
     W::Out: Drop,
@@ -43,7 +48,7 @@ where
 {
     let mut out = Vec::with_capacity(alloc, items.len())?;
     for item in items {
-        out.push(work.work(*item))?;
+        out.push(work.work(rt, *item))?;
     }
     Ok(out)
 }
@@ -65,7 +70,7 @@ where
     ensures { IfOk result (λ v. v.items ≡ answers W.answer work.now items.now) }
 {
     gate.enter(rt, piece, of);
-    map_piece(alloc, work, items)
+    map_piece(rt, alloc, work, items)
 }
 
 /// Starts a thread for each piece. At a refusal some of them run.

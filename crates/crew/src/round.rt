@@ -78,7 +78,7 @@ where
 }
 
 /// Adds the answers of all slips that are back to `out`, which has room for them.
-fn collect_all<W: Work + Drop>(desks: &mut [Desk<W>], out: &mut Vec<W::Out>)
+fn collect_all<R: Wait, W: Work + Drop>(rt: &R, desks: &mut [Desk<W>], out: &mut Vec<W::Out>)
 where
     W::Item: Drop,
     W::Out: Drop,
@@ -89,14 +89,14 @@ where
     match desks.split_first_mut() {
         None => {}
         Some((first, rest)) => {
-            first.collect(out);
-            collect_all(rest, out);
+            first.collect(rt, out);
+            collect_all(rt, rest, out);
         }
     }
 }
 
 /// Works all items on this thread.
-fn work_alone<W: Work>(work: &W, items: &mut Vec<W::Item>, out: &mut Vec<W::Out>)
+fn work_alone<R: Wait, W: Work>(rt: &R, work: &W, items: &mut Vec<W::Item>, out: &mut Vec<W::Out>)
     requires accepted { AreAccepted W.accepts work.now items.old.items }
     requires room { vec_len out.old + vec_len items.old ≤ vec_capacity out.old }
     ensures out { out.new.items ≡ out.old.items ++ answers W.answer work.now items.old.items }
@@ -105,7 +105,7 @@ fn work_alone<W: Work>(work: &W, items: &mut Vec<W::Item>, out: &mut Vec<W::Out>
     ensures capacity { vec_capacity out.old ≤ vec_capacity out.new }
 {
     items.reverse();
-    work_stack(work, items, out);
+    work_stack(rt, work, items, out);
 }
 
 /// A map of one piece, or of none.
@@ -126,7 +126,7 @@ pub(crate) fn map_alone<R: Wait, G: Gate, W: Work>(
     if !items.is_empty() {
         gate.enter(rt, 0, 1);
     }
-    work_alone(work, items, out);
+    work_alone(rt, work, items, out);
 }
 
 /// A map in pieces, of which the caller works the first, and then those that no worker has begun.
@@ -155,7 +155,7 @@ where
     post_all(rt, desks, work, 1, of, items);
     bell.ring(round);
     gate.enter(rt, 0, of);
-    work_alone(&**work, items, out);
+    work_alone(rt, &**work, items, out);
     gather(rt, gate, desks);
-    collect_all(desks, out);
+    collect_all(rt, desks, out);
 }

@@ -60,7 +60,7 @@ where
         } = self;
         if !entered {
             gate.enter(rt, piece, of);
-            work_stack(&*work, &mut stack, &mut answers);
+            work_stack(rt, &*work, &mut stack, &mut answers);
         }
         Slip {
             work,
@@ -74,7 +74,11 @@ where
 
     /// Adds its answers to `out`, which has room for them, and works those items for whose answers the slip had none. Gives back its two empty
     /// lists.
-    pub(crate) fn finish(self, out: &mut Vec<W::Out>) -> (Vec<W::Item>, Vec<W::Out>)
+    pub(crate) fn finish<R: Wait>(
+        self,
+        rt: &R,
+        out: &mut Vec<W::Out>,
+    ) -> (Vec<W::Item>, Vec<W::Out>)
         requires room { vec_len out.old + length (owed W.answer (arc_value self.work) self.stack.items self.answers.items) ≤ vec_capacity out.old }
         ensures out { out.new.items ≡ out.old.items ++ owed W.answer (arc_value self.work) self.stack.items self.answers.items }
         ensures capacity { vec_capacity out.old ≤ vec_capacity out.new }
@@ -88,7 +92,7 @@ where
             mut answers,
         } = self;
         let _ = out.append(&mut answers);
-        work_stack(&*work, &mut stack, out);
+        work_stack(rt, &*work, &mut stack, out);
         (stack, answers)
     }
 }

@@ -4,6 +4,7 @@ ghost use Rattle.std.specs.Prelude.{◌≡◌, ◌++◌, ◌+◌, ◌≤◌, [],
 ghost use Rattle.crew.specs.Answers.{AreAccepted, owed};
 
 use crate::Work;
+use std::sync::Wait;
 
 /// Moves the last `count` items onto an empty stack that has room for them, the last one first.
 pub(crate) fn stack_last<T>(items: &mut Vec<T>, stack: &mut Vec<T>, count: usize)
@@ -22,7 +23,12 @@ pub(crate) fn stack_last<T>(items: &mut Vec<T>, stack: &mut Vec<T>, count: usize
 }
 
 /// Works the items of a stack and adds the answers, as long as there is room for them.
-pub(crate) fn work_stack<W: Work>(work: &W, stack: &mut Vec<W::Item>, answers: &mut Vec<W::Out>)
+pub(crate) fn work_stack<R: Wait, W: Work>(
+    rt: &R,
+    work: &W,
+    stack: &mut Vec<W::Item>,
+    answers: &mut Vec<W::Out>,
+)
     requires accepted { AreAccepted W.accepts work.now stack.old.items }
     ensures owed { owed W.answer work.now stack.new.items answers.new.items ≡ owed W.answer work.now stack.old.items answers.old.items }
     ensures accepted { AreAccepted W.accepts work.now stack.new.items }
@@ -35,7 +41,7 @@ pub(crate) fn work_stack<W: Work>(work: &W, stack: &mut Vec<W::Item>, answers: &
             return;
         }
         if let Some(item) = stack.pop() {
-            answers.push_reserved(work.work(item));
+            answers.push_reserved(work.work(rt, item));
         }
     }
 }

@@ -16,7 +16,7 @@ use std::{mem, thread};
 use world_core::{Command, OneThread, Reply, StepSolver, WorldCore};
 use world_lock::{Closed, JournalEntry, Opened, Seat, SharedWorld, may_be_shared};
 use world_script_base::SeatReport;
-use world_workers::{IslandCrew, IslandMemory, OpenGate};
+use world_workers::{OpenGate, PartCrew, PartMemory};
 
 /// What a crowd left: how many calls were accepted, and what each seat did, in the order of the seats' numbers.
 #[derive(Drop)]
@@ -154,8 +154,8 @@ fn call_by_workers<'s, E, T, S: Called<T>, R: Threads + Wait + Sync>(
     crowd: CrowdPlan,
     starts: &WorkerStarts,
 ) {
-    let memory = IslandMemory::new(crowd.alloc);
-    match IslandCrew::start(
+    let memory = PartMemory::new(crowd.alloc);
+    match PartCrew::start(
         scope,
         rt,
         crowd.alloc,

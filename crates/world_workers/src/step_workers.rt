@@ -7,7 +7,7 @@ ghost use Rattle.world_workers.specs.Workers.{AnswersByThreads, step_due};
 use crate::steps::{are_workers, is_for_one};
 use crew::Gate;
 use fixed_geom::Refusal;
-use island_solver::{IslandCrew, IslandMemory};
+use part_solver::{PartCrew, PartMemory};
 use std::alloc::Global;
 use std::marker::Model;
 use std::mem;
@@ -23,7 +23,7 @@ pub struct StepWorkers<'s, 'e, E, R, G: Gate> {
     alloc: Global,
     gate: &'s G,
     workers: u64,
-    crew: Option<IslandCrew<'s, R, G>>,
+    crew: Option<PartCrew<'s, R, G>>,
 }
 
 impl<'s, 'e, E, R, G: Gate> Model for StepWorkers<'s, 'e, E, R, G> {
@@ -56,25 +56,25 @@ impl<'s, 'e, E, R: Threads + Wait + Sync, G: Gate + Sync> StepWorkers<'s, 'e, E,
     }
 
     /// The workers, started where none are. Refused 5 where they aren't 1 to 64, 1 where memory is wanting, and 11 where a thread can't be started.
-    fn hired(&mut self) -> Result<IslandCrew<'s, R, G>, Refusal>
+    fn hired(&mut self) -> Result<PartCrew<'s, R, G>, Refusal>
         ensures refused { IfErr result (MayRefuseStart self.old) }
         ensures workers { self.new ≡ self.old }
     {
         match mem::replace(&mut self.crew, None) {
             Some(crew) => Ok(crew),
-            None => IslandCrew::start(
+            None => PartCrew::start(
                 self.scope,
                 self.rt,
                 self.alloc,
                 self.gate,
                 self.workers as usize,
-                IslandMemory::new(self.alloc),
+                PartMemory::new(self.alloc),
             ),
         }
     }
 
     /// Keeps the workers for the next step.
-    fn keep(&mut self, crew: IslandCrew<'s, R, G>)
+    fn keep(&mut self, crew: PartCrew<'s, R, G>)
         ensures { self.new ≡ self.old }
     {
         if let Some(other) = mem::replace(&mut self.crew, Some(crew)) {

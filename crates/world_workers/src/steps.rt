@@ -9,7 +9,7 @@ ghost use Rattle.world_workers.specs.Workers.{AnswersByThreads, step_due};
 
 use crew::Gate;
 use fixed_geom::{Refusal, ZERO_VECTOR};
-use island_solver::{IslandCrew, IslandMemory};
+use part_solver::{LEAST_CONSTRAINTS, PartCrew, PartMemory};
 use std::alloc::Global;
 use std::sync::Wait;
 use std::thread::{Scope, Threads};
@@ -18,9 +18,6 @@ use world_core::{Reply, WorldCore, is_tick_count};
 
 /// How many workers may solve a step at most.
 const MOST_WORKERS: u64 = 64;
-
-/// The fewest constraints that are worth a start of threads: where fewer act, the calling thread makes the step alone.
-const LEAST_CONSTRAINTS: usize = 512;
 
 pub(crate) fn are_workers(workers: u64) -> bool
     ensures { result ≡ are_workers workers }
@@ -62,7 +59,7 @@ fn step_in<'s, E, R: Threads + Wait + Sync, G: Gate + Sync>(
     ensures { AnswersByThreads (apply task.world.plain (Step task.ticks)) task.world result.answer result.world }
 {
     let Task { mut world, ticks } = task;
-    match IslandCrew::start(scope, rt, alloc, gate, workers, IslandMemory::new(alloc)) {
+    match PartCrew::start(scope, rt, alloc, gate, workers, PartMemory::new(alloc)) {
         Err(refused) => Done {
             world,
             answer: Err(refused),

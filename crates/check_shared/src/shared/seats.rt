@@ -10,7 +10,7 @@ use std::thread;
 use std::thread::{Scope, Threads};
 use world_core::{Command, Refusal, StepSolver, Vec2};
 use world_lock::{Opened, Seat, SharedWorld, may_be_shared};
-use world_workers::{IslandCrew, IslandMemory};
+use world_workers::{PartCrew, PartMemory};
 
 /// Where the ray begins that is cast in each frame.
 pub const FROM: Vec2 = Vec2 {
@@ -64,8 +64,8 @@ fn take_turns_by_workers<'s, E, T, S: Called<T>, R: Threads + Wait + Sync>(
     task: Task,
     round: &'s Round,
 ) {
-    let memory = IslandMemory::new(alloc);
-    if let Ok(mut crew) = IslandCrew::start(scope, rt, alloc, round, task.workers, memory) {
+    let memory = PartMemory::for_all_steps(alloc);
+    if let Ok(mut crew) = PartCrew::start(scope, rt, alloc, round, task.workers, memory) {
         let notes = take_turns(rt, shared, seat, &mut crew, task);
         drop(crew.end());
         round.finish(rt, notes);

@@ -5,13 +5,12 @@ use crate::workers::gates::Meeting;
 use crate::workers::steps::{step_by_kept_workers, step_by_workers};
 use check_scenes::{Piles, Stop, World, Worlds, text_of};
 use crew::{Gate, OpenGate};
-use crew_solver::StepCrew;
 use std::alloc::Global;
 use std::sync::Wait;
 use std::thread;
 use std::thread::{Scope, Threads};
 use world_core::{Refusal, StepSolver};
-use world_workers::StepWorkers;
+use world_workers::{PartCrew, PartMemory, StepWorkers};
 
 /// How many ticks each step has.
 const TICKS: i64 = 4;
@@ -155,7 +154,7 @@ fn are_alike_by<W: WholeWorld, S: StepSolver>(
     are_steps_by(alloc, &mut worlds.world, solver, after)
 }
 
-/// Whether each step by a crew that stays leaves what one thread leaves.
+/// Whether each step by a crew that solves it by parts, however small it is, leaves what one thread leaves.
 fn are_steps_of<'s, E, W: WholeWorld, R: Threads + Wait + Sync, G: Gate + Sync>(
     scope: &Scope<'s, E>,
     rt: &'s R,
@@ -165,10 +164,11 @@ fn are_steps_of<'s, E, W: WholeWorld, R: Threads + Wait + Sync, G: Gate + Sync>(
     worlds: &mut Worlds<W>,
     after: &[String],
 ) -> Result<bool, Refusal> {
-    match StepCrew::start(scope, rt, alloc, gate, workers) {
+    let memory = PartMemory::for_all_steps(alloc);
+    match PartCrew::start(scope, rt, alloc, gate, workers, memory) {
         Ok(mut crew) => {
             let are_same = are_alike_by(alloc, worlds, &mut crew, after);
-            crew.end();
+            drop(crew.end());
             are_same
         }
         Err(refusal) => Err(refusal),
@@ -223,7 +223,7 @@ fn check_workers<R: AllocGlobal + Print + Threads + Wait + Sync, W: WholeWorld>(
     Ok(())
 }
 
-/// Makes all steps of two piles by two workers that wait for each other.
+/// Makes all steps of a wide pile by two workers that wait for each other.
 fn check_meeting<R: AllocGlobal + Print + Threads + Wait + Sync, W: WholeWorld>(
     rt: &R,
     worlds: &mut Worlds<W>,
@@ -231,10 +231,10 @@ fn check_meeting<R: AllocGlobal + Print + Threads + Wait + Sync, W: WholeWorld>(
 ) -> Result<(), Stop> {
     let meeting = Meeting::new();
     let are_same = are_alike(rt, &meeting, worlds, 2, after)?;
-    print_meeting(rt, "two piles", are_same, &meeting)
+    print_meeting(rt, "a wide pile", are_same, &meeting)
 }
 
-/// Makes some steps of a pile by crews that stay and solve a colour at a time. One has workers that wait for each other.
+/// Makes some steps of a pile by crews that stay and solve each by parts. One has workers that wait for each other.
 fn check_crews<R: Print + Threads + Wait + Sync, W: WholeWorld>(
     rt: &R,
     alloc: Global,
@@ -242,13 +242,14 @@ fn check_crews<R: Print + Threads + Wait + Sync, W: WholeWorld>(
     after: &[String],
 ) -> Result<(), Stop> {
     let are_same = are_alike_by_crew(rt, alloc, &OpenGate, worlds, 3, after)?;
-    println!(rt; "a pile, a crew of 3 that stays, the same steps: {are_same}")?;
+    println!(rt; "a pile, a crew of 3 that solves it by parts, the same steps: {are_same}")?;
     let meeting = Meeting::new();
     let are_same = are_alike_by_crew(rt, alloc, &meeting, worlds, 2, after)?;
     print_meeting(rt, "a pile", are_same, &meeting)
 }
 
-/// Checks steps of piles. One pile is one island, which one worker solves. Two are solved at once.
+/// Checks steps of piles. A pile and two are so small that the calling thread solves them, but for a crew that is to solve each step by parts. A
+/// wide pile is worth its workers.
 fn check_after<R: AllocGlobal + Print + Threads + Wait + Sync, W: WholeWorld>(
     rt: &R,
     piles: Piles,
@@ -261,8 +262,9 @@ fn check_after<R: AllocGlobal + Print + Threads + Wait + Sync, W: WholeWorld>(
             let few = after.get(..FEW).unwrap_or(after);
             check_crews(rt, rt.alloc(), worlds, few)
         }
-        Piles::Two => {
-            check_workers(rt, "two piles", worlds, after)?;
+        Piles::Two => check_workers(rt, "two piles", worlds, after),
+        Piles::Wide => {
+            check_workers(rt, "a wide pile", worlds, after)?;
             check_meeting(rt, worlds, after)
         }
     }

@@ -1,2 +1,0 @@
-pub mod Visited
-pub mod Putting

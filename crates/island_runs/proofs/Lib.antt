@@ -1,9 +1,0 @@
-pub mod SumLaws
-pub mod HiddenLaws
-pub mod FairVisits
-pub mod PassApart
-pub mod WholeLaws
-pub mod RunApart
-pub mod BackLaws
-pub mod PartLaws
-pub mod StepLaws

@@ -1,5 +1,0 @@
-use Rattle.island_runs.proofs.PartLaws.{parts_can}
-use Rattle.island_runs.proofs.laws.parts_can_run.Goals as goal
-
-pub returns : goal.returns
-returns c = parts_can

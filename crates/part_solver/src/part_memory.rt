@@ -1,0 +1,135 @@
+//! What the workers of one step leave to those of the next.
+
+ghost use Rattle.std.specs.Prelude.{◌≤◌, IfSome, length};
+ghost use Rattle.part_solver.specs.Parts.{AreDealt};
+
+use crate::dealing::{Counts, Deal};
+use crate::homes::are_dealt;
+use crate::parting::StepMemory;
+use crate::sums::MOST_PARTS;
+use colour_solver::Rows;
+use momenta::BodyState;
+use std::alloc::Global;
+
+/// The fewest constraints of a step that is worth its workers: with fewer, the calling thread solves it alone.
+pub const LEAST_CONSTRAINTS: usize = 1_500;
+
+/// For how many steps at most the calling thread solves alone after one that wasn't worth it.
+const LONGEST_REST: u32 = 64;
+
+/// After so many good steps in turn the rests are short again.
+const GOOD_STEPS: u32 = 4;
+
+/// The most bodies that a ring has room for.
+const MOST_ROOM: usize = 4_096;
+
+/// The most colours of a step that is solved by parts.
+const MOST_COLOURS: usize = 64;
+
+/// What a crew knows of the steps that were made, and the lists that it works with. The next crew goes on with them.
+#[derive(Drop)]
+pub struct PartMemory {
+    pub(crate) deal: Deal,
+    pub(crate) lists: StepMemory,
+    rest: u32,
+    next_rest: u32,
+    good: u32,
+    all_steps: bool,
+}
+
+/// Whether few rows of a step wait for bodies of other parts.
+fn is_loose(counts: Counts) -> bool {
+    counts.waiting <= counts.all / 10 && counts.left <= counts.all / 16
+}
+
+/// For how many bodies a ring needs room. Only bodies of rows that wait go from part to part, each once before a stage.
+fn room_for(counts: Counts) -> usize {
+    counts.waiting.saturating_mul(2).saturating_add(1)
+}
+
+impl PartMemory {
+    /// No step is known, and the lists have no room.
+    pub fn new(alloc: Global) -> PartMemory {
+        PartMemory {
+            deal: Deal::new(alloc),
+            lists: StepMemory::new(alloc),
+            rest: 0,
+            next_rest: 1,
+            good: 0,
+            all_steps: false,
+        }
+    }
+
+    /// The same of a crew that solves each step by parts, whether it is worth its workers or not.
+    pub fn for_all_steps(alloc: Global) -> PartMemory {
+        let mut memory = PartMemory::new(alloc);
+        memory.all_steps = true;
+        memory
+    }
+
+    /// Whether the next step is one of those that the calling thread solves alone, since one before wasn't worth its workers. It is counted
+    /// then.
+    pub fn take_rest(&mut self) -> bool {
+        if self.rest == 0 {
+            return false;
+        }
+        self.rest -= 1;
+        true
+    }
+
+    /// Whether a step is to be looked at: it has constraints enough, and no rest is to be taken.
+    fn is_due(&mut self, rows: &Rows) -> bool {
+        if self.all_steps {
+            return true;
+        }
+        let constraints = rows.joints().len().saturating_add(rows.contacts().len());
+        constraints >= LEAST_CONSTRAINTS && !self.take_rest()
+    }
+
+    /// Rests for a time, the longer the oftener that happens.
+    fn rest(&mut self) {
+        self.rest = self.next_rest;
+        self.next_rest = self.next_rest.saturating_mul(2).min(LONGEST_REST);
+        self.good = 0;
+    }
+
+    /// Heeds how many waits of a step were long: then the threads don't run side by side.
+    pub(crate) fn heed(&mut self, long_waits: u32) {
+        if long_waits >= 2 {
+            self.rest();
+            return;
+        }
+        self.good = self.good.saturating_add(1);
+        if self.good >= GOOD_STEPS {
+            self.next_rest = 1;
+        }
+    }
+
+    /// Whether the step is worth so many workers: it has constraints enough, and few of them wait for bodies of other parts. Answers for how
+    /// many bodies each ring then needs room.
+    pub(crate) fn is_worth(
+        &mut self,
+        rows: &Rows,
+        states: &[BodyState],
+        awake: &[u32],
+        parts: usize,
+    ) -> Option<usize>
+        ensures dealt { IfSome result (λ room. AreDealt self.new.deal.home.items parts states.now) }
+        ensures colours { IfSome result (λ room. length rows.now.colours ≤ 64) }
+    {
+        if rows.colours() > MOST_COLOURS {
+            return None;
+        }
+        if parts < 2 || parts > MOST_PARTS || !self.is_due(rows) {
+            return None;
+        }
+        let counts = self.deal.settle(rows, states, awake, parts)?;
+        let room = room_for(counts);
+        let is_good = self.all_steps || is_loose(counts);
+        if is_good && room <= MOST_ROOM && are_dealt(&self.deal.home, parts, states) {
+            return Some(room);
+        }
+        self.rest();
+        None
+    }
+}

@@ -1,0 +1,179 @@
+//! A part's ends of the rings.
+
+ghost use Rattle.std.specs.Prelude.{◌≡◌, ◌++◌, ◌+◌, ◌∷◌, ◌<◌, ◌≤◌, [], IfOk, OnOk, length, slice_index_or, slice_set, vec_capacity};
+ghost use Rattle.rtrb.specs.Ring.{received, sent};
+ghost use Rattle.part_solver.specs.Mail.{MayFollow};
+ghost use Rattle.part_solver.specs.declared.mail.Item.TheVariants.{Letter};
+
+use crate::mail::{LETTERS, Received, Receiver, Sender, look_again, receive, send};
+use fixed_geom::Refusal;
+use momenta::BodyState;
+use rtrb::{Consumer, Producer, RingBuffer};
+use std::alloc::Global;
+use std::marker::Model;
+use std::sync::Wait;
+
+/// The end of a ring from which letters come that are free to be written.
+pub(crate) type Spares = Consumer<Vec<BodyState>>;
+
+/// Its other end, into which letters go that have been read.
+pub(crate) type Returns = Producer<Vec<BodyState>>;
+
+/// The ends of a part's rings, by the part at the other end. At its own number stands a ring to itself, which isn't used. They are made for
+/// one step. Contracts see what was sent to each part, and what has come from it.
+#[derive(Drop)]
+pub(crate) struct Ports {
+    outs: Vec<Sender>,
+    spares: Vec<Spares>,
+    ins: Vec<Receiver>,
+    returns: Vec<Returns>,
+}
+
+impl Model for Ports {
+    ghost use Rattle.std.specs.Prelude.{map};
+    ghost use Rattle.rtrb.specs.Ring.{received, sent};
+    ghost use Rattle.part_solver.specs.Mail.{Posts};
+
+    ghost Value = { Posts };
+
+    ghost view = { λ p. record { outs = map (λ s. sent s) p.outs.items; ins = map (λ r. received r) p.ins.items } };
+}
+
+/// A way for letters that have been read back to who writes them, with letters that have room for so many bodies.
+pub(crate) fn make_returns(
+    alloc: Global,
+    letters: usize,
+    room: usize,
+) -> Result<(Returns, Spares), Refusal> {
+    let Ok((mut returns, spares)) = RingBuffer::new(alloc, LETTERS) else {
+        return Err(Refusal::NoMemory);
+    };
+    for _ in 0..letters {
+        let _ = returns.push(Vec::with_capacity(alloc, room)?);
+    }
+    Ok((returns, spares))
+}
+
+impl Ports {
+    /// No rings.
+    pub(crate) fn new(alloc: Global) -> Ports
+        ensures outs { result.outs ≡ [] }
+        ensures ins { result.ins ≡ [] }
+    {
+        Ports {
+            outs: Vec::new(alloc),
+            spares: Vec::new(alloc),
+            ins: Vec::new(alloc),
+            returns: Vec::new(alloc),
+        }
+    }
+
+    /// Lets all rings go, and makes room for so many. Refused 1 where memory is wanting.
+    pub(crate) fn prepare(&mut self, parts: usize) -> Result<(), Refusal>
+        ensures outs { OnOk result (self.new.outs ≡ []) }
+        ensures ins { OnOk result (self.new.ins ≡ []) }
+    {
+        self.outs.clear();
+        self.spares.clear();
+        self.ins.clear();
+        self.returns.clear();
+        self.outs.reserve(parts)?;
+        self.spares.reserve(parts)?;
+        self.ins.reserve(parts)?;
+        self.returns.reserve(parts)?;
+        Ok(())
+    }
+
+    /// How many parts there are.
+    pub(crate) fn parts(&self) -> usize
+        ensures { result ≡ length self.now.outs }
+    {
+        self.outs.len()
+    }
+
+    /// Adds a ring to the next part, and the one through which letters come back.
+    pub(crate) fn add_out(&mut self, sender: Sender, spares: Spares) -> Result<(), Refusal>
+        ensures outs { OnOk result (self.new.outs ≡ self.old.outs ++ sent sender ∷ []) }
+        ensures ins { OnOk result (self.new.ins ≡ self.old.ins) }
+    {
+        if self.outs.push(sender).is_err() || self.spares.push(spares).is_err() {
+            return Err(Refusal::NoMemory);
+        }
+        Ok(())
+    }
+
+    /// Adds a ring from the next part, and the one through which letters go back.
+    pub(crate) fn add_in(&mut self, receiver: Receiver, returns: Returns) -> Result<(), Refusal>
+        ensures outs { OnOk result (self.new.outs ≡ self.old.outs) }
+        ensures ins { OnOk result (self.new.ins ≡ self.old.ins ++ received receiver ∷ []) }
+    {
+        if self.ins.push(receiver).is_err() || self.returns.push(returns).is_err() {
+            return Err(Refusal::NoMemory);
+        }
+        Ok(())
+    }
+
+    /// A letter to a part that has come back, if one has.
+    fn next_spare(&mut self, to: usize) -> Option<Vec<BodyState>>
+        ensures outs { self.new.outs ≡ self.old.outs }
+        ensures ins { self.new.ins ≡ self.old.ins }
+    {
+        match self.spares.get_mut(to) {
+            None => None,
+            Some(spares) => spares.pop().ok(),
+        }
+    }
+
+    /// An empty letter to a part with room for so many bodies, once there is one.
+    pub(crate) fn spare<R: Wait>(&mut self, rt: &R, to: usize, count: usize) -> Vec<BodyState>
+        requires to { to < length self.old.outs }
+        ensures empty { result.items ≡ [] }
+        ensures room { count ≤ vec_capacity result }
+        ensures outs { self.new.outs ≡ self.old.outs }
+        ensures ins { self.new.ins ≡ self.old.ins }
+    {
+        let mut looks = 0;
+        for _ in rt.forever() {
+            if let Some(mut letter) = self.next_spare(to) {
+                letter.clear();
+                if letter.capacity() >= count {
+                    return letter;
+                }
+            }
+            looks = look_again(looks);
+        }
+        unreachable!()
+    }
+
+    /// Sends a letter to a part, once there is room for it. Answers how often that was looked for.
+    pub(crate) fn send<R: Wait>(&mut self, rt: &R, to: usize, letter: Vec<BodyState>) -> u32
+        requires to { to < length self.old.outs }
+        requires allowed { MayFollow (slice_index_or self.old.outs to []) (Letter letter) }
+        ensures outs { self.new.outs ≡ slice_set self.old.outs to (slice_index_or self.old.outs to [] ++ Letter letter ∷ []) }
+        ensures ins { self.new.ins ≡ self.old.ins }
+    {
+        send(rt, &mut self.outs[to], letter)
+    }
+
+    /// Receives a letter of so many bodies from a part, once it is there.
+    pub(crate) fn receive<R: Wait>(&mut self, rt: &R, from: usize, count: usize) -> Received
+        requires from { from < length self.old.ins }
+        ensures ins { self.new.ins ≡ slice_set self.old.ins from (slice_index_or self.old.ins from [] ++ Letter result.letter ∷ []) }
+        ensures outs { self.new.outs ≡ self.old.outs }
+        ensures allowed { MayFollow (slice_index_or self.old.ins from []) (Letter result.letter) }
+        ensures long { length result.letter.items ≡ count }
+    {
+        receive(rt, &mut self.ins[from], count)
+    }
+
+    /// Gives a letter that has been read back to the part from which it came.
+    pub(crate) fn give_back(&mut self, from: usize, letter: Vec<BodyState>)
+        requires from { from < length self.old.ins }
+        ensures outs { self.new.outs ≡ self.old.outs }
+        ensures ins { self.new.ins ≡ self.old.ins }
+    {
+        if let Some(returns) = self.returns.get_mut(from) {
+            let _ = returns.push(letter);
+        }
+    }
+}

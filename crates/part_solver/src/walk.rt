@@ -1,0 +1,350 @@
+//! The walk over the rows of a step: which rows are a part's own, and which bodies move from it and to it before each stage of a pass.
+//!
+//! All parts make the walk alike. A row that has a colour is of the part where its first mover is at home, and one that has none is of the
+//! part 0. A body that a row needs from elsewhere moves to its part before the row's stage. Behind the last of them all go home.
+
+ghost use Rattle.std.specs.Prelude.{◌≡◌, ◌*◌, ◌+◌, ◌++◌, ◌∷◌, ◌<◌, ◌≤◌, [], cond, false, true, length, map, slice_index_or, vec_capacity, vec_len};
+ghost use Rattle.colour_solver.specs.ColourRows.{joints_first};
+ghost use Rattle.colour_solver.specs.ConstraintVisits.{contacts_among};
+ghost use Rattle.colour_solver.specs.declared.constraint_row.ConstraintRow.TheVariants.{Contact, Joint};
+ghost use Rattle.part_runs.specs.Hidden.{owned, part_at};
+ghost use Rattle.part_runs.specs.Walks.{fetched, fetched_mover, setting_out, walk_home, walk_rows};
+ghost use Rattle.part_solver.specs.Benches.{HasSeen};
+ghost use Rattle.part_solver.specs.Running.{IsWalked};
+ghost use Rattle.part_solver.specs.Walking.{IsOnward, owner_in, owner_of, slots_fetched};
+
+use crate::moves::BodyMove;
+use crate::seat::Lists;
+use crate::seeing::{is_mover, part_at};
+use crate::step_lists::StepLists;
+use colour_solver::{Row, Rows, Slots};
+use colour_solver_base::ContactRow;
+use joint_rows::JointRow;
+use momenta::BodyState;
+use part_runs::laws::walks_are_made;
+
+/// What a row's part is found by.
+#[derive(Clone, Copy)]
+pub(crate) struct Homes<'a> {
+    states: &'a [BodyState],
+    home: &'a [u32],
+    /// The part that walks.
+    number: u32,
+}
+
+/// The part of a row: where its first mover is at home.
+#[inline(always)]
+pub(crate) fn part_of(slots: Slots, states: &[BodyState], home: &[u32]) -> u32
+    ensures { result ≡ owner_of states.now home.now true slots }
+{
+    if is_mover(states, slots.a as usize) {
+        part_at(home, slots.a as usize)
+    } else {
+        part_at(home, slots.b as usize)
+    }
+}
+
+/// A body is wanted in a part: it moves there, if it is elsewhere.
+#[inline(always)]
+fn fetch(number: u32, slot: u32, to: u32, at: &mut Vec<u32>, moves: &mut Vec<BodyMove>)
+    requires room { vec_len moves.old < vec_capacity moves.old }
+    ensures onward { IsOnward number (fetched to slot (setting_out at.old.items)) at.new.items moves.old.items moves.new.items }
+    ensures room { vec_capacity moves.new ≡ vec_capacity moves.old }
+    ensures few { vec_len moves.new ≤ vec_len moves.old + 1 }
+{
+    let from = part_at(at, slot as usize);
+    if from == to {
+        return;
+    }
+    if from == number || to == number {
+        moves.push_reserved(BodyMove { slot, from, to });
+    }
+    if let Some(part) = at.get_mut(slot as usize) {
+        *part = to;
+    }
+}
+
+/// The same of a mover. What no impulse moves is everywhere.
+#[inline(always)]
+fn fetch_mover(homes: Homes, slot: u32, to: u32, at: &mut Vec<u32>, moves: &mut Vec<BodyMove>)
+    requires room { vec_len moves.old < vec_capacity moves.old }
+    ensures onward { IsOnward homes.entry.number (fetched_mover homes.entry.states.now to slot (setting_out at.old.items)) at.new.items moves.old.items moves.new.items }
+    ensures room { vec_capacity moves.new ≡ vec_capacity moves.old }
+    ensures few { vec_len moves.new ≤ vec_len moves.old + 1 }
+{
+    if is_mover(homes.states, slot as usize) {
+        fetch(homes.number, slot, to, at, moves);
+    }
+}
+
+/// Whether both bodies of a row are at home in a part, and there.
+#[inline(always)]
+fn is_within(slots: Slots, home: &[u32], at: &[u32], part: u32) -> bool
+    ensures { result ≡ true → (part_at home.now slots.b ≡ part) × (part_at at.now slots.a ≡ part) × (part_at at.now slots.b ≡ part) }
+{
+    part_at(home, slots.b as usize) == part
+        && part_at(at, slots.a as usize) == part
+        && part_at(at, slots.b as usize) == part
+}
+
+/// Fetches the bodies of a row that has a colour. Answers its part.
+#[inline(always)]
+fn fetch_coloured(homes: Homes, slots: Slots, at: &mut Vec<u32>, moves: &mut Vec<BodyMove>) -> u32
+    requires room { vec_len moves.old + 1 < vec_capacity moves.old }
+    ensures part { result ≡ owner_of homes.entry.states.now homes.entry.home.now true slots }
+    ensures onward { IsOnward homes.entry.number (slots_fetched homes.entry.states.now result slots (setting_out at.old.items)) at.new.items moves.old.items moves.new.items }
+    ensures room { vec_capacity moves.new ≡ vec_capacity moves.old }
+    ensures few { vec_len moves.new ≤ vec_len moves.old + 2 }
+{
+    let part = part_at(homes.home, slots.a as usize);
+    if is_within(slots, homes.home, at, part) {
+        return part;
+    }
+    let to = part_of(slots, homes.states, homes.home);
+    fetch_mover(homes, slots.a, to, at, moves);
+    fetch_mover(homes, slots.b, to, at, moves);
+    to
+}
+
+/// Fetches the bodies of a row that has none. Answers its part.
+#[inline(always)]
+fn fetch_left(homes: Homes, slots: Slots, at: &mut Vec<u32>, moves: &mut Vec<BodyMove>) -> u32
+    requires room { vec_len moves.old + 1 < vec_capacity moves.old }
+    ensures part { result ≡ owner_of homes.entry.states.now homes.entry.home.now false slots }
+    ensures onward { IsOnward homes.entry.number (slots_fetched homes.entry.states.now result slots (setting_out at.old.items)) at.new.items moves.old.items moves.new.items }
+    ensures room { vec_capacity moves.new ≡ vec_capacity moves.old }
+    ensures few { vec_len moves.new ≤ vec_len moves.old + 2 }
+{
+    fetch_mover(homes, slots.a, 0, at, moves);
+    fetch_mover(homes, slots.b, 0, at, moves);
+    0
+}
+
+#[inline(always)]
+fn fetch_row(
+    homes: Homes,
+    slots: Slots,
+    coloured: bool,
+    at: &mut Vec<u32>,
+    moves: &mut Vec<BodyMove>,
+) -> u32
+    requires room { vec_len moves.old + 1 < vec_capacity moves.old }
+    ensures part { result ≡ owner_of homes.entry.states.now homes.entry.home.now coloured slots }
+    ensures onward { IsOnward homes.entry.number (slots_fetched homes.entry.states.now result slots (setting_out at.old.items)) at.new.items moves.old.items moves.new.items }
+    ensures room { vec_capacity moves.new ≡ vec_capacity moves.old }
+    ensures few { vec_len moves.new ≤ vec_len moves.old + 2 }
+{
+    if coloured {
+        fetch_coloured(homes, slots, at, moves)
+    } else {
+        fetch_left(homes, slots, at, moves)
+    }
+}
+
+/// The row at a place.
+#[inline(always)]
+fn row_at<T>(rows: &[T], index: usize) -> &T
+    requires { index < length rows.now }
+    ensures { result.now ≡ slice_index_or rows.now index result.now }
+{
+    &rows[index]
+}
+
+/// Adds a joint to a part's rows, if it is its own.
+#[inline(always)]
+fn keep_joint(rows: &mut Rows, joint: &JointRow, own: bool)
+    requires room { 1 ≤ rows.old.room }
+    requires first { contacts_among rows.old.left ≡ [] }
+    ensures left { rows.new.left ≡ rows.old.left ++ cond own (Joint joint.now ∷ []) [] }
+    ensures colours { rows.new.colours ≡ rows.old.colours }
+    ensures room { rows.old.room ≤ rows.new.room + 1 }
+    ensures more { rows.new.more ≡ rows.old.more }
+{
+    if own {
+        rows.push_joint(*joint);
+    }
+}
+
+/// The same of a contact.
+#[inline(always)]
+fn keep_contact(rows: &mut Rows, contact: &ContactRow, own: bool)
+    requires room { 1 ≤ rows.old.room }
+    ensures left { rows.new.left ≡ rows.old.left ++ cond own (Contact contact.now ∷ []) [] }
+    ensures colours { rows.new.colours ≡ rows.old.colours }
+    ensures room { rows.old.room ≤ rows.new.room + 1 }
+    ensures more { rows.new.more ≡ rows.old.more }
+{
+    if own {
+        rows.push_contact(*contact);
+    }
+}
+
+/// Walks over the joints of a stage, and adds the part's own to its rows.
+fn walk_joints(
+    homes: Homes,
+    joints: &[JointRow],
+    coloured: bool,
+    at: &mut Vec<u32>,
+    moves: &mut Vec<BodyMove>,
+    rows: &mut Rows,
+)
+    requires moves_room { vec_len moves.old + 2 * length joints.now ≤ vec_capacity moves.old }
+    requires rows_room { length joints.now ≤ rows.old.room }
+    requires no_rows { rows.old.left ≡ [] }
+    ensures onward { IsOnward homes.entry.number (walk_rows homes.entry.states.now (owner_in homes.entry.states.now homes.entry.home.now coloured) (map Joint joints.now) (setting_out at.old.items)) at.new.items moves.old.items moves.new.items }
+    ensures own { rows.new.left ≡ owned (owner_in homes.entry.states.now homes.entry.home.now coloured) homes.entry.number (map Joint joints.now) }
+    ensures no_contacts { contacts_among rows.new.left ≡ [] }
+    ensures colours { rows.new.colours ≡ rows.old.colours }
+    ensures more { rows.new.more ≡ rows.old.more }
+    ensures rows_room { rows.old.room ≤ rows.new.room + length joints.now }
+    ensures moves_room { vec_capacity moves.new ≡ vec_capacity moves.old }
+    ensures few { vec_len moves.new ≤ vec_len moves.old + 2 * length joints.now }
+{
+    for index in 0..joints.len() {
+        let joint = row_at(joints, index);
+        let part = fetch_row(homes, joint.slots(), coloured, at, moves);
+        keep_joint(rows, joint, part == homes.number);
+    }
+}
+
+/// Walks over its contacts, behind the joints.
+fn walk_contacts(
+    homes: Homes,
+    contacts: &[ContactRow],
+    coloured: bool,
+    at: &mut Vec<u32>,
+    moves: &mut Vec<BodyMove>,
+    rows: &mut Rows,
+)
+    requires moves_room { vec_len moves.old + 2 * length contacts.now ≤ vec_capacity moves.old }
+    requires rows_room { length contacts.now ≤ rows.old.room }
+    ensures onward { IsOnward homes.entry.number (walk_rows homes.entry.states.now (owner_in homes.entry.states.now homes.entry.home.now coloured) (map Contact contacts.now) (setting_out at.old.items)) at.new.items moves.old.items moves.new.items }
+    ensures own { rows.new.left ≡ rows.old.left ++ owned (owner_in homes.entry.states.now homes.entry.home.now coloured) homes.entry.number (map Contact contacts.now) }
+    ensures colours { rows.new.colours ≡ rows.old.colours }
+    ensures more { rows.new.more ≡ rows.old.more }
+    ensures rows_room { rows.old.room ≤ rows.new.room + length contacts.now }
+    ensures moves_room { vec_capacity moves.new ≡ vec_capacity moves.old }
+    ensures few { vec_len moves.new ≤ vec_len moves.old + 2 * length contacts.now }
+{
+    for index in 0..contacts.len() {
+        let contact = row_at(contacts, index);
+        let part = fetch_row(homes, contact.slots(), coloured, at, moves);
+        keep_contact(rows, contact, part == homes.number);
+    }
+}
+
+/// Ends a stage, for which there is room.
+fn end_stage(ends: &mut Vec<usize>, moves: &[BodyMove])
+    requires { vec_len ends.old < vec_capacity ends.old }
+    ensures ends { ends.new.items ≡ ends.old.items ++ length moves.now ∷ [] }
+    ensures room { vec_capacity ends.new ≡ vec_capacity ends.old }
+    ensures count { vec_len ends.new ≡ vec_len ends.old + 1 }
+{
+    ends.push_reserved(moves.len());
+}
+
+/// Walks over the rows of a stage: its joints and its contacts. Then it ends.
+fn walk_stage(
+    homes: Homes,
+    joints: &[JointRow],
+    contacts: &[ContactRow],
+    coloured: bool,
+    lists: &mut Lists,
+)
+    requires moves_room { vec_len lists.old.moves + 2 * (length joints.now + length contacts.now) ≤ vec_capacity lists.old.moves }
+    requires rows_room { length joints.now + length contacts.now ≤ lists.old.rows.room }
+    requires no_rows { lists.old.rows.left ≡ [] }
+    requires colours_room { 1 ≤ lists.old.rows.more }
+    requires ends_room { vec_len lists.old.ends < vec_capacity lists.old.ends }
+    ensures onward { IsOnward homes.entry.number (walk_rows homes.entry.states.now (owner_in homes.entry.states.now homes.entry.home.now coloured) (joints_first joints.now contacts.now) (setting_out lists.old.at.items)) lists.new.at.items lists.old.moves.items lists.new.moves.items }
+    ensures own { lists.new.rows.colours ≡ lists.old.rows.colours ++ owned (owner_in homes.entry.states.now homes.entry.home.now coloured) homes.entry.number (joints_first joints.now contacts.now) ∷ [] }
+    ensures no_rows { lists.new.rows.left ≡ [] }
+    ensures colours_room { lists.old.rows.more ≤ lists.new.rows.more + 1 }
+    ensures rows_room { lists.old.rows.room ≤ lists.new.rows.room + (length joints.now + length contacts.now) }
+    ensures moves_room { vec_capacity lists.new.moves ≡ vec_capacity lists.old.moves }
+    ensures few { vec_len lists.new.moves ≤ vec_len lists.old.moves + 2 * (length joints.now + length contacts.now) }
+    ensures states { lists.new.states.items ≡ lists.old.states.items }
+    ensures awake { lists.new.awake.items ≡ lists.old.awake.items }
+    ensures carried { lists.new.carried.items ≡ lists.old.carried.items }
+    ensures ends { lists.new.ends.items ≡ lists.old.ends.items ++ length lists.new.moves.items ∷ [] }
+    ensures ends_room { vec_capacity lists.new.ends ≡ vec_capacity lists.old.ends }
+    ensures ends_count { vec_len lists.new.ends ≡ vec_len lists.old.ends + 1 }
+{
+    walk_joints(
+        homes,
+        joints,
+        coloured,
+        &mut lists.at,
+        &mut lists.moves,
+        &mut lists.rows,
+    );
+    walk_contacts(
+        homes,
+        contacts,
+        coloured,
+        &mut lists.at,
+        &mut lists.moves,
+        &mut lists.rows,
+    );
+    lists.rows.end_colour();
+    end_stage(&mut lists.ends, &lists.moves);
+}
+
+/// The bodies go home.
+fn walk_home(homes: Homes, awake: &[u32], at: &mut Vec<u32>, moves: &mut Vec<BodyMove>)
+    requires room { vec_len moves.old + length awake.now ≤ vec_capacity moves.old }
+    ensures onward { IsOnward homes.entry.number (walk_home homes.entry.home.now awake.now (setting_out at.old.items)) at.new.items moves.old.items moves.new.items }
+{
+    for place in 0..awake.len() {
+        let slot = awake[place];
+        let home = part_at(homes.home, slot as usize);
+        fetch(homes.number, slot, home, at, moves);
+    }
+}
+
+/// Walks the way home, the last stage.
+fn walk_way_home(homes: Homes, awake: &[u32], lists: &mut Lists)
+    requires moves_room { vec_len lists.old.moves + length awake.now ≤ vec_capacity lists.old.moves }
+    requires ends_room { vec_len lists.old.ends < vec_capacity lists.old.ends }
+    ensures onward { IsOnward homes.entry.number (walk_home homes.entry.home.now awake.now (setting_out lists.old.at.items)) lists.new.at.items lists.old.moves.items lists.new.moves.items }
+    ensures ends { lists.new.ends.items ≡ lists.old.ends.items ++ length lists.new.moves.items ∷ [] }
+    ensures rows { lists.new.rows ≡ lists.old.rows }
+    ensures states { lists.new.states.items ≡ lists.old.states.items }
+    ensures awake { lists.new.awake.items ≡ lists.old.awake.items }
+    ensures carried { lists.new.carried.items ≡ lists.old.carried.items }
+{
+    walk_home(homes, awake, &mut lists.at, &mut lists.moves);
+    end_stage(&mut lists.ends, &lists.moves);
+}
+
+/// Walks over all stages of a pass: the colours, the rows that have none, and the way home.
+pub(crate) fn walk(step: &StepLists, number: u32, lists: &mut Lists)
+    requires { HasSeen step.now number lists.old }
+    ensures { IsWalked step.now number lists.new }
+{
+    walks_are_made();
+    step.know();
+    let homes = Homes {
+        states: step.states(),
+        home: step.home(),
+        number,
+    };
+    let rows = step.rows();
+    for colour in 0..rows.colours() {
+        walk_stage(
+            homes,
+            rows.joints_in(colour),
+            rows.contacts_in(colour),
+            true,
+            lists,
+        );
+    }
+    walk_stage(
+        homes,
+        rows.joints_left(),
+        rows.contacts_left(),
+        false,
+        lists,
+    );
+    walk_way_home(homes, step.awake(), lists);
+}
