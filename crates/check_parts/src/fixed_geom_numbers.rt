@@ -39,11 +39,18 @@ fn quotient(a: i64, b: i64) -> i64
 }
 
 /// A share by the reciprocal of the whole.
-fn part(x: i64, k: i64) -> i64
-    requires positive { pos 0 <ℤ k }
-    requires part { 4 * unsigned_abs x ≤ unsigned_abs k }
-{
+fn part(x: i64, k: i64) -> Option<i64> {
     share_by(x, k, share_reciprocal(k))
+}
+
+/// A quotient times 2^40 by the reciprocal of the divisor.
+fn quotient_40(x: i64, k: i64) -> i128
+    requires nonnegative { pos 0 ≤ℤ x }
+    requires x { unsigned_abs x ≤ 2 ^ 56 }
+    requires positive { pos 0 <ℤ k }
+    requires most { unsigned_abs k < 2 ^ 62 }
+{
+    quotient_40_by(x, k, share_reciprocal(k))
 }
 
 /// An impulse by the reciprocal of the inverse mass.
@@ -52,7 +59,7 @@ fn impulse(x: i64, inverse: i64) -> i64
     requires least { pos (2 ^ 20) ≤ℤ inverse }
     requires most { unsigned_abs inverse < 2 ^ 62 }
 {
-    over_inverse_by(x, inverse, share_reciprocal(inverse))
+    over_inverse_by(x, inverse, over_inverse_reciprocal(inverse))
 }
 
 #[test]
@@ -72,14 +79,38 @@ fn quotients_by_reciprocals_round(rt: HostRuntime) {
         &[4, -4, -2, 0, 1572864, -1649267441664, 366503875925],
     );
     let parts = [
-        part(1, 4),
-        part(-262144, 1048576),
-        part(-1, 2147483648),
-        part(-1, 2147483649),
+        part(-(1 << 30), 1 << 32),
+        part(5, 1 << 33),
         part(1 << 40, 1 << 54),
+        // Two whole numbers are as near.
+        part(4, 1 << 33),
+        // More than a quarter.
+        part((1 << 30) + 4, 1 << 32),
+        // No reciprocal.
+        part(1, 4),
         part(1 << 40, 1 << 58),
     ];
-    same_items(&rt, &parts, &[268435456, -268435456, -1, 0, 65536, 4096]);
+    let told = [
+        Some(-268435456),
+        Some(1),
+        Some(65536),
+        None,
+        None,
+        None,
+        None,
+    ];
+    same_items(&rt, &parts, &told);
+    let wide = [
+        quotient_40(1 << 20, 1 << 40),
+        quotient_40(1 << 47, 1 << 57),
+        quotient_40(3, 7),
+        quotient_40(1 << 56, 1 << 32),
+    ];
+    same_items(
+        &rt,
+        &wide,
+        &[1048576, 1073741824, 471219269047, 18446744073709551616],
+    );
     let impulses = [
         impulse(55, 916259689813),
         impulse(-10, 2199023255552),

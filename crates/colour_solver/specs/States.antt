@@ -18,7 +18,7 @@ nobody = record {
   mass = standing;
   motion = record { p = zero_vector; l = pos 0; x = zero_vector; rot = record { c = pos (2 ^ 30); s = pos 0 } };
   start = zero_vector;
-  reciprocals = record { mass = pos (2 ^ 62); inertia = pos 0 };
+  reciprocals = record { mass = pos (2 ^ 62 + 1); inertia = pos 0 };
 }
 
 abbrev pub AreAllStates : List BodyState → Type 0

@@ -2,7 +2,7 @@
 use Rattle.std.proofs.Common.{◌≡◌, ◌∙◌, ◌^◌, Bool, true, false, cond, Option, Some, None, ℤ, pos, neg_ℤ, ◌+ℤ◌, ◌-ℤ◌, ◌*ℤ◌, int_lt, refl, sym, ap, subst}
 use Rattle.std.specs.Prelude.{option_map}
 use Rattle.fixed_geom.specs.Numbers.{rdiv}
-use Rattle.fixed_geom.specs.Reciprocals.{share_reciprocal}
+use Rattle.fixed_geom.specs.Reciprocals.{over_inverse_reciprocal}
 use Rattle.fixed_geom.specs.Vectors.{unit_length, cross, opposite}
 use Rattle.fixed_geom.specs.declared.vectors.Vec2.{Vec2}
 use Rattle.momenta.specs.declared.mass.MassData.{MassData}
@@ -89,7 +89,7 @@ same_inverse n ra rb s e h =
     ap (λ (z : ℤ). z +ℤ inverse_share n rb s.b) (same_share n ra s.a e.a h.a.movable h.a.mass) ∙ ap (λ (z : ℤ). inverse_share n ra e.a +ℤ z) (same_share n rb s.b e.b h.b.movable h.b.mass)
 
 same_line : (n ra rb : Vec2) (s e : Ends) → AreMovedFrom s e → line_along n ra rb s ≡ line_along n ra rb e
-same_line n ra rb s e h = ap (λ (z : ℤ). record { direction = n; ra = ra; rb = rb; inverse_mass = z; reciprocal = share_reciprocal z }) (same_inverse n ra rb s e h)
+same_line n ra rb s e h = ap (λ (z : ℤ). record { direction = n; ra = ra; rb = rb; inverse_mass = z; reciprocal = over_inverse_reciprocal z }) (same_inverse n ra rb s e h)
 
 -- ---- one point
 

@@ -2,7 +2,7 @@
 use Rattle.std.specs.Prelude.{◌≤◌, ◌+◌, ◌^◌, Bool, false, cond, Option, Some, None, option_map, ℤ, pos, neg_ℤ, ◌+ℤ◌, ◌*ℤ◌, ◌≤ℤ◌, unsigned_abs, int_lt}
 use Rattle.std.specs.Option.{ForSome}
 use Rattle.fixed_geom.specs.Numbers.{rdiv}
-use Rattle.fixed_geom.specs.Reciprocals.{share_reciprocal}
+use Rattle.fixed_geom.specs.Reciprocals.{over_inverse_reciprocal}
 use Rattle.fixed_geom.specs.Vectors.{unit_length, dot, minus}
 use Rattle.fixed_geom.specs.declared.limits.TheConstants.{MAX_LINE_IMPULSE, MAX_NORMAL_IMPULSE, MAX_OFFSET}
 use Rattle.shapes.specs.declared.limits.TheConstants.{MAX_FRICTION, MAX_RESTITUTION}
@@ -39,7 +39,7 @@ key_of bodies = record { first = record { slot = bodies.a; index = bodies.first 
 -- ---- what stays for a whole step
 
 abbrev pub line_of : ContactPoint → Ends → Line
-line_of c e = record { direction = c.normal; ra = c.ra; rb = c.rb; inverse_mass = inverse_mass c.normal c.ra c.rb e; reciprocal = share_reciprocal (inverse_mass c.normal c.ra c.rb e) }
+line_of c e = record { direction = c.normal; ra = c.ra; rb = c.rb; inverse_mass = inverse_mass c.normal c.ra c.rb e; reciprocal = over_inverse_reciprocal (inverse_mass c.normal c.ra c.rb e) }
 
 -- the speed along the line, which only restitution asks for
 abbrev pub start_speed : Bool → Line → Ends → ℤ
@@ -56,8 +56,8 @@ point_row springy e c = record {
   rb = c.rb;
   normal_inverse = inverse_mass c.normal c.ra c.rb e;
   tangent_inverse = inverse_mass (tangent c.normal) c.ra c.rb e;
-  normal_reciprocal = share_reciprocal (inverse_mass c.normal c.ra c.rb e);
-  tangent_reciprocal = share_reciprocal (inverse_mass (tangent c.normal) c.ra c.rb e);
+  normal_reciprocal = over_inverse_reciprocal (inverse_mass c.normal c.ra c.rb e);
+  tangent_reciprocal = over_inverse_reciprocal (inverse_mass (tangent c.normal) c.ra c.rb e);
   separation = c.separation;
   start_speed = start_speed springy (line_of c e) e;
   normal_impulse = c.normal_impulse;

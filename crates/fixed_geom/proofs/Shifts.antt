@@ -1,8 +1,8 @@
 -- Rounding by a shift that rounds down.
-use Rattle.std.proofs.Common.{◌≡◌, suc, ◌+◌, ◌/◌, ◌<◌, ◌≤◌, ℤ, pos, negsuc, ◌+ℤ◌, ◌<ℤ◌, ◌≤ℤ◌, ◌^◌, unsigned_abs, refl, ap, arith, to_z, of_z, FitsSigned}
-use Rattle.std.proofs.lemmas.Int.{ints}
+use Rattle.std.proofs.Common.{◌≡◌, ℕ, suc, ◌+◌, ◌*◌, ◌/◌, ◌<◌, ◌≤◌, ℤ, pos, negsuc, ◌+ℤ◌, ◌-ℤ◌, ◌*ℤ◌, ◌<ℤ◌, ◌≤ℤ◌, ◌^◌, unsigned_abs, refl, ap, ◌∙◌, arith, to_z, of_z, FitsSigned}
+use Rattle.std.proofs.lemmas.Int.{ints, unsigned_abs-mul}
 use Rattle.std.specs.Int.Signed.{shr_z}
-use Rattle.fixed_geom.specs.Numbers.{nearest, rdiv}
+use Rattle.fixed_geom.specs.Numbers.{nearest, rdiv, fdiv}
 use Rattle.fixed_geom.specs.Vectors.{unit_length}
 use Rattle.fixed_geom.proofs.Sizes.{passed_64, passed_128, fits_64, narrowed, sum_le}
 use Rattle.fixed_geom.proofs.QuotientLemmas.{rdiv_le}
@@ -31,7 +31,7 @@ shifted_down (pos n) z h is = absurd (omega (arith, ints, h))
 
 -- ---- the code's sums and shifts, of a number with room for the half
 
-size : (x : ℤ) → unsigned_abs x ≤ 2 ^ 62 → unsigned_abs (rdiv x unit_length) ≤ 2 ^ 32
+pub size : (x : ℤ) → unsigned_abs x ≤ 2 ^ 62 → unsigned_abs (rdiv x unit_length) ≤ 2 ^ 32
 size x h = rdiv_le x unit_length (2 ^ 32) (omega (arith, ints)) (omega (arith, ints, h))
 
 pub shift_down_64 : (x : ℤ) → x <ℤ pos 0 → unsigned_abs x ≤ 2 ^ 62 → to_z w64 (of_z w64 (shr_z (to_z w64 (of_z w64 (to_z w64 (of_z w64 x) +ℤ pos 536870911))) 1073741824)) ≡ rdiv x unit_length
@@ -71,3 +71,57 @@ shift_up_128 x nonnegative h =
     let s : unsigned_abs (x +ℤ pos 536870912) ≤ 2 ^ 92 + 536870912 = sum_le x (pos 536870912) (2 ^ 92) 536870912 h (omega (arith, ints)) in
     let is : to_z w128 (of_z w128 x) +ℤ pos 536870912 ≡ x +ℤ pos 536870912 = ap (λ v. v +ℤ pos 536870912) (passed_128 x (omega (arith, h))) in
     shifted_wide x (to_z w128 (of_z w128 x) +ℤ pos 536870912) h (rw is (omega (arith, s))) (shifted_up x _ nonnegative is)
+
+-- ---- a number of 128 bits as its halves
+
+pub shift_is : (z : ℤ) (m : ℕ) → shr_z z m ≡ fdiv z (pos m)
+unfolding fdiv
+shift_is (pos z) m = refl
+shift_is (negsuc z) m = refl
+
+pub half_size : (z : ℤ) → unsigned_abs z ≤ 2 ^ 126 → unsigned_abs (shr_z z (2 ^ 64)) < 2 ^ 63
+half_size (pos z) h = omega (arith, h)
+half_size (negsuc z) h = omega (arith, h)
+
+pub upper_is : (z : ℤ) → unsigned_abs z ≤ 2 ^ 126 → to_z w64 (of_z w64 (to_z w128 (of_z w128 (shr_z z (2 ^ 64))))) ≡ fdiv z (pos (2 ^ 64))
+upper_is z h = narrowed (shr_z z (2 ^ 64)) (half_size z h) ∙ shift_is z (2 ^ 64)
+
+record IsAbove (z q : ℤ) : Type 0 where
+  low : (q *ℤ pos (2 ^ 64)) ≤ℤ z
+  high : z <ℤ (q *ℤ pos (2 ^ 64) +ℤ pos (2 ^ 64))
+
+above_half : (z : ℤ) → IsAbove z (shr_z z (2 ^ 64))
+above_half (pos z) = record { low = omega (arith, ints); high = omega (arith, ints) }
+above_half (negsuc z) = record { low = omega (arith, ints); high = omega (arith, ints) }
+
+natural : (v : ℤ) → pos 0 ≤ℤ v → pos (unsigned_abs v) ≡ v
+natural (pos v) h = refl
+natural (negsuc v) h = absurd (omega (arith, ints, h))
+
+lower_of : (z q : ℤ) → IsAbove z q → unsigned_abs q < 2 ^ 63
+    → pos (unsigned_abs (to_z w128 (of_z w128 (z -ℤ to_z w128 (of_z w128 (to_z w128 (of_z w128 q) *ℤ pos (2 ^ 64))))))) ≡ z -ℤ q *ℤ pos (2 ^ 64)
+lower_of z q h small =
+    let size : unsigned_abs (q *ℤ pos (2 ^ 64)) ≡ unsigned_abs q * 2 ^ 64 = unsigned_abs-mul q (pos (2 ^ 64)) in
+    rw (passed_128 q (omega (arith, small)), passed_128 (q *ℤ pos (2 ^ 64)) (omega (arith, size, small)), passed_128 (z -ℤ q *ℤ pos (2 ^ 64)) (omega (arith, ints, h.low, h.high))) (natural (z -ℤ q *ℤ pos (2 ^ 64)) (omega (arith, ints, h.low)))
+
+pub lower_is : (z : ℤ) → unsigned_abs z ≤ 2 ^ 126
+    → pos (unsigned_abs (to_z w128 (of_z w128 (z -ℤ to_z w128 (of_z w128 (to_z w128 (of_z w128 (shr_z z (2 ^ 64))) *ℤ pos (2 ^ 64))))))) ≡ z -ℤ fdiv z (pos (2 ^ 64)) *ℤ pos (2 ^ 64)
+lower_is z h = rw (← shift_is z (2 ^ 64)) (lower_of z (shr_z z (2 ^ 64)) (above_half z) (half_size z h))
+
+-- ---- rounding by the upper half, which is the sign
+
+sign_small : (x u : ℤ) → unsigned_abs x ≤ 2 ^ 62 → u ≡ fdiv x (pos (2 ^ 64)) → unsigned_abs u ≤ 1
+unfolding fdiv
+sign_small (pos n) u h e = omega (arith, ints, h, e)
+sign_small (negsuc n) u h e = omega (arith, ints, h, e)
+
+shifted_by_sign : (x u z : ℤ) → unsigned_abs x ≤ 2 ^ 62 → u ≡ fdiv x (pos (2 ^ 64)) → z ≡ x +ℤ u +ℤ pos 536870912 → shr_z z 1073741824 ≡ rdiv x unit_length
+unfolding fdiv
+shifted_by_sign (pos n) u z h e is = shifted_up (pos n) z (omega (arith, ints)) (omega (arith, ints, h, e, is))
+shifted_by_sign (negsuc n) u z h e is = shifted_down (negsuc n) z (omega (arith, ints)) (omega (arith, ints, h, e, is))
+
+pub shift_by_sign : (x u : ℤ) → unsigned_abs x ≤ 2 ^ 62 → u ≡ fdiv x (pos (2 ^ 64))
+    → to_z w64 (of_z w64 (shr_z (to_z w64 (of_z w64 (to_z w64 (of_z w64 (to_z w64 (of_z w64 (to_z w128 (of_z w128 x))) +ℤ to_z w64 (of_z w64 u))) +ℤ pos 536870912))) 1073741824)) ≡ rdiv x unit_length
+shift_by_sign x u h e =
+    let small : unsigned_abs u ≤ 1 = sign_small x u h e in
+    rw (passed_128 x (omega (arith, h)), passed_64 x (omega (arith, h)), passed_64 u (omega (arith, small)), passed_64 (x +ℤ u) (omega (arith, ints, h, small)), passed_64 (x +ℤ u +ℤ pos 536870912) (omega (arith, ints, h, small)), shifted_by_sign x u (x +ℤ u +ℤ pos 536870912) h e refl) (passed_64 (rdiv x unit_length) (omega (arith, size x h)))

@@ -71,7 +71,7 @@ fn over_size(n: u64, d: u64) -> u64
 
 /// `x·2^40 / inverse` to the nearest, ties away from zero: what is multiplied by a number whose inverse, times 2^40, is given.
 #[inline(always)]
-pub fn over_inverse(x: i64, inverse: i64) -> i64
+pub(crate) fn over_inverse(x: i64, inverse: i64) -> i64
     requires x { unsigned_abs x < 2 ^ 22 }
     requires least { pos (2 ^ 20) ≤ℤ inverse }
     requires most { unsigned_abs inverse < 2 ^ 62 }
@@ -104,7 +104,7 @@ pub(crate) fn quotient_40_of_sizes(n: u64, d: u64) -> u128
 
 /// `x·2^40 / k` to the nearest, ties away from zero.
 #[inline(always)]
-pub fn quotient_40(x: i64, k: i64) -> i128
+pub(crate) fn quotient_40(x: i64, k: i64) -> i128
     requires nonnegative { pos 0 ≤ℤ x }
     requires x { unsigned_abs x ≤ 2 ^ 56 }
     requires positive { pos 0 <ℤ k }

@@ -34,11 +34,11 @@ mod reciprocals;
 mod refusal;
 mod roots;
 mod shares_64;
+mod sure_quotients;
 mod vectors;
 
 pub use boxes::{Box2, contains, grow, overlaps};
 pub use facings::{MAX_FACING, MIN_FACING, Rot, is_facing, rotate, rotate_64, turn};
-pub use inverses::{over_inverse, quotient_40};
 pub use limits::{
     MAX_CORNER, MAX_LINE_IMPULSE, MAX_NORMAL_IMPULSE, MAX_OFFSET, MAX_POSITION, MAX_SPIN,
     limits_in_digits,
@@ -47,7 +47,8 @@ pub use products::{difference_of_products, product, scaled, sum_of_products};
 pub use products_64::{cross_64, dot_64, rdiv_unit_64, scaled_64};
 pub use quotients::{fdiv, rdiv, rdiv_64, rdiv_unit, share};
 pub use reciprocals::{
-    inverse_by, over_inverse_by, rdiv_by, rdiv_reciprocal, share_by, share_reciprocal,
+    inverse_by, over_inverse_by, over_inverse_reciprocal, quotient_40_by, rdiv_by, rdiv_reciprocal,
+    share_by, share_reciprocal,
 };
 pub use refusal::Refusal;
 pub use roots::isqrt;

@@ -6,6 +6,8 @@ ghost use Rattle.fixed_geom.specs.Numbers.{rdiv};
 ghost use Rattle.fixed_geom.specs.Vectors.{IsWithin, cross, dot, unit_length};
 
 use crate::Vec2;
+use crate::products::product;
+use crate::sure_quotients::halves_of;
 
 /// Half of what is divided by.
 const HALF: i64 = 1 << 29;
@@ -45,29 +47,28 @@ pub fn scaled_64(a: i64, b: i64) -> i64
     ensures value { result ≡ rdiv (a *ℤ b) unit_length }
     ensures within { unsigned_abs result ≤ 2 ^ 32 }
 {
-    rdiv_unit_64(product_64(a, b))
+    rdiv_unit_by_sign(product(a, b))
 }
 
-/// `a·b`, of a short `a`.
+/// `rdiv_unit_64` of a product in 128 bits, whose upper half is its sign: 0, or -1 of one below zero.
 #[inline(always)]
-fn spin_product_64(a: i64, b: i64) -> i64
-    requires a { unsigned_abs a ≤ 2 ^ 28 }
-    requires b { unsigned_abs b ≤ 2 ^ 31 }
-    ensures value { result ≡ a *ℤ b }
-    ensures size { unsigned_abs result ≡ unsigned_abs a * unsigned_abs b }
+fn rdiv_unit_by_sign(x: i128) -> i64
+    requires { unsigned_abs x ≤ 2 ^ 62 }
+    ensures value { result ≡ rdiv x unit_length }
+    ensures within { unsigned_abs result ≤ 2 ^ 32 }
 {
-    a * b
+    (x as i64 + halves_of(x).upper + HALF) >> 30
 }
 
-/// `scaled` in 64 bits, of an `a` up to 2^28 and a `b` up to 2^31: a spin by a part of a facing.
+/// `scaled` in 64 bits, of a spin `w` up to 2^28 and a part of a facing.
 #[inline(always)]
-pub(crate) fn spin_scaled_64(a: i64, b: i64) -> i64
-    requires a { unsigned_abs a ≤ 2 ^ 28 }
-    requires b { unsigned_abs b ≤ 2 ^ 31 }
-    ensures value { result ≡ rdiv (a *ℤ b) unit_length }
-    ensures within { (k : ℕ) → unsigned_abs a * unsigned_abs b ≤ k * 2 ^ 30 → unsigned_abs result ≤ k }
+pub(crate) fn spin_scaled_64(w: i64, part: i64) -> i64
+    requires spin { unsigned_abs w ≤ 2 ^ 28 }
+    requires part { unsigned_abs part ≤ 2 ^ 31 }
+    ensures value { result ≡ rdiv (w *ℤ part) unit_length }
+    ensures within { (k : ℕ) → unsigned_abs w * unsigned_abs part ≤ k * 2 ^ 30 → unsigned_abs result ≤ k }
 {
-    rdiv_unit_64(spin_product_64(a, b))
+    rdiv_unit_by_sign(product(w, part))
 }
 
 /// `dot` in 64 bits, of components up to 2^31 and 2^30.

@@ -14,7 +14,7 @@ use Rattle.momenta.specs.declared.mass.MassData.{MassData}
 use Rattle.momenta.specs.Motions.{IsMass, limited, velocity, spin}
 use Rattle.momenta.specs.Reciprocals.{reciprocals_of}
 use Rattle.momenta.specs.declared.reciprocals.Reciprocals.{Reciprocals}
-use Rattle.fixed_geom.specs.Reciprocals.{rdiv_reciprocal, share_reciprocal}
+use Rattle.fixed_geom.specs.Reciprocals.{over_inverse_reciprocal, rdiv_reciprocal, share_reciprocal}
 use Rattle.momenta.proofs.Spins.{fits_64, spin_turning}
 use Rattle.momenta.proofs.Rounding.{rdiv_fast}
 use Rattle.momenta.specs.declared.state.BodyState.{BodyState}
@@ -71,12 +71,12 @@ inverse_fits inverse wide least most =
     fits_64 inverse (omega (arith, ints, least, less))
 
 -- it is passed on as it is, and so its reciprocal is still its own
-pub reciprocal_passed : (inverse reciprocal : ℤ) → SFits w128 inverse → SFits w64 reciprocal → MIN_INVERSE_MASS ≤ℤ inverse → to_z w128 (of_z w128 inverse) <ℤ pos (2 ^ 62) → reciprocal ≡ share_reciprocal inverse
-    → to_z w64 (of_z w64 reciprocal) ≡ share_reciprocal (to_z w64 (of_z w64 (to_z w128 (of_z w128 inverse))))
+pub reciprocal_passed : (inverse reciprocal : ℤ) → SFits w128 inverse → SFits w64 reciprocal → MIN_INVERSE_MASS ≤ℤ inverse → to_z w128 (of_z w128 inverse) <ℤ pos (2 ^ 62) → reciprocal ≡ over_inverse_reciprocal inverse
+    → to_z w64 (of_z w64 reciprocal) ≡ over_inverse_reciprocal (to_z w64 (of_z w64 (to_z w128 (of_z w128 inverse))))
 reciprocal_passed inverse reciprocal wide narrow least most is =
     to_z-of_z w64 reciprocal narrow
     ∙ is
-    ∙ sym (ap (λ (z : ℤ). share_reciprocal (to_z w64 (of_z w64 z))) (to_z-of_z w128 inverse wide) ∙ ap share_reciprocal (to_z-of_z w64 inverse (inverse_fits inverse wide least most)))
+    ∙ sym (ap (λ (z : ℤ). over_inverse_reciprocal (to_z w64 (of_z w64 z))) (to_z-of_z w128 inverse wide) ∙ ap over_inverse_reciprocal (to_z-of_z w64 inverse (inverse_fits inverse wide least most)))
 
 -- ---- the velocity of a point
 

@@ -1,6 +1,6 @@
 -- Trusted: what must hold of a body and of a line for an impulse, and what the impulse leaves as it was.
 use Rattle.std.specs.Prelude.{◌≡◌, ◌≤◌, ◌^◌, true, false, ℤ, ◌+ℤ◌, ◌≤ℤ◌, unsigned_abs}
-use Rattle.fixed_geom.specs.Reciprocals.{share_reciprocal}
+use Rattle.fixed_geom.specs.Reciprocals.{over_inverse_reciprocal}
 use Rattle.fixed_geom.specs.Vectors.{IsWithin}
 use Rattle.fixed_geom.specs.declared.vectors.TheConstants.{UNIT}
 use Rattle.fixed_geom.specs.declared.limits.TheConstants.{MAX_OFFSET, MAX_POSITION}
@@ -37,7 +37,7 @@ pub record IsLine (line : Line) : Type 0 where
   pub rb : IsWithin (unsigned_abs MAX_OFFSET) line.rb
   pub inverse_low : MIN_INVERSE_MASS ≤ℤ line.inverse_mass
   pub inverse_high : unsigned_abs line.inverse_mass ≤ unsigned_abs MAX_INVERSE_MASS
-  pub reciprocal : line.reciprocal ≡ share_reciprocal line.inverse_mass
+  pub reciprocal : line.reciprocal ≡ over_inverse_reciprocal line.inverse_mass
 
 -- ---- what an impulse leaves as it was
 

@@ -1,7 +1,7 @@
 -- Trusted: Impulses: what a body gets of one, what two bodies give one another, and one impulse of the sequential solver along a line.
 use Rattle.std.specs.Prelude.{zero, ◌^◌, Bool, false, cond, nat_le, Option, Some, None, ℤ, pos, neg_ℤ, ◌+ℤ◌, ◌-ℤ◌, ◌*ℤ◌, unsigned_abs, int_lt}
 use Rattle.fixed_geom.specs.Numbers.{rdiv}
-use Rattle.fixed_geom.specs.Reciprocals.{share_reciprocal}
+use Rattle.fixed_geom.specs.Reciprocals.{over_inverse_reciprocal}
 use Rattle.fixed_geom.specs.Vectors.{is_within, unit_length, dot, cross, plus, minus, opposite}
 use Rattle.fixed_geom.specs.declared.vectors.Vec2.{Vec2}
 use Rattle.momenta.specs.declared.limits.TheConstants.{MAX_ANGULAR_MOMENTUM, MAX_MOMENTUM}
@@ -76,7 +76,7 @@ inverse_mass n ra rb e = inverse_share n ra e.a +ℤ inverse_share n rb e.b
 
 -- the line along n through the points at these offsets from the two centres
 abbrev pub line_along : Vec2 → Vec2 → Vec2 → Ends → Line
-line_along n ra rb e = record { direction = n; ra = ra; rb = rb; inverse_mass = inverse_mass n ra rb e; reciprocal = share_reciprocal (inverse_mass n ra rb e) }
+line_along n ra rb e = record { direction = n; ra = ra; rb = rb; inverse_mass = inverse_mass n ra rb e; reciprocal = over_inverse_reciprocal (inverse_mass n ra rb e) }
 
 -- the impulse that brings the speed to the bias
 unfoldable pub wanted : ℤ → ℤ → ℤ → ℤ

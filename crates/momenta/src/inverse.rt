@@ -2,23 +2,29 @@
 
 ghost use Rattle.std.specs.Prelude.{◌≡◌, ◌^◌, ◌≤◌, ◌⊎◌, true, pos, ◌+ℤ◌, ◌≤ℤ◌, unsigned_abs};
 ghost use Rattle.fixed_geom.specs.Numbers.{rdiv};
-ghost use Rattle.fixed_geom.specs.Reciprocals.{share_reciprocal};
+ghost use Rattle.fixed_geom.specs.Reciprocals.{over_inverse_reciprocal, share_reciprocal};
 ghost use Rattle.fixed_geom.specs.Vectors.{IsWithin, cross, unit_length};
 ghost use Rattle.momenta.specs.Motions.{IsMass};
 ghost use Rattle.momenta.specs.Impulses.{turning_share, inverse_share, inverse_mass};
 ghost use Rattle.momenta.specs.ImpulseBounds.{IsState, AreStates};
+ghost use Rattle.momenta.specs.Reciprocals.{reciprocals_of};
 
 use crate::line::INVERSE_LIMIT_64;
-use crate::{BodyState, Ends, MAX_INERTIA, MAX_INVERSE_MASS, MAX_MASS, MIN_INVERSE_MASS, MassData};
+use crate::{
+    BodyState, Ends, MAX_INERTIA, MAX_INVERSE_MASS, MAX_MASS, MIN_INVERSE_MASS, MassData,
+    Reciprocals,
+};
 use fixed_geom::{
-    MAX_OFFSET, UNIT, Vec2, cross_64, inverse_by, quotient_40, rdiv_unit_64, share_reciprocal,
+    MAX_OFFSET, UNIT, Vec2, cross_64, inverse_by, over_inverse_reciprocal, quotient_40_by,
+    rdiv_unit_64,
 };
 
 /// What turning adds to a body's share of the inverse mass: nothing at inertia 0, or where the line goes through the centre.
 #[inline(always)]
-fn turning_share(inertia: i64, lever: i64) -> i128
+fn turning_share(inertia: i64, reciprocal: i64, lever: i64) -> i128
     requires inertia { pos 0 ≤ℤ inertia }
     requires inertia_size { unsigned_abs inertia ≤ unsigned_abs MAX_INERTIA }
+    requires reciprocal { reciprocal ≡ share_reciprocal inertia }
     requires lever { unsigned_abs lever ≤ 2 ^ 28 }
     ensures value { result ≡ turning_share inertia lever }
     ensures nonnegative { pos 0 ≤ℤ result }
@@ -27,21 +33,22 @@ fn turning_share(inertia: i64, lever: i64) -> i128
     if inertia == 0 || lever == 0 {
         0
     } else {
-        share_of_inertia(inertia, lever)
+        share_of_inertia(inertia, reciprocal, lever)
     }
 }
 
 /// What turning adds, of a body that turns.
 #[inline(always)]
-fn share_of_inertia(inertia: i64, lever: i64) -> i128
+fn share_of_inertia(inertia: i64, reciprocal: i64, lever: i64) -> i128
     requires inertia { pos 1 ≤ℤ inertia }
     requires inertia_size { unsigned_abs inertia ≤ unsigned_abs MAX_INERTIA }
+    requires reciprocal { reciprocal ≡ share_reciprocal inertia }
     requires lever { unsigned_abs lever ≤ 2 ^ 28 }
     ensures value { result ≡ turning_share inertia lever }
     ensures nonnegative { pos 0 ≤ℤ result }
     ensures within { unsigned_abs result ≤ 2 ^ 96 }
 {
-    quotient_40(lever * lever, inertia)
+    quotient_40_by(lever * lever, inertia, reciprocal)
 }
 
 /// The share of a mass without turning, with its reciprocal.
@@ -68,19 +75,19 @@ fn lever(r: Vec2, direction: Vec2) -> i64
     rdiv_unit_64(cross_64(r, direction))
 }
 
-/// A mover's share of the inverse mass, with the reciprocal of its mass.
+/// A mover's share of the inverse mass, with the reciprocals of its mass.
 #[inline(always)]
-fn share_of_mover(direction: Vec2, r: Vec2, mass: MassData, reciprocal: i64) -> i128
+fn share_of_mover(direction: Vec2, r: Vec2, mass: MassData, reciprocals: Reciprocals) -> i128
     requires direction { IsWithin (unsigned_abs UNIT) direction }
     requires offset { IsWithin (unsigned_abs MAX_OFFSET) r }
     requires mass { IsMass mass }
-    requires reciprocal { pos 0 ≤ℤ reciprocal }
+    requires reciprocals { reciprocals ≡ reciprocals_of mass }
     ensures value { result ≡ rdiv (pos (2 ^ 40)) mass.mass +ℤ turning_share mass.inertia (rdiv (cross r direction) unit_length) }
     ensures some { MIN_INVERSE_MASS ≤ℤ result }
     ensures within { unsigned_abs result ≤ 2 ^ 97 }
 {
-    i128::from(share_of_mass(mass.mass, reciprocal))
-        + turning_share(mass.inertia, lever(r, direction))
+    i128::from(share_of_mass(mass.mass, reciprocals.mass))
+        + turning_share(mass.inertia, reciprocals.inertia, lever(r, direction))
 }
 
 /// A body's share of the inverse mass.
@@ -95,7 +102,7 @@ fn inverse_share(direction: Vec2, r: Vec2, body: &BodyState) -> i128
     ensures some { body.now.movable ≡ true → MIN_INVERSE_MASS ≤ℤ result }
 {
     if body.movable {
-        share_of_mover(direction, r, body.mass, body.reciprocals.mass)
+        share_of_mover(direction, r, body.mass, body.reciprocals)
     } else {
         0
     }
@@ -122,10 +129,10 @@ pub fn inverse_mass(direction: Vec2, ra: Vec2, rb: Vec2, ends: &Ends) -> i128
 #[inline(always)]
 pub fn inverse_reciprocal(inverse: i128) -> i64
     requires { pos 0 ≤ℤ inverse }
-    ensures { result ≡ share_reciprocal inverse }
+    ensures { result ≡ over_inverse_reciprocal inverse }
 {
     if inverse < INVERSE_LIMIT_64 {
-        share_reciprocal(inverse as i64)
+        over_inverse_reciprocal(inverse as i64)
     } else {
         0
     }

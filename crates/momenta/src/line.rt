@@ -3,7 +3,7 @@
 
 ghost use Rattle.std.specs.Prelude.{◌≡◌, ℕ, ◌^◌, ◌<◌, ◌≤◌, ◌+◌, ◌⊎◌, true, false, pos, neg_ℤ, ◌+ℤ◌, ◌-ℤ◌, ◌*ℤ◌, ◌≤ℤ◌, ◌<ℤ◌, unsigned_abs};
 ghost use Rattle.fixed_geom.specs.Numbers.{rdiv};
-ghost use Rattle.fixed_geom.specs.Reciprocals.{share_reciprocal};
+ghost use Rattle.fixed_geom.specs.Reciprocals.{over_inverse_reciprocal};
 ghost use Rattle.fixed_geom.specs.Vectors.{IsWithin, dot, unit_length};
 ghost use Rattle.momenta.specs.Impulses.{parting, speed_along, wanted, between, along, exerted, solved_impulse, warmed};
 ghost use Rattle.momenta.specs.ImpulseBounds.{AreStates, AreSameBodies, IsMomentumKept, IsLine};
@@ -293,7 +293,7 @@ pub(crate) fn next_total_64(speed: i64, inverse: i64, reciprocal: i64, goal: Goa
     requires bias { unsigned_abs goal.bias ≤ 2 ^ 20 }
     requires inverse { MIN_INVERSE_MASS ≤ℤ inverse }
     requires inverse_size { unsigned_abs inverse < 2 ^ 62 }
-    requires reciprocal { reciprocal ≡ share_reciprocal inverse }
+    requires reciprocal { reciprocal ≡ over_inverse_reciprocal inverse }
     requires order { goal.low ≤ℤ goal.high }
     requires total { unsigned_abs goal.total ≤ unsigned_abs MAX_LINE_IMPULSE }
     ensures value { result ≡ between goal.low goal.high (goal.total +ℤ wanted speed goal.bias inverse) }
@@ -341,7 +341,7 @@ fn next_total(speed: i64, inverse: i128, reciprocal: i64, goal: Goal) -> i64
     requires speed { unsigned_abs speed ≤ 2 ^ 62 + 2 ^ 28 }
     requires bias { unsigned_abs goal.bias ≤ 2 ^ 62 + 2 ^ 28 }
     requires inverse { MIN_INVERSE_MASS ≤ℤ inverse }
-    requires reciprocal { reciprocal ≡ share_reciprocal inverse }
+    requires reciprocal { reciprocal ≡ over_inverse_reciprocal inverse }
     requires order { goal.low ≤ℤ goal.high }
     requires total { unsigned_abs goal.total ≤ unsigned_abs MAX_LINE_IMPULSE }
     ensures value { result ≡ between goal.low goal.high (goal.total +ℤ wanted speed goal.bias inverse) }

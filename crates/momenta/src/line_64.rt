@@ -2,7 +2,7 @@
 //! copies of the momenta alone. Where there is no room, the answer is `None`, and the wide forms are to be used.
 
 ghost use Rattle.std.specs.Prelude.{◌≡◌, ℕ, ◌^◌, ◌<◌, ◌≤◌, ◌+◌, ◌*◌, Some, true, pos, ◌+ℤ◌, ◌-ℤ◌, ◌≤ℤ◌, ◌<ℤ◌, unsigned_abs, IfSome, is_some};
-ghost use Rattle.fixed_geom.specs.Reciprocals.{rdiv_reciprocal, share_reciprocal};
+ghost use Rattle.fixed_geom.specs.Reciprocals.{over_inverse_reciprocal, rdiv_reciprocal, share_reciprocal};
 ghost use Rattle.fixed_geom.specs.Vectors.{IsWithin};
 ghost use Rattle.momenta.specs.Motions.{spin, velocity};
 ghost use Rattle.momenta.specs.Impulses.{along, between, exerted, given, impulse_pair, parting, solved_impulse, turned_by, velocity_at, wanted, warmed};
@@ -104,27 +104,6 @@ pub fn momenta_pair_64(a: &BodyState, b: &BodyState) -> Option<MomentaPair64>
     }
 }
 
-/// Whether an angular momentum gives a spin within the limit: it is at most a quarter of the inertia.
-#[inline(always)]
-fn is_quarter(l: i64, inertia: i64) -> bool
-    requires { pos 0 ≤ℤ inertia }
-    ensures { result ≡ true → 4 * unsigned_abs l ≤ unsigned_abs inertia }
-{
-    l.unsigned_abs() <= inertia as u64 / 4
-}
-
-/// The spin of an angular momentum that is at most a quarter of the inertia, with the reciprocal of that.
-#[inline(always)]
-fn quarter_spin(l: i64, inertia: i64, reciprocal: i64) -> i64
-    requires quarter { 4 * unsigned_abs l ≤ unsigned_abs inertia }
-    requires positive { pos 1 ≤ℤ inertia }
-    requires reciprocal { reciprocal ≡ share_reciprocal inertia }
-    ensures value { result ≡ spin inertia l }
-    ensures small { unsigned_abs result ≤ unsigned_abs MAX_SPIN }
-{
-    share_by(l, inertia, reciprocal)
-}
-
 /// The spin of any angular momentum.
 #[cold]
 #[inline(never)]
@@ -145,10 +124,9 @@ fn spin_by_64(l: i64, inertia: i64, reciprocal: i64) -> i64
     ensures value { result ≡ spin inertia l }
     ensures small { unsigned_abs result ≤ unsigned_abs MAX_SPIN }
 {
-    if is_quarter(l, inertia) {
-        quarter_spin(l, inertia, reciprocal)
-    } else {
-        divided_spin(i128::from(l), inertia)
+    match share_by(l, inertia, reciprocal) {
+        Some(w) => w,
+        None => divided_spin(i128::from(l), inertia),
     }
 }
 
@@ -335,7 +313,7 @@ fn has_product_64(v: Vec2) -> bool
 #[inline(always)]
 fn checked_total_64(speed: i64, inverse: i128, reciprocal: i64, goal: Goal) -> Option<i64>
     requires inverse { MIN_INVERSE_MASS ≤ℤ inverse }
-    requires reciprocal { reciprocal ≡ share_reciprocal inverse }
+    requires reciprocal { reciprocal ≡ over_inverse_reciprocal inverse }
     requires order { goal.low ≤ℤ goal.high }
     requires total { unsigned_abs goal.total ≤ unsigned_abs MAX_LINE_IMPULSE }
     ensures value { IfSome result (λ next. next ≡ between goal.low goal.high (goal.total +ℤ wanted speed goal.bias inverse)) }

@@ -50,7 +50,7 @@ pub const NOBODY: BodyState = BodyState {
     },
     start: ZERO_VECTOR,
     reciprocals: Reciprocals {
-        mass: 1 << 62,
+        mass: (1 << 62) + 1,
         inertia: 0,
     },
 };

@@ -1,11 +1,14 @@
-use Rattle.std.proofs.Common.{◌≡◌, ◌∙◌, ap, ◌^◌, ◌≤◌, ℤ, pos, ◌+ℤ◌, ◌≤ℤ◌, unsigned_abs, arith, rules}
+use Rattle.std.proofs.Common.{◌≡◌, ◌∙◌, ap, ◌^◌, ◌≤◌, ℤ, pos, ◌+ℤ◌, ◌<ℤ◌, ◌≤ℤ◌, unsigned_abs, arith, rules}
 use Rattle.std.proofs.lemmas.Int.{to_z-of_z, ints}
 use Rattle.std.specs.Int.{w64}
 use mir.Val.{SFits}
 use Rattle.fixed_geom.specs.Numbers.{rdiv}
 use Rattle.fixed_geom.specs.Vectors.{cross, unit_length}
+use Rattle.fixed_geom.proofs.ReciprocalLemmas.{reciprocal_nonnegative}
 use Rattle.fixed_geom.proofs.Sizes.{IsExactSum, exact_sum}
 use Rattle.momenta.specs.Impulses.{turning_share}
+use Rattle.momenta.specs.Motions.{IsMass}
+use Rattle.momenta.proofs.Laws64.{inertia_reciprocal, mass_reciprocal}
 use Rattle.momenta.proofs.inverse.share_of_mover.Goals as goal
 
 -- the two shares, with no conversions
@@ -52,3 +55,16 @@ returns-clause-some c = rw (exact c).value (omega (arith, ints, (shares c).some,
 
 pub returns-clause-within : goal.returns-clause-within
 returns-clause-within c = rw (exact c).value (omega (arith, (exact c).size, (shares c).small, (shares c).within))
+
+pub share_of_mass-requires-clause-reciprocal : goal.share_of_mass-requires-clause-reciprocal
+share_of_mass-requires-clause-reciprocal c =
+    let reciprocal : SFits w64 c.args.reciprocals.mass = search rules in
+    let mover : IsMass c.args.mass = c.requires.mass in
+    let some : pos 0 <ℤ c.args.mass.mass = omega (arith, ints, mover.positive) in
+    simp to_z-of_z (rw (mass_reciprocal c.args.mass c.args.reciprocals c.requires.reciprocals) (reciprocal_nonnegative c.args.mass.mass some))
+
+pub turning_share-requires-clause-reciprocal : goal.turning_share-requires-clause-reciprocal
+turning_share-requires-clause-reciprocal c =
+    let inertia : SFits w64 c.args.mass.inertia = search rules in
+    let reciprocal : SFits w64 c.args.reciprocals.inertia = search rules in
+    simp to_z-of_z (inertia_reciprocal c.args.mass c.args.reciprocals c.requires.reciprocals)
