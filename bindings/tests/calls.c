@@ -1,5 +1,6 @@
 /* Each call once, with what it answers without a world too. */
 #include "check.h"
+#include "dillmonth_journal.h"
 
 static void without_a_world(void) {
   dm_world world = DM_NONE, other = DM_NONE;
@@ -59,8 +60,84 @@ static void without_a_world(void) {
   WANT(dm_ray_through(&world, (dm_vec){0, 0}, (dm_vec){1, 1}, &all, &hit) == DM_NO_WORLD);
   WANT(dm_ray_all(&world, (dm_vec){0, 0}, (dm_vec){1, 1}, &all, &count) == DM_NO_WORLD && dm_hits_found(&world, &hit, 1) == 0);
   WANT(dm_region_through(&world, &box, &all, &count) == DM_NO_WORLD && count == 9);
+  dm_frame frame = DM_NO_FRAME;
+  WANT(dm_frame_take(&world, &frame) == DM_NO_WORLD && frame.at == 0);
+  WANT(dm_frame_pose(frame, made, &pose) == DM_NO_WORLD && dm_frame_total(frame, &sum) == DM_NO_WORLD && dm_frame_calls(frame) == 0);
+  WANT(dm_frame_ray(frame, (dm_vec){0, 0}, (dm_vec){1, 1}, &hit) == DM_NO_WORLD);
+  WANT(dm_frame_region(frame, &box, &id, 1, &count) == DM_NO_WORLD && count == 9);
+  dm_frame_drop(&frame);
+  dm_course course;
+  dm_event event;
+  WANT(dm_motion(&world, made, &course) == DM_NO_WORLD && dm_push_to(&world, made, (dm_vec){1, 1}) == DM_NO_WORLD);
+  WANT(dm_twist(&world, made, 1) == DM_NO_WORLD && dm_twist_to(&world, made, 1) == DM_NO_WORLD);
+  WANT(dm_set_target(&world, made, (dm_vec){1, 1}, (dm_rot){1 << 30, 0}, 1) == DM_NO_WORLD);
+  WANT(dm_events_clear(&world, 1) == DM_NO_WORLD && dm_events(&world, &event, 1, &count) == DM_NO_WORLD && count == 9);
+  WANT(dm_set_tag(&world, made, 1) == DM_NO_WORLD && dm_tag(&world, made) == 0);
   dm_close(&world);
   dm_close(&world);
+}
+
+/* Motions that are set: what they give, and what they are refused for. */
+static void in_motion(void) {
+  dm_world world = DM_NONE;
+  dm_handle ball, lift, nobody = {0, 0};
+  dm_shape shape = circle_of(METRE / 2);
+  dm_body_def def = {DM_KINEMATIC, 0, {20 * METRE, 0}, {1 << 30, 0}, 0, 0, {0, 0}, 0};
+  dm_course course;
+  dm_view view;
+  dm_rot tenth = dm_degrees(10), half = dm_degrees(180);
+  uint64_t step = 0;
+  WANT(dm_open(&world, (dm_vec){0, 0}) == DM_DONE);
+  ball = add_circle(&world, 0, 10 * METRE);
+  WANT(dm_create_body(&world, &def, &shape, 1, &lift) == DM_DONE);
+  WANT(dm_push_to(&world, ball, (dm_vec){3000, -4000}) == DM_DONE && dm_motion(&world, ball, &course) == DM_DONE);
+  WANT(course.velocity.x == 3000 && course.velocity.y == -4000 && course.spin == 0);
+  WANT(dm_twist_to(&world, ball, 1000000) == DM_DONE && dm_motion(&world, ball, &course) == DM_DONE);
+  WANT(course.velocity.x == 3000 && course.velocity.y == -4000 && course.spin >= 999990 && course.spin <= 1000010);
+  WANT(dm_twist(&world, ball, 1000) == DM_DONE && dm_twist_to(&world, ball, 0) == DM_DONE && dm_body(&world, ball, &view) == DM_DONE);
+  WANT((int64_t)view.l_low > -(1 << 20) && (int64_t)view.l_low < 1 << 20 && view.p.x == 3000 * 200);
+  WANT(dm_push_to(&world, nobody, (dm_vec){1, 1}) == DM_STALE_HANDLE && dm_push_to(&world, lift, (dm_vec){1, 1}) == DM_NOT_A_MOVER);
+  WANT(dm_push_to(&world, ball, (dm_vec){INT64_MAX, INT64_MIN}) == DM_OUT_OF_RANGE);
+  WANT(dm_twist(&world, ball, INT64_MIN) == DM_OUT_OF_RANGE && dm_twist_to(&world, ball, INT64_MAX) == DM_OUT_OF_RANGE && dm_twist(&world, lift, 1) == DM_NOT_A_MOVER);
+  WANT(dm_set_target(&world, lift, (dm_vec){21 * METRE, 4000}, tenth, 8) == DM_DONE && dm_step(&world, 8, &step) == DM_DONE && dm_body(&world, lift, &view) == DM_DONE);
+  WANT(view.pose.at.x == 21 * METRE && view.pose.at.y == 4000 && view.pose.facing.s > tenth.s * 0.98 && view.pose.facing.s < tenth.s * 1.02);
+  WANT(dm_set_target(&world, lift, (dm_vec){21 * METRE, 0}, half, 1) == DM_OUT_OF_RANGE && dm_set_target(&world, lift, (dm_vec){0, 0}, tenth, 9) == DM_OUT_OF_RANGE);
+  WANT(dm_set_target(&world, lift, (dm_vec){0, 0}, (dm_rot){0, 0}, 1) == DM_OUT_OF_RANGE && dm_set_target(&world, ball, (dm_vec){0, 0}, tenth, 1) == DM_NOT_KINEMATIC);
+  WANT(dm_set_target(&world, lift, (dm_vec){0, INT64_MIN}, tenth, INT64_MIN) == DM_OUT_OF_RANGE && dm_set_target(&world, nobody, (dm_vec){0, 0}, tenth, 1) == DM_STALE_HANDLE);
+  dm_close(&world);
+}
+
+/* Events of all steps are those that each step has, one after another; tags stay with the body that they were given to. */
+static void in_all_steps(void) {
+  dm_world world = DM_NONE, copied = DM_NONE;
+  dm_event events[256];
+  dm_pair pairs[64];
+  dm_handle ball;
+  size_t told = 0, at = 0;
+  uint64_t step = 0;
+  make_heap(&world, 6, 1);
+  ball = dm_body_in(&world, 1);
+  WANT(dm_step(&world, 1, &step) == DM_DONE && dm_events(&world, events, 256, &told) == DM_DONE && told == 0);
+  WANT(dm_set_tag(&world, ball, UINT64_MAX) == DM_DONE && dm_events_clear(&world, 1) == DM_DONE);
+  WANT(dm_copy(&world, &copied) == DM_DONE && dm_tag(&copied, ball) == UINT64_MAX);
+  for (int i = 0; i < 200; i++) WANT(dm_step(&world, 1, &step) == DM_DONE && dm_settle(&world) == DM_DONE);
+  WANT(dm_events(&world, events, 256, &told) == DM_DONE && told > 0 && told <= 256);
+  for (int i = 0; i < 200; i++) {
+    WANT(dm_step(&copied, 1, &step) == DM_DONE);
+    size_t begun = dm_begun(&copied, pairs, 64), ended = dm_ended(&copied, pairs, 0), slept = dm_slept(&copied, &ball, 0), woke = dm_woke(&copied, &ball, 0);
+    WANT(at + begun + ended + slept + woke <= told && begun <= 64);
+    for (size_t k = 0; k < begun; k++, at++) {
+      WANT(events[at].kind == DM_EVENT_BEGUN && events[at].step == step && events[at].first.slot == pairs[k].first.slot && events[at].contact.points >= 1);
+      WANT((events[at].first_tag == UINT64_MAX) == (events[at].first.slot == 1) && events[at].contact.pair.second.slot == pairs[k].second.slot);
+    }
+    for (size_t k = 0; k < ended; k++, at++) WANT(events[at].kind == DM_EVENT_ENDED && events[at].step == step && events[at].contact.points == 0);
+    for (size_t k = 0; k < slept; k++, at++) WANT(events[at].kind == DM_EVENT_SLEPT && events[at].second.generation == 0);
+    for (size_t k = 0; k < woke; k++, at++) WANT(events[at].kind == DM_EVENT_WOKE);
+  }
+  WANT(at == told);
+  WANT(dm_events_clear(&world, 0) == DM_DONE && dm_step(&world, 1, &step) == DM_DONE && dm_events(&world, events, 256, &told) == DM_DONE && told == 0);
+  dm_close(&world);
+  dm_close(&copied);
 }
 
 static void with_a_heap(void) {
@@ -87,7 +164,7 @@ static void with_a_heap(void) {
   WANT(dm_region(&world, &wrong, &count) == DM_OUT_OF_RANGE && dm_region_found(&world, ids, 8) == 6);
   dm_contact contacts[32];
   WANT(dm_contacts(&world, &count) == DM_DONE && count >= 5 && dm_contacts_listed(&world, contacts, 32) == count);
-  WANT(contacts[0].pair.first.slot == 0 && contacts[0].points >= 1 && contacts[0].first_impulse > 0);
+  WANT(contacts[0].pair.first.slot == 0 && contacts[0].points >= 1 && contacts[0].first.normal_impulse > 0);
   WANT(dm_save(&world, &count) == DM_DONE && count > 100);
   uint8_t *text = malloc(count);
   uint32_t clause = 9;
@@ -222,6 +299,47 @@ static void through_a_filter(void) {
   dm_close(&world);
 }
 
+/* A frame answers what its world did when it was taken, whatever has become of the world. */
+static void in_a_frame(void) {
+  dm_world world = DM_NONE;
+  dm_frame frame = DM_NO_FRAME, other;
+  dm_vec above = {0, 20 * METRE}, down = {0, -40 * METRE};
+  dm_box box = {{-9 * METRE, -METRE}, {9 * METRE, 9 * METRE}}, wrong = {{1, 1}, {0, 0}};
+  dm_pose pose, untouched = {{7, 7}, {7, 7}, {7, 7}};
+  dm_view view;
+  dm_hit hit, seen;
+  dm_sum sum, booked;
+  dm_shape_id ids[8], found[8];
+  size_t count = 9, there = 9;
+  uint64_t step;
+  make_heap(&world, 5, 120);
+  WANT(dm_frame_take(&world, &frame) == DM_DONE && frame.at != 0 && dm_frame_calls(frame) == 126);
+  WANT(dm_body(&world, (dm_handle){1, 1}, &view) == DM_DONE && dm_ray(&world, above, down, &hit) == DM_DONE && dm_total(&world, &sum) == DM_DONE);
+  WANT(dm_region(&world, &box, &count) == DM_DONE && dm_region_found(&world, ids, 8) == count && count == 6);
+  WANT(dm_disable(&world, (dm_handle){2, 1}) == DM_DONE && dm_frame_take(&world, &frame) == DM_DONE && dm_frame_calls(frame) == 127);
+  pose = untouched;
+  WANT(dm_frame_pose(frame, (dm_handle){2, 1}, &pose) == DM_STALE_HANDLE && memcmp(&pose, &untouched, sizeof pose) == 0);
+  WANT(dm_enable(&world, (dm_handle){2, 1}) == DM_DONE && dm_frame_take(&world, &frame) == DM_DONE);
+  for (int i = 0; i < 30; i++) WANT(dm_step(&world, 4, &step) == DM_DONE);
+  WANT(dm_destroy_body(&world, (dm_handle){1, 1}) == DM_DONE);
+  dm_close(&world);
+  other = frame;
+  WANT(dm_frame_pose(other, (dm_handle){1, 1}, &pose) == DM_DONE && memcmp(&pose, &view.pose, sizeof pose) == 0);
+  WANT(dm_frame_pose(other, (dm_handle){1, 2}, &pose) == DM_STALE_HANDLE && dm_frame_pose(other, (dm_handle){9, 1}, &pose) == DM_STALE_HANDLE);
+  WANT(dm_frame_ray(frame, above, down, &seen) == DM_DONE && memcmp(&seen, &hit, sizeof hit) == 0);
+  seen.fraction = 7;
+  WANT(dm_frame_ray(frame, above, (dm_vec){INT64_MAX, 0}, &seen) == DM_OUT_OF_RANGE && seen.fraction == 7);
+  WANT(dm_frame_region(frame, &box, found, 8, &there) == DM_DONE && there == count && memcmp(found, ids, count * sizeof *ids) == 0);
+  found[2].slot = 77;
+  WANT(dm_frame_region(frame, &box, found, 2, &there) == DM_DONE && there == count && found[2].slot == 77);
+  there = 9;
+  WANT(dm_frame_region(frame, &wrong, found, 8, &there) == DM_OUT_OF_RANGE && there == 9 && found[2].slot == 77);
+  WANT(dm_frame_total(frame, &booked) == DM_DONE && dm_frame_calls(frame) == 128);
+  dm_frame_drop(&frame);
+  dm_frame_drop(&frame);
+  WANT(frame.at == 0 && dm_frame_calls(frame) == 0);
+}
+
 static void in_a_batch(void) {
   dm_world world = DM_NONE, other = DM_NONE;
   dm_command commands[5];
@@ -254,6 +372,41 @@ static void in_a_batch(void) {
   dm_close(&other);
 }
 
+/* A journal has what was accepted, and its replay is the same world. */
+static void in_a_journal(void) {
+  dm_world world = DM_NONE, other = DM_NONE;
+  dm_journal journal = DM_NO_JOURNAL;
+  dm_command make, step, push;
+  dm_shape shapes[2] = {circle_of(METRE / 2), circle_of(METRE / 4)};
+  dm_answer answer;
+  memset(&make, 0, sizeof make);
+  make.body = (dm_body_def){DM_DYNAMIC, 0, {0, METRE}, {1 << 30, 0}, 200, 27000000000000, {0, 0}, 0};
+  make.shapes_count = 2;
+  step = push = make;
+  step.kind = DM_DO_STEP;
+  step.ticks = 4;
+  push.kind = DM_DO_PUSH;
+  push.joint.a = (dm_handle){7, 1};
+  WANT(dm_journal_apply(&journal, &world, &step, shapes, &answer) == DM_NO_WORLD && journal.commands_len == 0);
+  WANT(dm_journal_open(&journal, &world, (dm_vec){INT64_MAX, 0}) == DM_OUT_OF_RANGE && dm_journal_open(&journal, &world, (dm_vec){0, -179}) == DM_DONE);
+  for (uint32_t i = 0; i < 40; i++) {
+    make.body.at.y = (1 + (int64_t)i) * 2 * METRE;
+    WANT(dm_journal_apply(&journal, &world, &make, shapes, &answer) == DM_DONE && answer.made.slot == i);
+    WANT(dm_journal_apply(&journal, &world, &step, shapes, &answer) == DM_DONE && answer.step == i + 1);
+  }
+  push.joint.a = (dm_handle){77, 1};
+  WANT(dm_journal_apply(&journal, &world, &push, shapes, &answer) == DM_STALE_HANDLE && journal.commands_len == 80 && journal.shapes_len == 80);
+  WANT(dm_settle(&world) == DM_DONE && dm_journal_replay(&journal, &other) == DM_DONE && same(digest_of(&world), digest_of(&other)));
+  dm_answer *answers = malloc(80 * sizeof *answers);
+  WANT(dm_open(&other, journal.gravity) == DM_DONE && dm_apply_all(&other, journal.commands, 80, journal.shapes, 80, answers, 80) == 80);
+  WANT(same(digest_of(&world), digest_of(&other)));
+  free(answers);
+  dm_journal_close(&journal);
+  dm_journal_close(&journal);
+  dm_close(&world);
+  dm_close(&other);
+}
+
 int main(void) {
   WANT(dm_version() == DM_VERSION);
   without_a_world();
@@ -261,7 +414,11 @@ int main(void) {
   what_is_kept();
   what_there_is();
   through_a_filter();
+  in_a_frame();
   in_a_batch();
+  in_a_journal();
+  in_motion();
+  in_all_steps();
   puts("each call answers as it should");
   return 0;
 }

@@ -6,6 +6,7 @@
 #define AT(type, field, place) _Static_assert(offsetof(type, field) == (place), #type "." #field " is elsewhere")
 
 SIZE(dm_world, 8);
+SIZE(dm_frame, 8);
 SIZE(dm_vec, 16);
 SIZE(dm_rot, 16);
 SIZE(dm_handle, 8);
@@ -20,10 +21,16 @@ SIZE(dm_joint_def, 64);
 AT(dm_joint_def, from, 16); AT(dm_joint_def, to, 32); AT(dm_joint_def, length, 48); AT(dm_joint_def, collide, 56);
 SIZE(dm_pose, 40);
 AT(dm_pose, at, 8); AT(dm_pose, facing, 24);
-SIZE(dm_view, 104);
-AT(dm_view, p, 40); AT(dm_view, l_low, 56); AT(dm_view, velocity, 72); AT(dm_view, spin, 88); AT(dm_view, set, 96); AT(dm_view, island, 100);
-SIZE(dm_contact, 88);
-AT(dm_contact, points, 16); AT(dm_contact, normal, 24); AT(dm_contact, first_offset, 40); AT(dm_contact, first_impulse, 72);
+SIZE(dm_view, 112);
+AT(dm_view, p, 40); AT(dm_view, l_low, 56); AT(dm_view, velocity, 72); AT(dm_view, spin, 88); AT(dm_view, set, 96); AT(dm_view, island, 100); AT(dm_view, tag, 104);
+SIZE(dm_course, 24);
+AT(dm_course, spin, 16);
+SIZE(dm_contact_point, 40);
+AT(dm_contact_point, separation, 16); AT(dm_contact_point, normal_impulse, 24); AT(dm_contact_point, tangent_impulse, 32);
+SIZE(dm_contact, 120);
+AT(dm_contact, points, 16); AT(dm_contact, normal, 24); AT(dm_contact, first, 40); AT(dm_contact, second, 80);
+SIZE(dm_event, 168);
+AT(dm_event, kind, 8); AT(dm_event, first, 16); AT(dm_event, second, 24); AT(dm_event, first_tag, 32); AT(dm_event, second_tag, 40); AT(dm_event, contact, 48);
 SIZE(dm_hit, 16);
 SIZE(dm_command, 200);
 AT(dm_command, body, 16); AT(dm_command, joint, 96); AT(dm_command, by, 160); AT(dm_command, ticks, 192);

@@ -76,6 +76,25 @@ static dm_status counts(dm_world *world) {
   dm_counts all;
   return dm_count(world, &all);
 }
+static dm_status frame(dm_world *world) {
+  static dm_frame held = DM_NO_FRAME;
+  const uint64_t before = dm_frame_calls(held);
+  const dm_status status = dm_frame_take(world, &held);
+  WANT(dm_frame_calls(held) == (status == DM_DONE ? 53 : before));
+  if (status == DM_DONE) dm_frame_drop(&held);
+  return status;
+}
+static dm_status framed_region(dm_world *world) {
+  static dm_frame held = DM_NO_FRAME;
+  dm_box box = {{-9 * METRE, -METRE}, {9 * METRE, 9 * METRE}};
+  dm_shape_id ids[4];
+  size_t count = 77;
+  dm_status status = held.at ? DM_DONE : dm_frame_take(world, &held);
+  if (status == DM_DONE) status = dm_frame_region(held, &box, ids, 4, &count);
+  WANT((count == 77) == (status != DM_DONE));
+  if (status == DM_DONE) dm_frame_drop(&held);
+  return status;
+}
 static dm_status digest(dm_world *world) {
   uint8_t bytes[DM_DIGEST_SIZE];
   return dm_digest(world, bytes, DM_DIGEST_SIZE);
@@ -92,6 +111,9 @@ static dm_status batch(dm_world *world) {
   return answers[0].status;
 }
 
+static dm_status push_to(dm_world *world) { return dm_push_to(world, (dm_handle){1, 1}, (dm_vec){100, 100}); }
+static dm_status tag(dm_world *world) { return dm_set_tag(world, (dm_handle){5, 1}, 5); }
+
 typedef struct {
   const char *name;
   dm_status (*call)(dm_world *);
@@ -99,7 +121,8 @@ typedef struct {
 static const call_t calls[] = {{"create", create}, {"join", join}, {"destroy", destroy}, {"push", push}, {"disable", disable}, {"sleep", rest},
                                {"step", step}, {"copy", copy}, {"save", save}, {"load", load}, {"contacts", contacts}, {"region", region},
                                {"region through", region_through}, {"all hits", all_hits}, {"own contacts", own_contacts}, {"own joints", own_joints},
-                               {"counts", counts}, {"digest", digest}, {"batch", batch}};
+                               {"counts", counts}, {"frame", frame}, {"framed region", framed_region}, {"digest", digest}, {"batch", batch},
+                               {"push to", push_to}, {"tag", tag}};
 
 static int try_call(call_t each) {
   dm_world before = DM_NONE, wanted = DM_NONE, world = DM_NONE;
@@ -128,9 +151,37 @@ static int try_call(call_t each) {
   return refused;
 }
 
+/* Memory that is wanting for the events of a step: the next command is refused, and no event is lost. */
+static int try_events(void) {
+  dm_world before = DM_NONE, world = DM_NONE;
+  dm_event events[64];
+  size_t wanted = 0, told = 0;
+  int refused = 0;
+  make_heap(&before, 12, 40);
+  for (long granted = -1;; granted++) {
+    uint64_t number;
+    WANT(dm_copy(&before, &world) == DM_DONE && dm_events_clear(&world, 1) == DM_DONE);
+    for (int i = 0; i < 60; i++) WANT(dm_step(&world, 1, &number) == DM_DONE);
+    digest_t digest = digest_of(&world);
+    left = granted;
+    dm_status status = dm_sleep(&world, (dm_handle){1, 1});
+    int met = granted >= 0 && left < 0;
+    left = -1;
+    if (status == DM_NO_MEMORY) WANT(same(digest, digest_of(&world)));
+    WANT((status == DM_DONE || status == DM_NO_MEMORY) && dm_events(&world, events, 64, &told) == DM_DONE);
+    if (granted < 0) wanted = told;
+    WANT(told == wanted);
+    if (granted >= 0 && !met) break;
+    refused += met;
+  }
+  dm_close(&before);
+  dm_close(&world);
+  return refused;
+}
+
 int main(void) {
   dm_world world = DM_NONE;
-  int refused = 0;
+  int refused = try_events();
   make_heap(&world, 12, 60);
   WANT(dm_save(&world, &text_len) == DM_DONE);
   text = malloc(text_len);

@@ -1,5 +1,6 @@
 /* A tour of the calls, which prints what they answer. tour.cpp, tour.rs and tour.py make the same calls by their owners, and print the same. */
 #include "check.h"
+#include "dillmonth_journal.h"
 #include <inttypes.h>
 
 static dm_world world = DM_NONE;
@@ -121,6 +122,54 @@ static void look_closer(void) {
   printf("%zu hits and %zu shapes but for the floor, body %" PRIu32 ".%" PRIu32 "\n", hit, found, dm_body_in(&world, 1).slot, dm_body_in(&world, 1).generation);
 }
 
+/* What was shown stays: the world goes on after a frame was taken, which answers as before. */
+static void ask_a_frame(void) {
+  dm_frame frame = DM_NO_FRAME;
+  dm_box box = {{-9 * METRE, -METRE}, {0, 9 * METRE}};
+  dm_pose pose;
+  dm_hit hit;
+  dm_sum total;
+  dm_shape_id id;
+  size_t found = 0;
+  WANT(dm_frame_take(&world, &frame) == DM_DONE);
+  play(30);
+  WANT(dm_frame_pose(frame, balls[2], &pose) == DM_DONE && dm_frame_pose(frame, balls[4], &pose) == DM_STALE_HANDLE);
+  WANT(dm_frame_ray(frame, (dm_vec){0, 20 * METRE}, (dm_vec){0, -40 * METRE}, &hit) == DM_DONE && hit.is_hit);
+  WANT(dm_frame_region(frame, &box, &id, 1, &found) == DM_DONE && dm_frame_total(frame, &total) == DM_DONE);
+  printf("after %" PRIu64 " calls a body was at %" PRId64 ", %" PRId64 ", a ray hit %" PRIu32 ".%" PRIu32 " at %" PRIu32 ", %zu were in a region, all had given %" PRId64 "\n",
+         dm_frame_calls(frame), pose.at.x, pose.at.y, hit.shape.slot, hit.shape.index, hit.fraction, found, (int64_t)total.y_low);
+  dm_frame_drop(&frame);
+}
+
+/* The events of step after step, tags, and motions that are read and set. */
+static void follow(void) {
+  dm_event events[64];
+  dm_course course;
+  dm_view view;
+  size_t told = 0, of_kind[4] = {0, 0, 0, 0};
+  WANT(dm_set_tag(&world, balls[2], 7002) == DM_DONE && dm_set_tag(&world, nobody, 1) == DM_STALE_HANDLE && dm_tag(&world, balls[2]) == 7002);
+  WANT(dm_events_clear(&world, 1) == DM_DONE);
+  WANT(dm_push_to(&world, balls[2], (dm_vec){0, 6000}) == DM_DONE && dm_twist_to(&world, balls[2], 2000000) == DM_DONE);
+  WANT(dm_twist(&world, balls[3], 1000000000000) == DM_DONE);
+  WANT(dm_set_target(&world, platform, (dm_vec){METRE, 6 * METRE}, (dm_rot){1 << 30, 0}, 4) == DM_DONE);
+  WANT(dm_push_to(&world, platform, (dm_vec){0, 0}) == DM_NOT_A_MOVER && dm_set_target(&world, balls[2], (dm_vec){0, 0}, (dm_rot){1 << 30, 0}, 4) == DM_NOT_KINEMATIC);
+  WANT(dm_motion(&world, balls[2], &course) == DM_DONE && dm_body(&world, balls[2], &view) == DM_DONE);
+  printf("a velocity of %" PRId64 ", %" PRId64 " and a spin of %" PRId64 ", tag %" PRIu64 "\n", course.velocity.x, course.velocity.y, course.spin, view.tag);
+  WANT(dm_motion(&world, platform, &course) == DM_DONE && dm_motion(&world, nobody, &course) == DM_STALE_HANDLE);
+  printf("a course of %" PRId64 ", %" PRId64 " and %" PRId64 "\n", course.velocity.x, course.velocity.y, course.spin);
+  play(60);
+  WANT(dm_events(&world, events, 64, &told) == DM_DONE && told >= 1 && told <= 64);
+  for (size_t i = 0; i < told; i++) of_kind[events[i].kind]++;
+  printf("%zu events: %zu begun, %zu ended, %zu slept, %zu woke\n", told, of_kind[0], of_kind[1], of_kind[2], of_kind[3]);
+  for (size_t i = 0; i < told; i++)
+    if (events[i].kind == DM_EVENT_BEGUN) {
+      printf("step %" PRIu64 ": %" PRIu32 " and %" PRIu32 " with tags %" PRIu64 " and %" PRIu64 ", %" PRIu32 " points, impulse %" PRId64 "\n", events[i].step, events[i].first.slot,
+             events[i].second.slot, events[i].first_tag, events[i].second_tag, events[i].contact.points, events[i].contact.first.normal_impulse);
+      break;
+    }
+  WANT(dm_events_clear(&world, 0) == DM_DONE && dm_events(&world, events, 64, &told) == DM_DONE && told == 0);
+}
+
 static void keep(void) {
   dm_world other = DM_NONE;
   digest_t digest = digest_of(&world);
@@ -138,6 +187,34 @@ static void keep(void) {
   dm_close(&other);
 }
 
+/* A world of its own is played by a journal, whose replay has the same digest. */
+static void keep_a_journal(void) {
+  dm_world played = DM_NONE, other = DM_NONE;
+  dm_journal journal = DM_NO_JOURNAL;
+  dm_shape line = {DM_SEGMENT, 0, {-8 * METRE, 0}, {8 * METRE, 0}, 0, 128, 0, 1, UINT64_MAX}, disc = circle_of(METRE / 2);
+  dm_command command;
+  dm_answer answer;
+  WANT(dm_journal_open(&journal, &played, (dm_vec){0, -179}) == DM_DONE);
+  memset(&command, 0, sizeof command);
+  command.shapes_count = 1;
+  command.body = (dm_body_def){DM_STATIC, 0, {0, 0}, {1 << 30, 0}, 0, 0, {0, 0}, 0};
+  WANT(dm_journal_apply(&journal, &played, &command, &line, &answer) == DM_DONE);
+  command.body = (dm_body_def){DM_DYNAMIC, 0, {0, 3 * METRE}, {1 << 30, 0}, 200, 27000000000000, {0, 0}, 0};
+  WANT(dm_journal_apply(&journal, &played, &command, &disc, &answer) == DM_DONE);
+  command.kind = DM_DO_PUSH;
+  WANT(dm_journal_apply(&journal, &played, &command, &disc, &answer) == DM_STALE_HANDLE);
+  command.kind = DM_DO_STEP;
+  command.ticks = 4;
+  for (int i = 0; i < 30; i++) WANT(dm_journal_apply(&journal, &played, &command, &disc, &answer) == DM_DONE);
+  WANT(dm_journal_replay(&journal, &other) == DM_DONE && same(digest_of(&played), digest_of(&other)));
+  digest_t digest = digest_of(&other);
+  printf("a journal of %zu calls, whose replay has the digest %02x%02x%02x%02x..\n", journal.commands_len, digest.bytes[0], digest.bytes[1], digest.bytes[2],
+         digest.bytes[3]);
+  dm_journal_close(&journal);
+  dm_close(&played);
+  dm_close(&other);
+}
+
 int main(void) {
   make_scene();
   play(60);
@@ -147,6 +224,9 @@ int main(void) {
   play(60);
   look();
   look_closer();
+  ask_a_frame();
+  keep_a_journal();
+  follow();
   keep();
   dm_close(&world);
   return 0;

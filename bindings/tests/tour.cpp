@@ -123,6 +123,65 @@ void look_closer(scene &scene) {
               world.region({{-9 * METRE, -METRE}, {9 * METRE, 9 * METRE}}, but_the_floor).size(), first.slot, first.generation);
 }
 
+void ask_a_frame(scene &scene) {
+  dm::frame frame = scene.world.take_frame();
+  play(scene.world, 30);
+  dm_pose pose = frame.pose(scene.balls[2]).value();
+  dm_hit hit = frame.ray({0, 20 * METRE}, {0, -40 * METRE}).value();
+  if (frame.pose(scene.balls[4])) throw dm::refused(DM_BAD_FILE);
+  std::printf("after %" PRIu64 " calls a body was at %" PRId64 ", %" PRId64 ", a ray hit %" PRIu32 ".%" PRIu32 " at %" PRIu32
+              ", %zu were in a region, all had given %" PRId64 "\n",
+              frame.calls(), pose.at.x, pose.at.y, hit.shape.slot, hit.shape.index, hit.fraction, frame.region({{-9 * METRE, -METRE}, {0, 9 * METRE}}).size(),
+              std::int64_t(frame.total().y_low));
+}
+
+void keep_a_journal() {
+  dm::world played(dm_vec{0, 0});
+  dm::journal journal(played, {0, -179});
+  dm_command command{};
+  command.body = dm::static_body(dm::at(0, 0));
+  dm::must(journal.apply(played, command, {dm::segment(dm::at(-8, 0), dm::at(8, 0)).with_friction(0.5)}).status);
+  command.body = dm::dynamic_body(dm::at(0, 3), {200, 27000000000000});
+  dm::must(journal.apply(played, command, {disc(0.5)}).status);
+  command.kind = DM_DO_PUSH;
+  if (journal.apply(played, command).status != DM_STALE_HANDLE) throw dm::refused(DM_BAD_FILE);
+  command.kind = DM_DO_STEP;
+  command.ticks = 4;
+  for (int i = 0; i < 30; i++) dm::must(journal.apply(played, command).status);
+  auto digest = journal.replay().digest();
+  if (digest != played.digest()) throw dm::refused(DM_BAD_FILE);
+  std::printf("a journal of %zu calls, whose replay has the digest %02x%02x%02x%02x..\n", journal.commands().size(), unsigned(digest[0]), unsigned(digest[1]),
+              unsigned(digest[2]), unsigned(digest[3]));
+}
+
+void follow(scene &scene) {
+  auto &[world, balls, platform] = scene;
+  world.set_tag(balls[2], 7002);
+  world.clear_events();
+  world.push_to(balls[2], {0, 6000});
+  world.twist_to(balls[2], 2000000);
+  world.twist(balls[3], 1000000000000);
+  world.set_target(platform, dm::at(1, 6), {DM_ONE, 0}, 4);
+  if (world.try_push_to(platform, {0, 0}) != DM_NOT_A_MOVER || world.try_set_target(balls[2], {0, 0}, {DM_ONE, 0}, 4) != DM_NOT_KINEMATIC) throw dm::refused(DM_BAD_KIND);
+  dm_course course = world.motion(balls[2]).value();
+  std::printf("a velocity of %" PRId64 ", %" PRId64 " and a spin of %" PRId64 ", tag %" PRIu64 "\n", course.velocity.x, course.velocity.y, course.spin,
+              world.body(balls[2])->tag);
+  course = world.motion(platform).value();
+  std::printf("a course of %" PRId64 ", %" PRId64 " and %" PRId64 "\n", course.velocity.x, course.velocity.y, course.spin);
+  play(world, 60);
+  std::size_t of_kind[4] = {0, 0, 0, 0};
+  const std::vector<dm_event> events = world.events();
+  for (const dm_event &event : events) of_kind[event.kind]++;
+  std::printf("%zu events: %zu begun, %zu ended, %zu slept, %zu woke\n", events.size(), of_kind[0], of_kind[1], of_kind[2], of_kind[3]);
+  for (const dm_event &event : events)
+    if (event.kind == DM_EVENT_BEGUN) {
+      std::printf("step %" PRIu64 ": %" PRIu32 " and %" PRIu32 " with tags %" PRIu64 " and %" PRIu64 ", %" PRIu32 " points, impulse %" PRId64 "\n", event.step,
+                  event.first.slot, event.second.slot, event.first_tag, event.second_tag, event.contact.points, event.contact.first.normal_impulse);
+      break;
+    }
+  world.clear_events(false);
+}
+
 void keep(dm::world world) {
   auto digest = world.digest();
   std::string text = world.save();
@@ -153,5 +212,8 @@ int main() {
   play(scene.world, 60);
   look(scene);
   look_closer(scene);
+  ask_a_frame(scene);
+  keep_a_journal();
+  follow(scene);
   keep(std::move(scene.world));
 }

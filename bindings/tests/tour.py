@@ -7,8 +7,8 @@ from pathlib import Path
 
 sys.path.insert(0, str(Path(__file__).resolve().parent.parent / "python"))
 import dillmonth  # noqa: E402
-from dillmonth import (METRE, NOBODY, ONE, Body, Cause, Command, Do, Filter, Handle, Joint, Pose, Refused, Rot, Set, Vec, World, at, capsule,  # noqa: E402
-                       circle, degrees, gravity, segment, share)
+from dillmonth import (METRE, NOBODY, ONE, Body, Cause, Command, Do, EventKind, Filter, Handle, Joint, Journal, Pose, Refused, Rot, Set, Vec, World, at,  # noqa: E402
+                       capsule, circle, degrees, gravity, segment, share)
 
 
 def make_scene():
@@ -97,6 +97,54 @@ def look_closer(world, balls):
     print(f"{len(hits)} hits and {len(found)} shapes but for the floor, body {world.body_in(1).slot}.{world.body_in(1).generation}")
 
 
+def ask_a_frame(world, balls):
+    frame = world.frame()
+    play(world, 30)
+    pose, hit = frame.pose(balls[2]), frame.ray((0, 20 * METRE), (0, -40 * METRE))
+    found = frame.region((-9 * METRE, -METRE), (0, 9 * METRE), 1)
+    assert frame.pose(balls[4]) is None
+    print(f"after {frame.calls} calls a body was at {pose.at.x}, {pose.at.y}, a ray hit {hit.shape.slot}.{hit.shape.index} at {hit.fraction}, "
+          f"{len(found)} were in a region, all had given {frame.total()[1]}")
+
+
+def keep_a_journal():
+    journal = Journal((0, -179))
+    floor, disc = [segment(at(-8, 0), at(8, 0), friction=share(0.5))], [circle(METRE // 2, friction=share(0.5))]
+    assert journal.apply(Command(kind=Do.CREATE_BODY, body=Body.static()), floor).status == 0
+    assert journal.apply(Command(kind=Do.CREATE_BODY, body=Body.dynamic(at(0, 3), 200, 27 * 10**12)), disc).status == 0
+    assert journal.apply(Command(kind=Do.PUSH)).status == 2
+    for _ in range(30):
+        assert journal.apply(Command(kind=Do.STEP, ticks=4)).status == 0
+    digest = journal.replay().digest()
+    assert digest == journal.world.digest()
+    print(f"a journal of {len(journal.commands)} calls, whose replay has the digest {digest[:4].hex()}..")
+
+
+def follow(world, balls, platform):
+    world.set_tag(balls[2], 7002)
+    assert status_of(lambda: world.set_tag(Handle(9, 9), 1)) == (2, 0) and world.tag(balls[2]) == 7002
+    world.clear_events()
+    world.push_to(balls[2], (0, 6000))
+    world.twist_to(balls[2], 2000000)
+    world.twist(balls[3], 1000000000000)
+    world.set_target(platform, (METRE, 6 * METRE), ticks=4)
+    assert status_of(lambda: world.push_to(platform, (0, 0))) == (6, 0) and status_of(lambda: world.set_target(balls[2], (0, 0), ticks=4)) == (15, 0)
+    course, view = world.motion(balls[2]), world.body(balls[2])
+    print(f"a velocity of {course.velocity.x}, {course.velocity.y} and a spin of {course.spin}, tag {view.tag}")
+    course = world.motion(platform)
+    assert world.motion(Handle(9, 9)) is None
+    print(f"a course of {course.velocity.x}, {course.velocity.y} and {course.spin}")
+    play(world, 60)
+    events = list(world.events())
+    of_kind = [sum(event.kind == kind for event in events) for kind in EventKind]
+    print(f"{len(events)} events: {of_kind[0]} begun, {of_kind[1]} ended, {of_kind[2]} slept, {of_kind[3]} woke")
+    begun = next(event for event in events if event.kind == EventKind.BEGUN)
+    print(f"step {begun.step}: {begun.first.slot} and {begun.second.slot} with tags {begun.first_tag} and {begun.second_tag}, {begun.contact.points} points, "
+          f"impulse {begun.contact.first.normal_impulse}")
+    world.clear_events(keeps=False)
+    assert len(world.events()) == 0
+
+
 def keep(world):
     digest, text = world.digest(), world.save()
     with World.load(text) as other:
@@ -116,6 +164,9 @@ def main():
     play(world, 60)
     look(world, balls)
     look_closer(world, balls)
+    ask_a_frame(world, balls)
+    keep_a_journal()
+    follow(world, balls, platform)
     keep(world)
 
 

@@ -3,8 +3,8 @@
 #[path = "../rust/dillmonth.rs"]
 mod dillmonth;
 
-use dillmonth::{gravity, BodyDef, BodyId, Box2, Cause, Command, Counts, Filter, Form, Joint, Mass, Refused, Reply, Rot, Set, Shape, Vec2, World, METRE, NOBODY, RATE,
-                UPRIGHT};
+use dillmonth::{gravity, BodyDef, BodyId, Box2, Cause, Command, Counts, Filter, Form, Happening, Joint, Journal, Mass, Refused, Reply, Rot, Set, Shape, Vec2, World,
+                METRE, NOBODY, RATE, UPRIGHT};
 use std::collections::{BTreeSet, HashMap};
 
 fn at(x: i64, y: i64) -> Vec2 {
@@ -133,6 +133,72 @@ fn look_closer(scene: &Scene) -> Result<(), Refused> {
     Ok(())
 }
 
+fn ask_a_frame(scene: &mut Scene) -> Result<(), Refused> {
+    let frame = scene.world.frame()?;
+    play(&mut scene.world, 30)?;
+    let pose = frame.pose(scene.balls[2]).expect("the ball was there");
+    assert!(frame.pose(scene.balls[4]).is_none());
+    let (shape, fraction) = frame.ray(at(0, 20 * METRE), at(0, -40 * METRE))?.expect("the ray hits");
+    let found = frame.region(Box2 { lo: at(-9 * METRE, -METRE), hi: at(0, 9 * METRE) })?.len();
+    let (calls, total) = (frame.calls(), frame.total().1);
+    println!(
+        "after {calls} calls a body was at {}, {}, a ray hit {}.{} at {fraction}, {found} were in a region, all had given {total}",
+        pose.at.x, pose.at.y, shape.slot, shape.index
+    );
+    Ok(())
+}
+
+fn keep_a_journal() -> Result<(), Refused> {
+    let (mut played, mut journal) = Journal::open(at(0, -179))?;
+    let floor = [Shape::segment(at(-8 * METRE, 0), at(8 * METRE, 0)).friction(0.5)];
+    journal.apply(&mut played, &Command::CreateBody { body: BodyDef::fixed(at(0, 0)), shapes: &floor })?;
+    let mass = Mass { mass: 200, inertia: 27_000_000_000_000 };
+    journal.apply(&mut played, &Command::CreateBody { body: BodyDef::dynamic(at(0, 3 * METRE), mass), shapes: &[circle(METRE / 2)] })?;
+    assert_eq!(journal.apply(&mut played, &Command::Push(NOBODY, at(0, 0))), Err(Refused::StaleHandle));
+    for _ in 0..30 {
+        journal.apply(&mut played, &Command::Step(4))?;
+    }
+    let digest = journal.replay()?.digest()?;
+    assert_eq!(digest, played.digest()?);
+    println!("a journal of {} calls, whose replay has the digest {:02x}{:02x}{:02x}{:02x}..", journal.len(), digest[0], digest[1], digest[2], digest[3]);
+    Ok(())
+}
+
+fn follow(scene: &mut Scene) -> Result<(), Refused> {
+    let Scene { world, balls, platform, .. } = scene;
+    let (balls, platform) = (balls.clone(), *platform);
+    world.set_tag(balls[2], 7002)?;
+    assert_eq!(world.tag(balls[2]), 7002);
+    world.clear_events(true);
+    world.push_to(balls[2], at(0, 6000))?;
+    world.twist_to(balls[2], 2_000_000)?;
+    world.twist(balls[3], 1_000_000_000_000)?;
+    world.set_target(platform, at(METRE, 6 * METRE), UPRIGHT, 4)?;
+    assert_eq!(world.push_to(platform, at(0, 0)), Err(Refused::NotAMover));
+    assert_eq!(world.set_target(balls[2], at(0, 0), UPRIGHT, 4), Err(Refused::NotKinematic));
+    let (course, view) = (world.motion(balls[2]).expect("the ball is there"), world.body(balls[2]).expect("the ball is there"));
+    println!("a velocity of {}, {} and a spin of {}, tag {}", course.velocity.x, course.velocity.y, course.spin, view.tag);
+    let course = world.motion(platform).expect("the platform is there");
+    println!("a course of {}, {} and {}", course.velocity.x, course.velocity.y, course.spin);
+    play(world, 60)?;
+    let events = world.events()?;
+    let count = |is: fn(&Happening) -> bool| events.iter().filter(|event| is(&event.happening)).count();
+    let begun = count(|happening| matches!(happening, Happening::Begun { .. }));
+    let ended = count(|happening| matches!(happening, Happening::Ended { .. }));
+    let (slept, woke) = (count(|happening| matches!(happening, Happening::Slept(_))), count(|happening| matches!(happening, Happening::Woke(_))));
+    println!("{} events: {begun} begun, {ended} ended, {slept} slept, {woke} woke", events.len());
+    for event in &events {
+        if let Happening::Begun { first, second, contact } = event.happening {
+            let (slots, tags) = ((first.body.slot, second.body.slot), (first.tag, second.tag));
+            let (points, impulse) = (contact.points, contact.first.normal_impulse);
+            println!("step {}: {} and {} with tags {} and {}, {points} points, impulse {impulse}", event.step, slots.0, slots.1, tags.0, tags.1);
+            break;
+        }
+    }
+    world.clear_events(false);
+    Ok(())
+}
+
 fn keep(world: World) -> Result<(), Refused> {
     let digest = world.digest()?;
     let text = world.save()?;
@@ -154,5 +220,8 @@ fn main() -> Result<(), Refused> {
     play(&mut scene.world, 60)?;
     look(&mut scene)?;
     look_closer(&scene)?;
+    ask_a_frame(&mut scene)?;
+    keep_a_journal()?;
+    follow(&mut scene)?;
     keep(scene.world)
 }

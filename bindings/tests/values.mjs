@@ -1,6 +1,6 @@
 // What the owner for JavaScript does with values, over the module that bindings/web/build makes: values.mjs
 import { readFileSync } from "node:fs";
-import { DYNAMIC, Library, METRE, Refused, at, circle, circleMass, dynamicBody, metres } from "../web/dillmonth.js";
+import { Batch, DYNAMIC, Journal, Library, METRE, Refused, at, circle, circleMass, dynamicBody, handleOf, metres } from "../web/dillmonth.js";
 
 const library = await Library.load(readFileSync(new URL("../web/out/dillmonth.wasm", import.meta.url)));
 let passed = 0, failed = 0;
@@ -29,6 +29,27 @@ check("whole numbers alone", thrown(() => world.push(body, { x: 0.5, y: 0 })) in
 check("nothing wraps", thrown(() => world.push(body, { x: 1n << 63n, y: 0 })) instanceof RangeError && world.steps() === 0n);
 world.destroyBody(body);
 check("an id of none", world.body(body) === null && thrown(() => world.push(body, { x: 1, y: 1 })).status === 2);
+const framed = library.open(), seen = framed.createBody(dynamicBody(at(1, 2), circleMass(metres(0.5))), [circle(metres(0.5))]), frame = framed.frame();
+const before = framed.body(seen), hit = framed.ray(at(1, 9), at(0, -9));
+framed.step(4n);
+framed.destroyBody(seen);
+framed.close();
+check("a frame stays", frame.pose(seen).at.y === before.at.y && frame.calledTimes() === 1n && frame.ray(at(1, 9), at(0, -9)).fraction === hit.fraction);
+check("a frame's lists", frame.region(at(0, 0), at(3, 3)).length === 1 && frame.total().x === 0n && frame.pose(handleOf(7, 1)) === null);
+check("a frame's limits", thrown(() => frame.ray({ x: 0, y: 0 }, { x: 1n << 40n, y: 0 })).status === 5 && thrown(() => framed.frame()).status === 32);
+frame.close();
+frame.close();
+check("a closed frame", thrown(() => frame.total()).status === 32 && frame.calledTimes() === 0n);
+const journal = new Journal(library, { x: 0, y: -179 }), batch = new Batch();
+batch.push(handleOf(9, 1), { x: 1, y: 1 });
+batch.createBody(dynamicBody(at(0, 4), circleMass(metres(0.5))), [circle(metres(0.5)), circle(metres(0.25))]);
+batch.step(4n);
+check("a journal keeps what is accepted", journal.applyAll(batch).map(({ status }) => status).join() === "2,0,0" && journal.batch.length === 2);
+journal.applyAll(batch);
+const replayed = journal.replay();
+check("a journal is played again", journal.batch.length === 4 && replayed.digest() === journal.world.digest() && replayed.steps() === 2n);
+journal.world.close();
+replayed.close();
 world.close();
 world.close();
 const closed = thrown(() => world.step());

@@ -40,7 +40,7 @@ export class Picture {
       body?.follow(this.poses, 4 * number);
       if (body?.handle && (!isRunning || this.frames === 0 || (number + this.frames) % rounds === 0)) body.note(world.body(body.handle));
     }
-    this.contacts = contacts ? world.contacts().filter((contact) => contact.offsets.length > 0) : [];
+    this.contacts = contacts ? world.contacts().filter((contact) => contact.points.length > 0) : [];
     const now = performance.now();
     if (!isRunning || now - this.asked > SELDOM * rounds) this.ask(world, now);
     this.frames += 1;
@@ -398,9 +398,9 @@ export class Painter {
     const mass = Math.min(...movers.map((each) => each.mass)), normal = { x: Number(contact.normal.x) / UNIT, y: Number(contact.normal.y) / UNIT };
     const number = shown.colours ? picture.solver.contacts.get(`${contact.a} ${contact.b}`) : null;
     const colour = shown.colours ? this.ofColour(number) : theme.contact;
-    contact.offsets.forEach((offset, point) => {
+    contact.points.forEach(({ offset, normalImpulse }) => {
       const at = camera.toScreen({ x: body.at.x + metres(offset.x), y: body.at.y + metres(offset.y) });
-      const speed = Number(contact.impulses[point]) / mass / 157; // in ticks of the usual gravity
+      const speed = Number(normalImpulse) / mass / 157; // in ticks of the usual gravity
       const size = Math.max(0.45, Math.min(1, camera.scale / 40)); // smaller where bodies are
       const length = isActing ? size * Math.min(4 + 5 * Math.sqrt(speed), 20) : 0, radius = size * (isActing ? 3 : 1.8);
       const along = { x: normal.x * length, y: -normal.y * length };

@@ -37,10 +37,10 @@ function shapeText({ form, radius, ends, saved }) {
 
 /** Of each contact of a body its other body, its points and its impulse; the largest first. */
 function contactTexts(picture, contacts, slot) {
-  const own = contacts.filter((contact) => contact.offsets.length > 0 && (contact.a[0] === slot || contact.b[0] === slot));
+  const own = contacts.filter((contact) => contact.points.length > 0 && (contact.a[0] === slot || contact.b[0] === slot));
   const found = own.map((contact) => {
     const other = picture.bodies.get(contact.a[0] === slot ? contact.b[0] : contact.a[0]);
-    return { other, points: contact.offsets.length, by: contact.impulses.reduce((sum, each) => sum + impulse(each), 0) };
+    return { other, points: contact.points.length, by: contact.points.reduce((sum, each) => sum + impulse(each.normalImpulse), 0) };
   }).sort((a, b) => b.by - a.by);
   const texts = found.slice(0, TOLD).map(({ other, points, by }) => `${other?.handle ? textOf(other.handle) : "?"}: ${points} point${points > 1 ? "s" : ""}, ${number(by)} N s`);
   return found.length > TOLD ? [...texts, `and ${found.length - TOLD} more`] : texts;

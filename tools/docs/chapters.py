@@ -212,9 +212,22 @@ PARTS = {
             "world_desk/Clear",
         ),
         Chapter("library_commands", "Commands of the library", "What each call that is a command does, and a batch of commands.", "dillmonth/Calls dillmonth/Batch"),
+        Chapter(
+            "library_motions",
+            "Motions of the library",
+            "Velocities and spins that are read, and set by commands that there are.",
+            "dillmonth/Motions dillmonth/Moving dillmonth/src/moving.rt",
+        ),
+        Chapter(
+            "library_events",
+            "Events of the library",
+            "The events that are kept of step after step, and the tags of bodies.",
+            "world_desk/Logs world_desk/Tags dillmonth/Events",
+        ),
         Chapter("library_questions", "Questions of the library", "What each call that only asks answers.", "dillmonth/src/questions.rt dillmonth/Questions"),
         Chapter("library_lists", "Lists of the library", "The lists that the library keeps for a world, and what is left of each.", "dillmonth/Lists"),
         Chapter("library_getters", "Getters of the library", "What each call answers that asks for one body, joint or count.", "dillmonth/Getters"),
+        Chapter("library_frames", "Frames of the library", "How a frame is taken of a world, and what each call answers that reads one.", "dillmonth/src/frames.rt dillmonth/src/frame_reading.rt dillmonth/Frames dillmonth/Loans"),
         Chapter("library_forms", "Structs of the library", "The structs of C, and what each means for a world.", "dillmonth/src/forms.rt dillmonth/Forms"),
     ],
     "Inside the solver": [

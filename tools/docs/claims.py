@@ -68,6 +68,11 @@ OF_README = [
                     "dm_create_body dm_destroy_body dm_create_joint dm_destroy_joint dm_push dm_push_at dm_set_pose dm_set_velocity "
                     "dm_set_gravity dm_disable dm_enable dm_wake dm_sleep dm_step dm_apply_all",
                 ),
+                Contract(
+                    "library_frames",
+                    "dillmonth",
+                    "dm_frame_take dm_frame_drop dm_frame_pose dm_frame_ray dm_frame_region dm_frame_total dm_frame_calls",
+                ),
                 Contract("library_questions", "dillmonth", "dm_*"),
             ],
         )

@@ -23,7 +23,7 @@ HANDED_ON = re.compile(r"pub use ([\w:]+?)(?:::\{([^}]*)\}|::(\w+));", re.S)
 BLOCK = re.compile(r"^(?:unsafe )?(impl|pub trait)\b(?:<[^{]*?>)?\s+(\w+)")
 OF_TRAIT = re.compile(r"^(?:unsafe )?impl\b.* for ")
 FUNCTION = re.compile(r'^( *)(pub )?(?:unsafe )?(?:extern "C" )?fn (\w+)')
-CLAUSE = re.compile(r"^ensures(?: (\w+))? \{")
+CLAUSE = re.compile(r"^ensures\*?(?: (\w+))? \{")
 INVARIANT = re.compile(r"^    ghost invariant = \{ (.*?) \};?$")
 TYPE = re.compile(r"^pub(?:\(crate\))? (?:struct|enum) (\w+)")
 MODEL = re.compile(r"^impl(?:<.*>)? Model for (\w+)")
@@ -75,7 +75,7 @@ def clauses_of(lines, start):
         found = CLAUSE.match(text)
         if found:
             names.append(found.group(1))
-        elif not text.startswith(("requires", "ensures")) and text.endswith(("{", "}", ";")):
+        elif not text.startswith(("ghost", "requires", "ensures")) and text.endswith(("{", "}", ";")):
             break
         if text.endswith(";"):
             break

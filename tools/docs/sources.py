@@ -28,7 +28,7 @@ USE = re.compile(r"^(?:ghost )?use\s+([\w.]+?)(?:\.\{(.*)\}|\s+as\s+(\w+))?;?$")
 RUST_ITEM = re.compile(r"^pub(?:\(crate\))? (struct|enum|const|trait) (\w+)|^(struct|enum|const|trait) (\w+)")
 BLOCK = re.compile(r"^(?:pub )?(?:unsafe )?(impl|trait)\b(?:<.*?>(?= ))?\s+(\w+)")
 FUNCTION = re.compile(r'^(?:    )?(?:pub(?:\(crate\))? )?(?:unsafe )?(?:extern "C" )?fn (\w+)')
-CLAUSE = re.compile(r"(ensures|requires)(?: (\w+))? \{")
+CLAUSE = re.compile(r"(ensures|requires|ghost)\*?(?: (\w+):?)? \{")
 
 
 def read_lines(path):

@@ -1,5 +1,7 @@
 mod RawBoxValues
 mod HeldValues
+mod FrameValues
+mod LoanSteps
 mod CrossingLaws
 mod ListLaws
 mod StatusLaws
@@ -8,3 +10,5 @@ mod BatchLaws
 mod KeepingLaws
 mod PoseLaws
 mod QuestionLaws
+mod FrameLaws
+mod MovingLaws

@@ -8,7 +8,6 @@ use Rattle.dillmonth.specs.declared.forms.CCommand.{CCommand}
 use Rattle.dillmonth.specs.declared.forms.CShape.{CShape}
 use Rattle.dillmonth.specs.declared.statuses.TheConstants.{BAD_KIND, BAD_SPAN}
 use Rattle.world_desk.specs.declared.desk.Desk.{Desk}
-use Rattle.world_rules.specs.World.{World}
 use Rattle.world_rules.specs.declared.command.Command.{Command}
 use Rattle.world_rules.specs.declared.command.Command.TheVariants.{CreateBody, DestroyBody, CreateJoint, DestroyJoint, Push, PushAt, SetPose, SetVelocity, SetGravity, Disable, Enable, Wake, Sleep, Step}
 
@@ -56,20 +55,20 @@ IsUnsaid (Ok c) status = status ≡ 1
 IsUnsaid (Err due) status = (status ≡ due) ⊎ (status ≡ 1)
 
 -- the answer to one command of a batch: that of the rules, or why it says none, or want of memory for its shapes
-abbrev pub IsAnsweredAs : Result Command ℕ → World → CAnswer → World → Type 0
+abbrev pub IsAnsweredAs : Result Command ℕ → Desk → CAnswer → Desk → Type 0
 IsAnsweredAs (Ok c) old answer new = IsAnswered c old answer new ⊎ ((answer ≡ bare 1) × (new ≡ old))
 IsAnsweredAs (Err due) old answer new = ((answer ≡ bare due) ⊎ (answer ≡ bare 1)) × (new ≡ old)
 
--- each command is answered in turn, from one world to the next
-abbrev pub Ran : List CShape → List CCommand → List CAnswer → World → World → Type 0
+-- each command is answered in turn, from one desk to the next
+abbrev pub Ran : List CShape → List CCommand → List CAnswer → Desk → Desk → Type 0
 Ran shapes [] [] old new = new ≡ old
 Ran shapes [] (a ∷ answers) old new = ⊥
 Ran shapes (c ∷ commands) [] old new = ⊥
-Ran shapes (c ∷ commands) (a ∷ answers) old new = (mid : World) × IsAnsweredAs (command_said shapes c) old a mid × Ran shapes commands answers mid new
+Ran shapes (c ∷ commands) (a ∷ answers) old new = (mid : Desk) × IsAnsweredAs (command_said shapes c) old a mid × Ran shapes commands answers mid new
 
--- the same where there may be no world; all that lies on the desk stays
+-- the same where there may be no world
 abbrev pub RanAll : List CShape → List CCommand → List CAnswer → Option Desk → Option Desk → Type 0
 RanAll shapes commands answers None None = (commands ≡ []) × (answers ≡ [])
 RanAll shapes commands answers None (Some new) = ⊥
 RanAll shapes commands answers (Some old) None = ⊥
-RanAll shapes commands answers (Some old) (Some new) = Ran shapes commands answers old.world new.world × (new ≡ record old { world = new.world })
+RanAll shapes commands answers (Some old) (Some new) = Ran shapes commands answers old new

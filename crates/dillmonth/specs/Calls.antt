@@ -1,8 +1,6 @@
 -- Trusted: What a call does to the desk that a caller holds.
-use Rattle.std.specs.Prelude.{◌≡◌, ℕ, ◌==◌, ◌⊎◌, cond, List, [], Option, Some, None, option_map, Result, Ok, Err}
+use Rattle.std.specs.Prelude.{◌≡◌, ℕ, ◌==◌, ◌⊎◌, cond, Option, Some, None, option_map, Result}
 use Rattle.fixed_geom.specs.declared.refusal.Refusal.{Refusal}
-use Rattle.fixed_geom.specs.declared.refusal.Refusal.TheVariants.{NoMemory}
-use Rattle.plain_world.specs.Plain.{Plain}
 use Rattle.plain_world.specs.Bodies.{view_of}
 use Rattle.plain_world.specs.declared.body.BodyDef.{BodyDef}
 use Rattle.plain_world.specs.declared.body.BodyView.{BodyView}
@@ -12,23 +10,24 @@ use Rattle.dillmonth.specs.declared.forms.CAnswer.{CAnswer}
 use Rattle.dillmonth.specs.declared.forms.CHandle.{CHandle}
 use Rattle.dillmonth.specs.declared.forms.CView.{CView}
 use Rattle.dillmonth.specs.declared.statuses.TheConstants.{BAD_KIND, NO_WORLD}
+use Rattle.world_desk.specs.Logs.{Applies}
+use Rattle.world_desk.specs.Tags.{tag_of}
 use Rattle.world_desk.specs.declared.desk.Desk.{Desk}
-use Rattle.world_rules.specs.Apply.{Answers, apply}
-use Rattle.world_rules.specs.World.{World, body_named}
+use Rattle.world_rules.specs.World.{body_named}
 use Rattle.world_rules.specs.declared.command.Command.{Command}
 use Rattle.world_rules.specs.declared.command.Command.TheVariants.{CreateBody}
 use Rattle.world_rules.specs.declared.command.Reply.{Reply}
 
--- one command, by the rules of the world: what is answered is the outcome in numbers
-abbrev pub IsAnswered : Command → World → CAnswer → World → Type 0
-IsAnswered c old answer new = (outcome : Result Reply Refusal) × (answer ≡ answer_said outcome) × Answers (apply old.plain c) old outcome new
+-- one command, by the rules of the world, and the events that it adds: what is answered is the outcome in numbers
+abbrev pub IsAnswered : Command → Desk → CAnswer → Desk → Type 0
+IsAnswered c old answer new = (outcome : Result Reply Refusal) × (answer ≡ answer_said outcome) × Applies c old outcome new
 
--- the same where there may be no world; all that lies on the desk stays
+-- the same where there may be no world
 abbrev pub Does : Command → Option Desk → CAnswer → Option Desk → Type 0
 Does c None answer None = answer ≡ bare NO_WORLD
 Does c None answer (Some new) = ⊥
 Does c (Some old) answer None = ⊥
-Does c (Some old) answer (Some new) = IsAnswered c old.world answer new.world × (new ≡ record old { world = new.world })
+Does c (Some old) answer (Some new) = IsAnswered c old answer new
 
 -- a command of which the caller learns the status
 abbrev pub DoesAs : Command → Option Desk → ℕ → Option Desk → Type 0
@@ -50,10 +49,10 @@ Creates (Some def) old status before after new = Makes (CreateBody def) old stat
 -- ---- one body
 
 -- what is seen of a body is written, or 2 is answered where it isn't there
-abbrev pub IsSeen : Option BodyView → CHandle → ℕ → CView → CView → Type 0
-IsSeen None h status before after = (status ≡ 2) × (after ≡ before)
-IsSeen (Some view) h status before after = (status ≡ 0) × (after ≡ view_shown h view)
+abbrev pub IsSeen : Option BodyView → CHandle → ℕ → ℕ → CView → CView → Type 0
+IsSeen None h tag status before after = (status ≡ 2) × (after ≡ before)
+IsSeen (Some view) h tag status before after = (status ≡ 0) × (after ≡ view_shown h tag view)
 
 abbrev pub IsSeenIn : CHandle → Option Desk → ℕ → CView → CView → Type 0
 IsSeenIn h None status before after = (status ≡ NO_WORLD) × (after ≡ before)
-IsSeenIn h (Some desk) status before after = IsSeen (option_map view_of (body_named desk.world.plain (handle_said h))) h status before after
+IsSeenIn h (Some desk) status before after = IsSeen (option_map view_of (body_named desk.world.plain (handle_said h))) h (tag_of desk.tags.items (handle_said h)) status before after

@@ -12,6 +12,7 @@ use Rattle.saved_text.specs.Texts.{IsTextOf}
 use Rattle.world_desk.specs.Clear.{IsClear}
 use Rattle.world_desk.specs.Texts.{IsLoaded, IsUnread}
 use Rattle.world_desk.specs.declared.desk.Desk.{Desk}
+use Rattle.world_desk.specs.declared.step_event.Tagged.{Tagged}
 use Rattle.world_desk.specs.declared.unread.Unread.{Unread}
 use Rattle.world_digest.specs.Digests.{digest_of}
 use Rattle.world_file.specs.Files.{value_of}
@@ -24,22 +25,22 @@ IsHeld desk old status new = ((status ≡ 0) × (new ≡ Some desk)) ⊎ ((statu
 
 -- an empty world, or why there is none
 abbrev pub IsOpened : Vec2 → Result Desk Refusal → Type 0
-IsOpened gravity (Ok desk) = (gravity_refusal gravity ≡ None) × (desk.world ≡ empty_world gravity) × IsClear desk
+IsOpened gravity (Ok desk) = (gravity_refusal gravity ≡ None) × (desk.world ≡ empty_world gravity) × (desk.tags.items ≡ []) × IsClear desk
 IsOpened gravity (Err e) = (gravity_refusal gravity ≡ Some e) ⊎ ((gravity_refusal gravity ≡ None) × (e ≡ NoMemory))
 
--- the caller holds a desk whose world is so and on which nothing lies yet, and 0 is answered
-abbrev pub NowHolds : (World → Type 0) → ℕ → Option Desk → Type 0
-NowHolds is status None = ⊥
-NowHolds is status (Some desk) = (status ≡ 0) × is desk.world × IsClear desk
+-- the caller holds a desk whose world is so, whose bodies have these tags and on which nothing lies yet, and 0 is answered
+abbrev pub NowHolds : (World → Type 0) → List Tagged → ℕ → Option Desk → Type 0
+NowHolds is tags status None = ⊥
+NowHolds is tags status (Some desk) = (status ≡ 0) × is desk.world × (desk.tags.items ≡ tags) × IsClear desk
 
 -- an empty world; or what was held stays, and it is said why: the gravity is beyond its limit, or memory was wanting
 abbrev pub Opens : Vec2 → Option Desk → ℕ → Option Desk → Type 0
-Opens gravity old status new = NowHolds (λ w. w ≡ empty_world gravity) status new ⊎ ((new ≡ old) × ((status ≡ 1) ⊎ ((e : Refusal) × (gravity_refusal gravity ≡ Some e) × (status ≡ status_of e))))
+Opens gravity old status new = NowHolds (λ w. w ≡ empty_world gravity) [] status new ⊎ ((new ≡ old) × ((status ≡ 1) ⊎ ((e : Refusal) × (gravity_refusal gravity ≡ Some e) × (status ≡ status_of e))))
 
--- a world as that one; or what was held stays, and memory was wanting
+-- a world as that one, whose bodies have the same tags; or what was held stays, and memory was wanting
 abbrev pub Copies : Option Desk → Option Desk → ℕ → Option Desk → Type 0
 Copies None old status new = (status ≡ NO_WORLD) × (new ≡ old)
-Copies (Some desk) old status new = NowHolds (λ w. w ≡ desk.world) status new ⊎ ((status ≡ 1) × (new ≡ old))
+Copies (Some desk) old status new = NowHolds (λ w. w ≡ desk.world) desk.tags.items status new ⊎ ((status ≡ 1) × (new ≡ old))
 
 -- the entries of the ledger are added to its sums, and all else is as it was
 abbrev pub Settles : Option Desk → ℕ → Option Desk → Type 0
@@ -71,7 +72,7 @@ IsUnreadAs text status clause = (why : Unread) × (status ≡ (unread_status why
 -- The clause is 0 where none is broken
 abbrev pub Loads : List ℕ → Option Desk → ℕ → ℕ → Option Desk → Type 0
 Loads text old status clause new =
-    (NowHolds (λ w. IsLoaded text w) status new × (clause ≡ 0))
+    (NowHolds (λ w. IsLoaded text w) [] status new × (clause ≡ 0))
     ⊎ ((new ≡ old) × (((status ≡ 1) × (clause ≡ 0)) ⊎ IsUnreadAs text status clause))
 
 -- the digest is written; or memory was wanting, or there is no world, and nothing is written

@@ -1,9 +1,15 @@
 pub mod Statuses
 pub mod Forms
 pub mod Held
+pub mod HeldFrames
+pub mod Loans
 pub mod Lists
 pub mod Calls
 pub mod Keeping
 pub mod Questions
 pub mod Batch
 pub mod Getters
+pub mod Frames
+pub mod Events
+pub mod Motions
+pub mod Moving

@@ -1,22 +1,21 @@
 -- Trusted: Lists that are written into a caller's array.
-use Rattle.std.specs.Prelude.{ℕ, zero, suc, ◌++◌, ◌/◌, ◌%◌, ◌^◌, Bool, true, cond, List, [], ◌∷◌, length, map, Option, Some, None, ℤ, pos}
+use Rattle.std.specs.Prelude.{ℕ, zero, suc, ◌++◌, ◌/◌, ◌%◌, ◌^◌, Bool, true, cond, List, [], ◌∷◌, length, Option, Some, None, pos}
 use Rattle.std.specs.Int.{cast_signed, cast_unsigned, w64, w128}
 use Rattle.body_handles.specs.SlotEntries.{generation_at}
-use Rattle.body_handles.specs.declared.handle.Handle.{Handle}
 use Rattle.body_handles.specs.declared.slot_table.SlotEntry.{SlotEntry}
 use Rattle.contacts_base.specs.declared.contact.ContactEntry.{ContactEntry}
 use Rattle.contacts_base.specs.declared.contact.ContactPoint.{ContactPoint}
-use Rattle.contacts_base.specs.declared.key.ContactKey.{ContactKey}
 use Rattle.contacts_base.specs.declared.key.ShapeId.{ShapeId}
-use Rattle.dillmonth.specs.Forms.{facing_shown, handle_shown, pair_shown, vector_shown}
+use Rattle.dillmonth.specs.Forms.{facing_shown, pair_shown, vector_shown}
 use Rattle.dillmonth.specs.declared.forms.CContact.{CContact}
+use Rattle.dillmonth.specs.declared.forms.CContactPoint.{CContactPoint}
 use Rattle.dillmonth.specs.declared.forms.CHandle.{CHandle}
+use Rattle.dillmonth.specs.declared.forms.CPair.{CPair}
 use Rattle.dillmonth.specs.declared.forms.CPose.{CPose}
 use Rattle.dillmonth.specs.declared.forms.CVector.{CVector}
 use Rattle.dillmonth.specs.declared.forms.CView.{CView}
 use Rattle.event_feed.specs.Events.{EventLists, no_events}
-use Rattle.plain_world.specs.Bodies.{can_move, standing_of}
-use Rattle.plain_world.specs.Kinds.{carried_by}
+use Rattle.plain_world.specs.Bodies.{can_move}
 use Rattle.plain_world.specs.Plain.{Plain}
 use Rattle.plain_world.specs.Slots.{body_at}
 use Rattle.plain_world.specs.declared.body.Body.{Body}
@@ -25,7 +24,6 @@ use Rattle.plain_world.specs.declared.body.SetName.{SetName}
 use Rattle.plain_world.specs.declared.body.SetName.TheVariants as sets
 use Rattle.plain_world.specs.declared.kind.Course.{Course}
 use Rattle.world_desk.specs.declared.desk.Desk.{Desk}
-use Rattle.world_rules.specs.World.{World}
 
 -- an array with as many items at its head as fit; the rest stays
 abbrev pub written : {T : Type 0} → List T → List T → List T
@@ -94,35 +92,33 @@ gravity_in (Some desk) = vector_shown desk.world.plain.gravity
 
 -- ---- contacts
 
-abbrev pub offset_shown : Option ContactPoint → CVector
-offset_shown None = record { x = pos 0; y = pos 0 }
-offset_shown (Some p) = vector_shown p.ra
+-- a point that isn't there is told by zeros
+abbrev pub point_shown : Option ContactPoint → CContactPoint
+point_shown None = record { offset = record { x = pos 0; y = pos 0 }; separation = pos 0; normal_impulse = pos 0; tangent_impulse = pos 0 }
+point_shown (Some p) = record { offset = vector_shown p.ra; separation = p.separation; normal_impulse = p.normal_impulse; tangent_impulse = p.tangent_impulse }
 
 abbrev pub normal_shown : Option ContactPoint → CVector
 normal_shown None = record { x = pos 0; y = pos 0 }
 normal_shown (Some p) = vector_shown p.normal
-
-abbrev pub impulse_shown : Option ContactPoint → ℤ
-impulse_shown None = pos 0
-impulse_shown (Some p) = p.normal_impulse
 
 abbrev pub count_points : Option ContactPoint → Option ContactPoint → ℕ
 count_points None second = 0
 count_points (Some p) None = 1
 count_points (Some p) (Some q) = 2
 
--- the points that a contact has, with zeros in place of those that it hasn't
-abbrev pub contact_shown : ContactEntry → CContact
-contact_shown e = record {
-  pair = pair_shown e.key;
-  points = count_points e.contact.first e.contact.second;
+-- two shapes with the points where they touch
+abbrev pub points_shown : CPair → Option ContactPoint → Option ContactPoint → CContact
+points_shown pair first second = record {
+  pair = pair;
+  points = count_points first second;
   unused = 0;
-  normal = normal_shown e.contact.first;
-  first_offset = offset_shown e.contact.first;
-  second_offset = offset_shown e.contact.second;
-  first_impulse = impulse_shown e.contact.first;
-  second_impulse = impulse_shown e.contact.second;
+  normal = normal_shown first;
+  first = point_shown first;
+  second = point_shown second;
 }
+
+abbrev pub contact_shown : ContactEntry → CContact
+contact_shown e = points_shown (pair_shown e.key) e.contact.first e.contact.second
 
 abbrev pub contacts_in : Option Desk → List ContactEntry
 contacts_in None = []
@@ -149,8 +145,8 @@ course_shown None = record { velocity = record { x = pos 0; y = pos 0 }; spin = 
 course_shown (Some course) = course
 
 -- what is seen of a body, its angular momentum as two halves
-abbrev pub view_shown : CHandle → BodyView → CView
-view_shown h v = record {
+abbrev pub view_shown : CHandle → ℕ → BodyView → CView
+view_shown h tag v = record {
   pose = record { handle = h; at = vector_shown v.at; facing = facing_shown v.facing };
   p = vector_shown v.p;
   l_low = cast_unsigned w128 v.l % 2 ^ 64;
@@ -159,4 +155,5 @@ view_shown h v = record {
   spin = (course_shown v.course).spin;
   set = set_number v.set;
   island = island_number v.set;
+  tag = tag;
 }

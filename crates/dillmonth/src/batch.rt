@@ -10,7 +10,8 @@ use crate::forms::{
 use crate::held::{CWorld, put, take};
 use crate::statuses::{BAD_KIND, BAD_SPAN};
 use std::alloc::Global;
-use world_core::{Command, WorldCore};
+use world_core::Command;
+use world_desk::Desk;
 
 /// The shapes of a command that makes a body, if the batch has them all.
 fn shapes_in<'a>(command: &CCommand, shapes: &'a [CShape]) -> Option<&'a [CShape]>
@@ -74,16 +75,11 @@ fn command_of(alloc: Global, command: &CCommand, shapes: &[CShape]) -> Result<Co
 }
 
 /// Answers one command of a batch.
-fn answer_one(
-    alloc: Global,
-    world: &mut WorldCore,
-    command: &CCommand,
-    shapes: &[CShape],
-) -> CAnswer
-    ensures { IsAnsweredAs (command_said shapes.now command.now) world.old result world.new }
+fn answer_one(alloc: Global, desk: &mut Desk, command: &CCommand, shapes: &[CShape]) -> CAnswer
+    ensures { IsAnsweredAs (command_said shapes.now command.now) desk.old result desk.new }
 {
     match command_of(alloc, command, shapes) {
-        Ok(command) => answer_to(world, command),
+        Ok(command) => answer_to(alloc, desk, command),
         Err(status) => bare(status),
     }
 }
@@ -91,18 +87,18 @@ fn answer_one(
 /// Answers each command in turn.
 fn answer_all(
     alloc: Global,
-    world: &mut WorldCore,
+    desk: &mut Desk,
     commands: &[CCommand],
     shapes: &[CShape],
     answers: &mut [CAnswer],
 )
     requires { length answers.old ≡ length commands.now }
-    ensures ran { Ran shapes.now commands.now answers.new world.old world.new }
+    ensures ran { Ran shapes.now commands.now answers.new desk.old desk.new }
     ensures length { length answers.new ≡ length answers.old }
 {
     let mut at = 0;
     while at < commands.len() {
-        answers[at] = answer_one(alloc, world, &commands[at], shapes);
+        answers[at] = answer_one(alloc, desk, &commands[at], shapes);
         at += 1;
     }
 }
@@ -128,7 +124,7 @@ pub extern "C" fn dm_apply_all(
             let count = commands.len().min(answers.len());
             answer_all(
                 alloc,
-                &mut desk.world,
+                &mut desk,
                 &commands[..count],
                 shapes,
                 &mut answers[..count],

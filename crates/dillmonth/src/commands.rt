@@ -12,7 +12,8 @@ use crate::held::{CWorld, put, take};
 use crate::statuses::{DONE, NO_WORLD, status_of};
 use fixed_geom::Refusal;
 use std::alloc::Global;
-use world_core::{Command, Reply, WorldCore};
+use world_core::{Command, Reply};
+use world_desk::Desk;
 
 const NOBODY: CHandle = CHandle {
     slot: 0,
@@ -66,21 +67,21 @@ fn answer_of(outcome: Result<Reply, Refusal>) -> CAnswer
     }
 }
 
-/// Applies a command to a world.
-pub(crate) fn answer_to(world: &mut WorldCore, command: Command) -> CAnswer
-    ensures { IsAnswered command world.old result world.new }
+/// Applies a command to the world of a desk.
+pub(crate) fn answer_to(alloc: Global, desk: &mut Desk, command: Command) -> CAnswer
+    ensures { IsAnswered command desk.old result desk.new }
 {
-    answer_of(world.apply(&command))
+    answer_of(desk.apply(alloc, &command))
 }
 
 /// Applies a command to the world that a caller holds. What lies beside the world stays.
-fn do_one(alloc: Global, world: &mut CWorld, command: Command) -> CAnswer
+pub(crate) fn do_one(alloc: Global, world: &mut CWorld, command: Command) -> CAnswer
     ensures { Does command world.old.desk result world.new.desk }
 {
     match take(alloc, world) {
         None => bare(NO_WORLD),
         Some(mut desk) => {
-            let answer = answer_to(&mut desk.world, command);
+            let answer = answer_to(alloc, &mut desk, command);
             put(world, desk);
             answer
         }

@@ -126,9 +126,25 @@ pub struct CView {
     pub set: u32,
     /// The name of the island with which it sleeps.
     pub island: u32,
+    /// What `dm_set_tag` gave it, or 0.
+    pub tag: u64,
 }
 
-/// A contact. A point's place is told by its offset from the first body's centre.
+/// A point of a contact; all zeros where there is none.
+#[repr(C)]
+#[derive(Clone, Copy)]
+pub struct CContactPoint {
+    /// Where it is, from the first body's centre, in u.
+    pub offset: CVector,
+    /// How far the shapes are apart there, in u; below zero where they overlap.
+    pub separation: i64,
+    /// Along the normal, in mass·u/tick.
+    pub normal_impulse: i64,
+    /// Across it, of friction.
+    pub tangent_impulse: i64,
+}
+
+/// A contact. The normal leads from the first shape to the second.
 #[repr(C)]
 #[derive(Clone, Copy)]
 pub struct CContact {
@@ -137,10 +153,24 @@ pub struct CContact {
     pub points: u32,
     pub unused: u32,
     pub normal: CVector,
-    pub first_offset: CVector,
-    pub second_offset: CVector,
-    pub first_impulse: i64,
-    pub second_impulse: i64,
+    pub first: CContactPoint,
+    pub second: CContactPoint,
+}
+
+/// What a step told. The kind is 0 for shapes that began to touch, 1 for shapes that ceased to, 2 for a body that fell asleep, 3 for one that woke.
+#[repr(C)]
+#[derive(Clone, Copy)]
+pub struct CEvent {
+    pub step: u64,
+    pub kind: u32,
+    pub unused: u32,
+    pub first: CHandle,
+    /// It names nothing where the event is of one body.
+    pub second: CHandle,
+    pub first_tag: u64,
+    pub second_tag: u64,
+    /// The contact as the step left it; without points where the shapes ceased to touch, and all zeros where the event is of one body.
+    pub contact: CContact,
 }
 
 /// One command of a batch.

@@ -55,7 +55,7 @@ impl Shown for Hit {
     }
 }
 
-fn show_hit(hit: Option<Hit>) -> CHit
+pub(crate) fn show_hit(hit: Option<Hit>) -> CHit
     ensures { result ≡ hit_shown hit }
 {
     match hit {

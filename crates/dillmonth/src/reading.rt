@@ -258,8 +258,8 @@ pub(crate) fn high_half(number: i128) -> i64
 }
 
 /// What is seen of a body.
-fn show_view(handle: CHandle, view: &BodyView) -> CView
-    ensures { result ≡ view_shown handle view.now }
+fn show_view(handle: CHandle, tag: u64, view: &BodyView) -> CView
+    ensures { result ≡ view_shown handle tag view.now }
 {
     let course = view.course.unwrap_or(NO_COURSE);
     CView {
@@ -278,17 +278,18 @@ fn show_view(handle: CHandle, view: &BodyView) -> CView
         spin: course.spin,
         set: set_number(view.set),
         island: island_number(view.set),
+        tag,
     }
 }
 
 /// Writes what is seen of a body, or 2 where it isn't there.
-fn read_body(view: Option<BodyView>, body: CHandle, out: &mut CView) -> u32
-    ensures { IsSeen view body result out.old out.new }
+fn read_body(view: Option<BodyView>, body: CHandle, tag: u64, out: &mut CView) -> u32
+    ensures { IsSeen view body tag result out.old out.new }
 {
     match view {
         None => 2,
         Some(view) => {
-            *out = show_view(body, &view);
+            *out = show_view(body, tag, &view);
             DONE
         }
     }
@@ -304,8 +305,9 @@ pub extern "C" fn dm_body(alloc: Global, world: &mut CWorld, body: CHandle, out:
         None => NO_WORLD,
         Some(desk) => {
             let view = desk.world.body(handle_of(body));
+            let tag = desk.tag_of(handle_of(body));
             put(world, desk);
-            read_body(view, body, out)
+            read_body(view, body, tag, out)
         }
     }
 }

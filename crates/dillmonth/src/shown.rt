@@ -3,15 +3,17 @@
 ghost use Rattle.std.specs.Prelude.{◌≡◌, ◌<◌, ◌+◌, ◌^◌, [], ◌∷◌, length, map, nat_lt, slice_set, cond};
 ghost use Rattle.dillmonth.specs.Forms.{handle_shown, id_shown, pair_shown};
 ghost use Rattle.dillmonth.specs.Getters.{form_shown, shape_shown};
-ghost use Rattle.dillmonth.specs.Lists.{contact_shown, count_points, impulse_shown, list_of, normal_shown, offset_shown, put_at, put_list, written};
+ghost use Rattle.dillmonth.specs.Events.{event_shown};
+ghost use Rattle.dillmonth.specs.Lists.{contact_shown, count_points, list_of, normal_shown, point_shown, points_shown, put_at, put_list, written};
 
 use crate::forms::{
-    CContact, CHandle, CPair, CShape, CShapeId, CVector, show_handle, show_id, show_pair,
-    show_vector,
+    CContact, CContactPoint, CEvent, CHandle, CPair, CShape, CShapeId, CVector, show_handle,
+    show_id, show_pair, show_vector,
 };
 use contacts_base::{ContactEntry, ContactKey, ContactPoint, ShapeId};
 use shapes::{Shape, ShapeDef};
 use world_core::Handle;
+use world_desk::StepEvent;
 
 /// What has a form for C.
 pub(crate) trait Shown {
@@ -98,12 +100,24 @@ impl Shown for u8 {
 
 const NOWHERE: CVector = CVector { x: 0, y: 0 };
 
-fn offset_of(point: Option<ContactPoint>) -> CVector
-    ensures { result ≡ offset_shown point }
+const NO_POINT: CContactPoint = CContactPoint {
+    offset: NOWHERE,
+    separation: 0,
+    normal_impulse: 0,
+    tangent_impulse: 0,
+};
+
+fn show_point(point: Option<ContactPoint>) -> CContactPoint
+    ensures { result ≡ point_shown point }
 {
     match point {
-        None => NOWHERE,
-        Some(point) => show_vector(point.ra),
+        None => NO_POINT,
+        Some(point) => CContactPoint {
+            offset: show_vector(point.ra),
+            separation: point.separation,
+            normal_impulse: point.normal_impulse,
+            tangent_impulse: point.tangent_impulse,
+        },
     }
 }
 
@@ -113,15 +127,6 @@ fn normal_of(point: Option<ContactPoint>) -> CVector
     match point {
         None => NOWHERE,
         Some(point) => show_vector(point.normal),
-    }
-}
-
-fn impulse_of(point: Option<ContactPoint>) -> i64
-    ensures { result ≡ impulse_shown point }
-{
-    match point {
-        None => 0,
-        Some(point) => point.normal_impulse,
     }
 }
 
@@ -135,23 +140,53 @@ fn count_points(first: Option<ContactPoint>, second: Option<ContactPoint>) -> u3
     }
 }
 
+/// Two shapes with the points where they touch.
+fn show_points(pair: CPair, first: Option<ContactPoint>, second: Option<ContactPoint>) -> CContact
+    ensures { result ≡ points_shown pair first second }
+{
+    CContact {
+        pair,
+        points: count_points(first, second),
+        unused: 0,
+        normal: normal_of(first),
+        first: show_point(first),
+        second: show_point(second),
+    }
+}
+
 impl Shown for ContactEntry {
     type Form = CContact;
 
     ghost shown = { λ e. contact_shown e };
 
     fn show(&self) -> CContact {
-        let first = self.contact.first();
-        let second = self.contact.second();
-        CContact {
-            pair: show_pair(self.key),
-            points: count_points(first, second),
+        show_points(
+            show_pair(self.key),
+            self.contact.first(),
+            self.contact.second(),
+        )
+    }
+}
+
+impl Shown for StepEvent {
+    type Form = CEvent;
+
+    ghost shown = { λ e. event_shown e };
+
+    fn show(&self) -> CEvent {
+        CEvent {
+            step: self.step,
+            kind: self.kind,
             unused: 0,
-            normal: normal_of(first),
-            first_offset: offset_of(first),
-            second_offset: offset_of(second),
-            first_impulse: impulse_of(first),
-            second_impulse: impulse_of(second),
+            first: show_handle(self.first.body),
+            second: show_handle(self.second.body),
+            first_tag: self.first.tag,
+            second_tag: self.second.tag,
+            contact: show_points(
+                show_pair(self.key),
+                self.contact.first(),
+                self.contact.second(),
+            ),
         }
     }
 }

@@ -65,7 +65,7 @@ pub extern "C" fn dm_count(alloc: Global, world: &mut CWorld, out: &mut CCounts)
     }
 }
 
-fn show_sum(total: Total) -> CSum
+pub(crate) fn show_sum(total: Total) -> CSum
     ensures { result ≡ sum_shown total }
 {
     CSum {

@@ -1,1 +1,2 @@
 mod ReadTexts
+mod LogLaws

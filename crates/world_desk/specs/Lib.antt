@@ -1,2 +1,4 @@
 pub mod Texts
 pub mod Clear
+pub mod Tags
+pub mod Logs

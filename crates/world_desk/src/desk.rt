@@ -1,12 +1,14 @@
-//! A world, the text of its last save, and what its last questions found.
+//! A world, the text of its last save, what its last questions found, and what its steps told.
 
-ghost use Rattle.std.specs.Prelude.{◌≡◌, IfErr, IfOk, None, OnErr, OnOk, true, string_bytes};
+ghost use Rattle.std.specs.Prelude.{◌≡◌, [], IfErr, IfOk, None, OnErr, OnOk, false, true, string_bytes};
 ghost use Rattle.std.specs.Result.{IsOkUnless};
 ghost use Rattle.impulse_ledger.specs.Sums.{totals_of};
 ghost use Rattle.saved_text.specs.Texts.{IsTextOf};
 ghost use Rattle.shape_rays.specs.Hits.{region};
 ghost use Rattle.shapes.specs.Rays.{IsBeam, beam_of};
 ghost use Rattle.world_desk.specs.Clear.{IsClear};
+ghost use Rattle.world_desk.specs.Logs.{Applies, IsApplied, IsLogged, IsTagged, told};
+ghost use Rattle.world_desk.specs.Tags.{tag_of, tagged};
 ghost use Rattle.world_desk.specs.Texts.{IsLoaded, IsUnread, filtered_refusal, ray_refusal, region_refusal};
 ghost use Rattle.world_digest.specs.Digests.{digest_of};
 ghost use Rattle.world_file.specs.Files.{value_of};
@@ -18,11 +20,14 @@ ghost use Rattle.world_rules.specs.World.{book_of};
 
 use crate::digest::digest_of;
 use crate::loading::world_of_text;
+use crate::log::{events_of, is_stepped};
+use crate::step_event::{StepEvent, Tagged};
+use crate::tags::{put_tag, tag_of};
 use crate::text::text_of;
 use crate::unread::Unread;
 use fixed_geom::{Box2, Refusal, Vec2};
 use std::alloc::Global;
-use world_core::{ContactEntry, ShapeId, WorldCore};
+use world_core::{Command, ContactEntry, Handle, Reply, ShapeId, WorldCore};
 use world_queries::{Hit, QueryFilter};
 
 /// A world, and beside it what was last saved of it or found in it.
@@ -37,6 +42,14 @@ pub struct Desk {
     pub found: Vec<ShapeId>,
     /// What the ray of the last `all_hits` hit, the nearest first.
     pub hits: Vec<Hit>,
+    /// The tags of bodies, by slot.
+    pub tags: Vec<Tagged>,
+    /// Whether the events of steps are kept.
+    pub keeps: bool,
+    /// The events that are kept, but for those of the last step where they are pending.
+    pub log: Vec<StepEvent>,
+    /// Whether the events of the last step are to be kept, and aren't in `log` yet. No command was accepted after that step.
+    pub pending: bool,
 }
 
 impl Desk {
@@ -44,6 +57,7 @@ impl Desk {
     pub fn with(alloc: Global, world: WorldCore) -> Desk
         ensures world { result.world ≡ world }
         ensures clear { IsClear result }
+        ensures tags { result.tags.items ≡ [] }
     {
         Desk {
             world,
@@ -51,16 +65,88 @@ impl Desk {
             contacts: Vec::new(alloc),
             found: Vec::new(alloc),
             hits: Vec::new(alloc),
+            tags: Vec::new(alloc),
+            keeps: false,
+            log: Vec::new(alloc),
+            pending: false,
         }
     }
 
-    /// A copy of its world, on a desk of its own, on which nothing lies yet. Refused 1 where memory is wanting.
+    /// A copy of its world and of the tags, on a desk of its own, on which nothing else lies yet. Refused 1 where memory is wanting.
     pub fn try_copy(&self, alloc: Global) -> Result<Desk, Refusal>
         ensures world { IfOk result (λ copied. copied.world ≡ self.now.world) }
         ensures clear { IfOk result IsClear }
+        ensures tags { IfOk result (λ copied. copied.tags.items ≡ self.now.tags.items) }
         ensures memory_only { IsOkUnless result Refusal.NoMemory }
     {
-        Ok(Desk::with(alloc, self.world.try_copy()?))
+        let tags = Vec::from_slice(alloc, self.tags.as_slice())?;
+        let mut copied = Desk::with(alloc, self.world.try_copy()?);
+        copied.tags = tags;
+        Ok(copied)
+    }
+
+    /// Applies a command to the world, and keeps the events of a step that is accepted, where events are kept. A refused one changes nothing.
+    /// Refused as `WorldCore::apply`; and 1, before all else, where memory is wanting for the events of the step before.
+    pub fn apply(&mut self, alloc: Global, command: &Command) -> Result<Reply, Refusal>
+        ensures { Applies command.now self.old result self.new }
+    {
+        self.log_last(alloc)?;
+        self.apply_logged(command)
+    }
+
+    /// The same where all events are logged.
+    fn apply_logged(&mut self, command: &Command) -> Result<Reply, Refusal>
+        requires { self.old.pending ≡ false }
+        ensures { IsApplied command.now self.old result self.new }
+    {
+        let outcome = self.world.apply(command);
+        self.pending = is_stepped(&outcome) & self.keeps;
+        outcome
+    }
+
+    /// Logs the events of the last step, if they are to be. Refused 1 where memory is wanting. No event is told otherwise then.
+    pub fn log_last(&mut self, alloc: Global) -> Result<(), Refusal>
+        ensures logged { IsLogged self.old self.new }
+        ensures log { OnOk result (self.new.log.items ≡ told self.old) }
+        ensures none_pending { OnOk result (self.new.pending ≡ false) }
+        ensures wanting { OnErr result (self.old.pending ≡ true) }
+        ensures memory_only { IsOkUnless result Refusal.NoMemory }
+    {
+        if !self.pending {
+            return Ok(());
+        }
+        let mut events = events_of(alloc, &self.world, self.tags.as_slice())?;
+        self.log.append(&mut events)?;
+        self.pending = false;
+        Ok(())
+    }
+
+    /// Drops the events that were kept. From now on those of each step are kept, or none are.
+    pub fn clear_events(&mut self, keeps: bool)
+        ensures told { told self.new ≡ [] }
+        ensures keeps { self.new.keeps ≡ keeps }
+        ensures kept { self.new ≡ record self.old { log = self.new.log; pending = self.new.pending; keeps = self.new.keeps } }
+    {
+        self.log.clear();
+        self.pending = false;
+        self.keeps = keeps;
+    }
+
+    /// The tag of a body; 0 where it was given none. That of a body that is gone stays until another one in its slot is given one.
+    pub fn tag_of(&self, body: Handle) -> u64
+        ensures { result ≡ tag_of self.now.tags.items body }
+    {
+        tag_of(self.tags.as_slice(), body)
+    }
+
+    /// Gives a body a tag in place of the one that it has, whether it lives or not. Refused 1 where memory is wanting, and then no tag has changed.
+    pub fn set_tag(&mut self, alloc: Global, body: Handle, tag: u64) -> Result<(), Refusal>
+        ensures tagged { OnOk result (IsTagged (tagged self.old.tags.items body tag) self.old self.new) }
+        ensures refused { OnErr result (IsTagged self.old.tags.items self.old self.new) }
+        ensures memory_only { IsOkUnless result Refusal.NoMemory }
+    {
+        self.log_last(alloc)?;
+        put_tag(&mut self.tags, body, tag)
     }
 
     /// Saves the world: keeps its value as JSON, in place of the text that was kept. What was found and listed stays. Refused 1 where memory is
@@ -80,6 +166,7 @@ impl Desk {
     pub fn load(alloc: Global, text: &[u8]) -> Result<Desk, Unread>
         ensures loaded { IfOk result (λ desk. IsLoaded text.now desk.world) }
         ensures clear { IfOk result IsClear }
+        ensures tags { IfOk result (λ desk. desk.tags.items ≡ []) }
         ensures refused { IfErr result (IsUnread text.now) }
     {
         let world = world_of_text(alloc, text)?;

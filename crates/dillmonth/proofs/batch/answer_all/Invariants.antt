@@ -5,7 +5,7 @@ use Rattle.dillmonth.proofs.batch.answer_all.Given as goal
 abbrev pub invariant-loop-at : goal.invariant-loop-at
 invariant-loop-at l = record {
   within : l.at ≤ length l.commands;
-  ran : Ran l.shapes (take l.at l.commands) (take l.at l.answers) l.fn.world l.world;
+  ran : Ran l.shapes (take l.at l.commands) (take l.at l.answers) l.fn.desk l.desk;
 }
 
 abbrev pub decreases-loop-at : goal.decreases-loop-at

@@ -1,0 +1,288 @@
+//! The velocity and the spin of a body, and what brings it to others: numbers alone, with no world.
+
+ghost use Rattle.std.specs.Prelude.{◌≡◌, ◌+◌, ◌≤◌, ◌^◌, IfSome, IsTrue, pos, ◌-ℤ◌, ◌*ℤ◌, ◌<ℤ◌, unsigned_abs};
+ghost use Rattle.std.specs.Option.{option_copied};
+ghost use Rattle.fixed_geom.specs.Facings.{IsFacing, direction};
+ghost use Rattle.fixed_geom.specs.Numbers.{rdiv};
+ghost use Rattle.fixed_geom.specs.Vectors.{IsWithin, unit_length};
+ghost use Rattle.momenta.specs.Motions.{IsMass, IsMotion, limited, spin, velocity};
+ghost use Rattle.plain_world.specs.Bodies.{IsBody};
+ghost use Rattle.dillmonth.specs.Motions.{IsTarget, course_between, course_from, course_to, is_target, lever, motion_of, push_part, push_to, spin_between, twist_from, twist_push, twist_to};
+
+use fixed_geom::{
+    MAX_POSITION, MAX_SPIN, Rot, UNIT, Vec2, cross, dot, is_facing, is_within, product, rdiv,
+    rdiv_64, scaled,
+};
+use momenta::{MAX_SPEED, MassData, Motion, spin, velocity};
+use plain_world::{Body, Course, Kind, NO_COURSE};
+use shapes::Pose;
+use world_rules::MAX_TICKS;
+
+/// The motion of a dynamic body.
+fn by_momenta(mass: MassData, motion: &Motion) -> Course
+    requires mass { IsMass mass }
+    requires motion { IsMotion mass motion.now }
+    ensures { result ≡ record { velocity = velocity mass.mass motion.now.p; spin = spin mass.inertia motion.now.l } }
+{
+    Course {
+        velocity: velocity(motion.p, mass.mass),
+        spin: spin(motion.l, mass.inertia),
+    }
+}
+
+pub(crate) fn motion_of(body: &Body) -> Course
+    requires { IsBody body.now }
+    ensures { result ≡ motion_of body.now }
+{
+    match body.kind {
+        Kind::Static => NO_COURSE,
+        Kind::Kinematic(course) => course,
+        Kind::Dynamic => by_momenta(body.mass, &body.motion),
+    }
+}
+
+// ---- the velocity of a mover
+
+/// The greatest size of a part of a push, and some more: a push of this size is refused.
+const TOO_MUCH: i64 = (1 << 40) + 1;
+
+/// A part of a push: one that is beyond 2^40 stays beyond it, so that the push is refused.
+fn push_part(part: i128) -> i64
+    ensures { result ≡ push_part part }
+{
+    if part > i128::from(TOO_MUCH) {
+        TOO_MUCH
+    } else if part < -i128::from(TOO_MUCH) {
+        -TOO_MUCH
+    } else {
+        part as i64
+    }
+}
+
+/// What a momentum lacks to that of a velocity, in one component.
+fn lacking(mass: i64, velocity: i64, momentum: i64) -> i128
+    ensures { result ≡ mass *ℤ velocity -ℤ momentum }
+{
+    product(mass, velocity) - i128::from(momentum)
+}
+
+/// The push that brings a body's momentum to that of a velocity.
+pub(crate) fn push_to(body: Option<&Body>, velocity: Vec2) -> Vec2
+    ensures { result ≡ push_to (option_copied body.entry) velocity }
+{
+    match body {
+        None => Vec2 { x: 0, y: 0 },
+        Some(body) => Vec2 {
+            x: push_part(lacking(body.mass.mass, velocity.x, body.motion.p.x)),
+            y: push_part(lacking(body.mass.mass, velocity.y, body.motion.p.y)),
+        },
+    }
+}
+
+// ---- a kinematic body's target
+
+/// A spin that is refused.
+const BEYOND_SPIN: i64 = MAX_SPIN + 1;
+
+/// A course that is refused.
+const NO_WAY: Course = Course {
+    velocity: Vec2 {
+        x: MAX_SPEED + 1,
+        y: 0,
+    },
+    spin: 0,
+};
+
+/// A spin: one that is beyond its limit stays beyond it, so that it is refused.
+fn spin_part(spin: i128) -> i64
+    ensures { result ≡ limited (2 ^ 28 + 1) spin }
+{
+    if spin > i128::from(BEYOND_SPIN) {
+        BEYOND_SPIN
+    } else if spin < -i128::from(BEYOND_SPIN) {
+        -BEYOND_SPIN
+    } else {
+        spin as i64
+    }
+}
+
+/// A number times 2^30.
+fn scaled_up(number: i128) -> i128
+    requires { unsigned_abs number ≤ 2 ^ 64 }
+    ensures { result ≡ number *ℤ unit_length }
+{
+    number * i128::from(UNIT)
+}
+
+/// The spin of an angle that is turned in so many ticks, by its sine and its cosine, both times 2^60 or so.
+fn spin_of(across: i128, along: i128, ticks: i64) -> i64
+    requires across { unsigned_abs across ≤ 2 ^ 64 }
+    requires positive { pos 0 <ℤ along }
+    requires ticks { pos 0 <ℤ ticks }
+    ensures { result ≡ limited (2 ^ 28 + 1) (rdiv (rdiv (across *ℤ unit_length) along) ticks) }
+{
+    let tangent = rdiv(scaled_up(across), along);
+    spin_part(rdiv(tangent, i128::from(ticks)))
+}
+
+/// The spin that turns one direction into another in so many ticks, by the tangent of the angle between them.
+fn spin_between(from: Vec2, to: Vec2, ticks: i64) -> i64
+    requires from { IsWithin (2 ^ 31) from }
+    requires to { IsWithin (2 ^ 31) to }
+    requires ticks { pos 0 <ℤ ticks }
+    ensures { result ≡ spin_between from to ticks }
+{
+    let along = dot(from, to);
+    if along > 0 {
+        spin_of(cross(from, to), along, ticks)
+    } else {
+        BEYOND_SPIN
+    }
+}
+
+/// Where a facing leads.
+fn direction(facing: Rot) -> Vec2
+    requires { IsFacing facing }
+    ensures value { result ≡ direction facing }
+    ensures within { IsWithin (2 ^ 31) result }
+{
+    Vec2 {
+        x: facing.c,
+        y: facing.s,
+    }
+}
+
+/// The way from one place to another, in one coordinate.
+fn way(from: i64, to: i64) -> i64
+    requires from { unsigned_abs from ≤ 2 ^ 36 }
+    requires to { unsigned_abs to ≤ 2 ^ 36 }
+    ensures value { result ≡ to -ℤ from }
+    ensures size { unsigned_abs result ≤ 2 ^ 37 }
+{
+    to - from
+}
+
+/// A part of the velocity that leads from one place to another in so many ticks.
+fn way_part(from: i64, to: i64, ticks: i64) -> i64
+    requires from { unsigned_abs from ≤ 2 ^ 36 }
+    requires to { unsigned_abs to ≤ 2 ^ 36 }
+    requires ticks { pos 0 <ℤ ticks }
+    ensures { result ≡ rdiv (to -ℤ from) ticks }
+{
+    rdiv_64(way(from, to), ticks)
+}
+
+/// Whether a body may have this pose, and a step so many ticks.
+fn is_target(to: Pose, ticks: i64) -> bool
+    ensures value { result ≡ is_target to ticks }
+    ensures target { IsTrue result → IsTarget to ticks }
+{
+    is_within(to.x, MAX_POSITION as u64) && is_facing(to.rot) && 1 <= ticks && ticks <= MAX_TICKS
+}
+
+/// The course that leads from one pose to another, which a body may have, in so many ticks.
+fn course_between(motion: &Motion, to: Pose, ticks: i64) -> Course
+    requires x { IsWithin (2 ^ 36) motion.now.x }
+    requires rot { IsFacing motion.now.rot }
+    requires target { IsTarget to ticks }
+    ensures { result ≡ course_between motion.now to ticks }
+{
+    Course {
+        velocity: Vec2 {
+            x: way_part(motion.x.x, to.x.x, ticks),
+            y: way_part(motion.x.y, to.x.y, ticks),
+        },
+        spin: spin_between(direction(motion.rot), direction(to.rot), ticks),
+    }
+}
+
+/// The course that leads from a motion to a pose in so many ticks.
+fn course_from(motion: &Motion, to: Pose, ticks: i64) -> Course
+    requires x { IsWithin (2 ^ 36) motion.now.x }
+    requires rot { IsFacing motion.now.rot }
+    ensures { result ≡ course_from motion.now to ticks }
+{
+    if is_target(to, ticks) {
+        course_between(motion, to, ticks)
+    } else {
+        NO_WAY
+    }
+}
+
+/// The course that leads a body to a pose in so many ticks.
+pub(crate) fn course_to(body: Option<&Body>, to: Pose, ticks: i64) -> Course
+    requires { IfSome body (λ b. IsBody b.now) }
+    ensures { result ≡ course_to (option_copied body.entry) to ticks }
+{
+    match body {
+        None => NO_WAY,
+        Some(body) => course_from(&body.motion, to, ticks),
+    }
+}
+
+// ---- the spin of a mover
+
+/// The arm at which a push gives an angular impulse, in u.
+pub(crate) fn lever(by: i64) -> i64
+    ensures { result ≡ lever by }
+{
+    if by.unsigned_abs() <= 1 << 40 {
+        1
+    } else {
+        1 << 20
+    }
+}
+
+/// The push that gives an angular impulse at its arm.
+pub(crate) fn twist_push(by: i64) -> i64
+    ensures { result ≡ twist_push by }
+{
+    push_part(rdiv(i128::from(by), i128::from(lever(by))))
+}
+
+/// An angular impulse in 64 bits: one that is beyond 2^62 is put there, and is refused.
+fn narrow(by: i128) -> i64
+    ensures { result ≡ limited (2 ^ 62) by }
+{
+    if by > 1 << 62 {
+        1 << 62
+    } else if by < -(1 << 62) {
+        -(1 << 62)
+    } else {
+        by as i64
+    }
+}
+
+/// What an angular momentum lacks to that of a spin.
+fn lacking_spin(inertia: i64, spin: i64, momentum: i128) -> i128
+    requires inertia { unsigned_abs inertia ≤ 2 ^ 60 }
+    requires spin { unsigned_abs spin ≤ 2 ^ 28 }
+    requires momentum { unsigned_abs momentum ≤ 2 ^ 90 }
+    ensures { result ≡ rdiv (spin *ℤ inertia) unit_length -ℤ momentum }
+{
+    i128::from(scaled(spin, inertia)) - momentum
+}
+
+/// The angular impulse that brings an angular momentum to that of a spin; one that is refused where no body may have the spin.
+fn twist_from(mass: MassData, motion: &Motion, spin: i64) -> i64
+    requires mass { unsigned_abs mass.inertia ≤ 2 ^ 60 }
+    requires motion { unsigned_abs motion.now.l ≤ 2 ^ 90 }
+    ensures { result ≡ twist_from mass.inertia motion.now.l spin }
+{
+    if spin.unsigned_abs() <= MAX_SPIN as u64 {
+        narrow(lacking_spin(mass.inertia, spin, motion.l))
+    } else {
+        1 << 62
+    }
+}
+
+/// The angular impulse that brings a body's angular momentum to that of a spin.
+pub(crate) fn twist_to(body: Option<&Body>, spin: i64) -> i64
+    requires { IfSome body (λ b. IsBody b.now) }
+    ensures { result ≡ twist_to (option_copied body.entry) spin }
+{
+    match body {
+        None => 0,
+        Some(body) => twist_from(body.mass, &body.motion, spin),
+    }
+}
