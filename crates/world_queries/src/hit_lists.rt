@@ -5,7 +5,6 @@ ghost use Rattle.std.specs.List.{filter_map};
 ghost use Rattle.std.specs.List.Sorted.{IsNonDecreasingBy, IsPermutation};
 ghost use Rattle.std.specs.Result.{IsOkUnless};
 ghost use Rattle.shapes.specs.Rays.{IsBeam, beam_of};
-ghost use Rattle.world_rules.specs.Sound.{IsSound};
 ghost use Rattle.world_queries.specs.AllHits.{AreAllHits, hit_named, hit_number};
 ghost use Rattle.world_queries.specs.Filters.{IsDueOrWanting, filter_refusal, lets_through, shapes_through};
 
@@ -71,13 +70,6 @@ fn put_in_order(hits: &mut Vec<Hit>)
     hits.sort_unstable_by_key(|hit| hit_number(hit));
 }
 
-/// What every world keeps: a law.
-fn know_sound(world: &WorldCore)
-    ensures { IsSound world.now }
-{
-    let _ = world.bodies();
-}
-
 /// All hits of a ray on the shapes of enabled bodies that the filter lets through: one for each shape that it hits, the nearest first, and those as near by
 /// the shapes' names. The start, in u, is within 2^36 in each coordinate, the way within 2^28. It looks at the shapes whose tight boxes overlap the box
 /// round the way. Refused 2 where the filter leaves out a body that doesn't live, else 1 where memory is wanting.
@@ -93,7 +85,7 @@ pub fn all_hits(
     ensures hits { IfOk result (λ hits. AreAllHits (beam_of from along) (shapes_through filter world.now.plain.bodies) hits.items) }
     ensures why { IfErr result (λ e. IsDueOrWanting (filter_refusal world.now.plain filter) e) }
 {
-    know_sound(world);
+    world.know_sound();
     filter.check(world)?;
     let cast = RayCast::new(from, along);
     let near = region(alloc, world, &cast.around())?;
