@@ -5,6 +5,7 @@
 use crate::seeing::{is_mover, part_at};
 use crate::walk::part_of;
 use colour_solver::{Row, Rows};
+use colour_solver_base::ContactRow;
 use fixed_geom::Refusal;
 use momenta::BodyState;
 use std::alloc::Global;
@@ -19,12 +20,14 @@ struct Place {
     weight: u32,
 }
 
-/// How many rows wait for a body of another part, and how many there are in all and without a colour.
+/// How many rows there are in all, how many of them wait for a body of another part, how many have no colour, and how many contacts have a
+/// second point.
 #[derive(Clone, Copy)]
 pub(crate) struct Counts {
     pub(crate) all: usize,
     pub(crate) waiting: usize,
     pub(crate) left: usize,
+    pub(crate) second_points: usize,
 }
 
 /// The strips of the steps before, and the lists that they are cut with.
@@ -100,6 +103,17 @@ fn count_waiting<R: Row>(rows: &[R], states: &[BodyState], home: &[u32]) -> usiz
         }
     }
     waiting
+}
+
+/// How many contacts have a second point.
+fn count_second_points(contacts: &[ContactRow]) -> usize {
+    let mut count: usize = 0;
+    for index in 0..contacts.len() {
+        if contacts[index].second.is_some() {
+            count = count.saturating_add(1);
+        }
+    }
+    count
 }
 
 /// The strip of a place: behind so many cuts.
@@ -260,6 +274,7 @@ impl Deal {
             all,
             waiting: between.saturating_add(left),
             left,
+            second_points: count_second_points(rows.contacts()),
         }
     }
 

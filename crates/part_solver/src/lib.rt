@@ -29,4 +29,4 @@ mod sums;
 mod walk;
 
 pub use part_crew::PartCrew;
-pub use part_memory::{LEAST_CONSTRAINTS, PartMemory};
+pub use part_memory::{LEAST_CONSTRAINTS, LEAST_PARTS, PartMemory};

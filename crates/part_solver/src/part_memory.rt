@@ -12,7 +12,10 @@ use momenta::BodyState;
 use std::alloc::Global;
 
 /// The fewest constraints of a step that is worth its workers: with fewer, the calling thread solves it alone.
-pub const LEAST_CONSTRAINTS: usize = 1_500;
+pub const LEAST_CONSTRAINTS: usize = 3_000;
+
+/// The fewest workers that are worth it: what a step by parts costs before it begins is more than a second worker saves.
+pub const LEAST_PARTS: u64 = 3;
 
 /// For how many steps at most the calling thread solves alone after one that wasn't worth it.
 const LONGEST_REST: u32 = 64;
@@ -40,6 +43,12 @@ pub struct PartMemory {
 /// Whether few rows of a step wait for bodies of other parts.
 fn is_loose(counts: Counts) -> bool {
     counts.waiting <= counts.all / 10 && counts.left <= counts.all / 16
+}
+
+/// Whether the parts have more to do than to copy: each row is copied to its part and back, whatever it holds, while the work is at bodies and
+/// at points.
+fn is_paying(counts: Counts, movers: usize) -> bool {
+    movers.saturating_add(counts.second_points) >= counts.all
 }
 
 /// For how many bodies a ring needs room. Only bodies of rows that wait go from part to part, each once before a stage.
@@ -77,13 +86,13 @@ impl PartMemory {
         true
     }
 
-    /// Whether a step is to be looked at: it has constraints enough, and no rest is to be taken.
-    fn is_due(&mut self, rows: &Rows) -> bool {
+    /// Whether a step is to be looked at: there are workers and constraints enough, and no rest is to be taken.
+    fn is_due(&mut self, rows: &Rows, parts: usize) -> bool {
         if self.all_steps {
             return true;
         }
         let constraints = rows.joints().len().saturating_add(rows.contacts().len());
-        constraints >= LEAST_CONSTRAINTS && !self.take_rest()
+        parts as u64 >= LEAST_PARTS && constraints >= LEAST_CONSTRAINTS && !self.take_rest()
     }
 
     /// Rests for a time, the longer the oftener that happens.
@@ -105,8 +114,8 @@ impl PartMemory {
         }
     }
 
-    /// Whether the step is worth so many workers: it has constraints enough, and few of them wait for bodies of other parts. Answers for how
-    /// many bodies each ring then needs room.
+    /// Whether the step is worth so many workers: it has constraints enough, few of them wait for bodies of other parts, and they have more to do
+    /// than to be copied. Answers for how many bodies each ring then needs room.
     pub(crate) fn is_worth(
         &mut self,
         rows: &Rows,
@@ -120,12 +129,12 @@ impl PartMemory {
         if rows.colours() > MOST_COLOURS {
             return None;
         }
-        if parts < 2 || parts > MOST_PARTS || !self.is_due(rows) {
+        if parts < 2 || parts > MOST_PARTS || !self.is_due(rows, parts) {
             return None;
         }
         let counts = self.deal.settle(rows, states, awake, parts)?;
         let room = room_for(counts);
-        let is_good = self.all_steps || is_loose(counts);
+        let is_good = self.all_steps || is_loose(counts) && is_paying(counts, awake.len());
         if is_good && room <= MOST_ROOM && are_dealt(&self.deal.home, parts, states) {
             return Some(room);
         }

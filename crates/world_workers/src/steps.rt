@@ -9,7 +9,7 @@ ghost use Rattle.world_workers.specs.Workers.{AnswersByThreads, step_due};
 
 use crew::Gate;
 use fixed_geom::{Refusal, ZERO_VECTOR};
-use part_solver::{LEAST_CONSTRAINTS, PartCrew, PartMemory};
+use part_solver::{LEAST_CONSTRAINTS, LEAST_PARTS, PartCrew, PartMemory};
 use std::alloc::Global;
 use std::sync::Wait;
 use std::thread::{Scope, Threads};
@@ -25,9 +25,9 @@ pub(crate) fn are_workers(workers: u64) -> bool
     workers >= 1 && workers <= MOST_WORKERS
 }
 
-/// Whether the calling thread makes the step alone: no other worker is asked for, or too little acts.
+/// Whether the calling thread makes the step alone: too few workers are asked for, or too little acts.
 pub(crate) fn is_for_one(world: &WorldCore, workers: u64) -> bool {
-    workers == 1 || world.acting_constraints() < LEAST_CONSTRAINTS
+    workers < LEAST_PARTS || world.acting_constraints() < LEAST_CONSTRAINTS
 }
 
 /// A world, and how many ticks it is to make.
