@@ -1,5 +1,5 @@
 -- Trusted: the bodies of a step by slot, and the movers' momentum. A mover here is an awake one: of the others `movable` is false.
-use Rattle.std.specs.Prelude.{◌≡◌, ℕ, suc, ◌^◌, ◌≤◌, Bool, true, false, cond, not, List, [], ◌∷◌, Some, pos, unsigned_abs, length, slice_get, slice_index_or}
+use Rattle.std.specs.Prelude.{◌+◌, ◌≡◌, ℕ, suc, ◌^◌, ◌≤◌, Bool, true, false, cond, not, List, [], ◌∷◌, Some, pos, unsigned_abs, length, slice_get, slice_index_or}
 use Rattle.std.specs.Ordering.{int_eq}
 use Rattle.momenta.specs.declared.gain.Gain.{Gain}
 use Rattle.momenta.specs.declared.state.BodyState.{BodyState}
