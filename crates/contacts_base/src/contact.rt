@@ -9,6 +9,9 @@ ghost use Rattle.contacts_base.specs.ContactLists.{IsAllBelow, IsNoneBelow, IsFi
 use crate::{ContactKey, PackedContact, PackedSurface};
 use fixed_geom::Vec2;
 
+/// At how many places a search looks one by one.
+const NEAR: usize = 4;
+
 /// A point of a contact: the normal from the first shape to the second, times 2^30, the separation in
 /// u, the point by its offsets from the two bodies' centres in u, the kept impulses along the normal
 /// and across it, in mass·u/tick, and the number of its candidate, 0 to 3: a whole word, so that a point
@@ -142,13 +145,28 @@ fn has_key_at(entries: &[ContactEntry], place: usize, key: ContactKey) -> bool
     }
 }
 
-/// `seek` where the contact wanted is not the one at the hint or the next.
+/// `seek` where the contact wanted is none of those that were looked at.
 #[inline(never)]
 fn seek_further(entries: &[ContactEntry], hint: usize, key: ContactKey) -> usize
     requires { AreKeysRising entries.now }
     ensures { IsFirstFrom entries.now (key_number key) result }
 {
     seek(entries, hint, key)
+}
+
+/// `seek` where the contact wanted stands mostly at the hint or a little behind it: so many places are looked at before it is searched for.
+#[inline(always)]
+pub(crate) fn seek_near(entries: &[ContactEntry], hint: usize, key: ContactKey) -> usize
+    requires { AreKeysRising entries.now }
+    ensures { IsFirstFrom entries.now (key_number key) result }
+{
+    for further in 0..NEAR {
+        let place = hint.saturating_add(further);
+        if has_key_at(entries, place, key) {
+            return place;
+        }
+    }
+    seek_further(entries, hint, key)
 }
 
 /// `seek` for one key after another of a list that has mostly the same: the contact is looked for at the hint, which is the place where the last

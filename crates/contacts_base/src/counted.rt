@@ -7,7 +7,7 @@ ghost use Rattle.contacts_base.specs.ContactLists.{impulses_given};
 ghost use Rattle.contacts_base.specs.Merge.{below_of, beyond_of};
 ghost use Rattle.contacts_base.specs.Split.{counting, is_over};
 
-use crate::contact::seek;
+use crate::contact::{seek, seek_near};
 use crate::contacts::set_points;
 use crate::flags::CountedFlags;
 use crate::{ContactEntry, ContactKey, Impulses, contact_at};
@@ -24,7 +24,7 @@ pub(crate) fn find_counting<'a>(
     requires { AreKeysRising entries.now }
     ensures { option_copied result ≡ lookup (counting over.now entries.now) key }
 {
-    *hint = seek(entries, *hint, key);
+    *hint = seek_near(entries, *hint, key);
     let entry = contact_at(entries, *hint, key)?;
     if over.is_set(*hint) {
         return None;

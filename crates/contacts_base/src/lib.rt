@@ -3,6 +3,7 @@
 #![tactic(auto)]
 
 mod ascending;
+mod begins;
 mod circles;
 mod contact;
 mod contacts;

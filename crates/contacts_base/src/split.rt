@@ -9,6 +9,7 @@ ghost use Rattle.contacts_base.specs.Merge.{merged};
 ghost use Rattle.contacts_base.specs.ShortLists.{counted_in};
 ghost use Rattle.contacts_base.specs.Split.{carried, contacts_in, counting, counting_at, is_over, or_kept, renewed};
 
+use crate::begins::Begins;
 use crate::contacts::{put_contact, set_points};
 use crate::counted::{end_by_key, find_counting, give_by_key};
 use crate::flags::CountedFlags;
@@ -45,6 +46,8 @@ pub struct SplitContacts {
     short: ShortList,
     // Memory for the next long list: what an earlier one was, whatever is in it.
     spare: Vec<ContactEntry>,
+    // Where a search in the long list may begin.
+    begins: Begins,
 }
 
 impl Model for SplitContacts {
@@ -137,6 +140,7 @@ impl SplitContacts {
             over: CountedFlags::new(alloc),
             short: ShortList::new(alloc),
             spare: Vec::new(alloc),
+            begins: Begins::new(alloc),
         }
     }
 
@@ -148,11 +152,13 @@ impl SplitContacts {
         ensures memory_only { IsOkUnless result Refusal.NoMemory }
     {
         let over = CountedFlags::none_set(alloc, entries.len())?;
+        let begins = Begins::of(alloc, &entries)?;
         Ok(SplitContacts {
             long: entries,
             over,
             short: ShortList::new(alloc),
             spare: Vec::new(alloc),
+            begins,
         })
     }
 
@@ -206,12 +212,13 @@ impl SplitContacts {
         self.long.get(place)
     }
 
-    /// The contact with this key. The search begins at the hint, whatever that is, and the hint becomes where it ended: one search after another goes
-    /// through the lists once.
+    /// The contact with this key. The search begins at the hint, whatever that is, or where the contacts of the key's first body begin, if that is
+    /// further on. The hint becomes where it ended: one search after another goes through the lists once.
     #[inline(always)]
     pub fn find(&self, hint: &mut Hint, key: ContactKey) -> Option<&ContactEntry>
         ensures { option_copied result ≡ lookup (contacts_in self.now) key }
     {
+        hint.long = hint.long.max(self.begins.place_for(key));
         match find_counting(&self.long, &self.over, &mut hint.long, key) {
             Some(entry) => Some(entry),
             None => self.short.find(&mut hint.short, key),
