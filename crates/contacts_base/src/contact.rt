@@ -1,6 +1,6 @@
 //! Contacts, and how one is found by its key.
 
-ghost use Rattle.std.specs.Prelude.{◌≡◌, ◌≤◌, ◌+◌, IsTrue, true};
+ghost use Rattle.std.specs.Prelude.{◌≡◌, ◌==◌, ◌≤◌, ◌+◌, IsTrue, true};
 ghost use Rattle.std.specs.Option.{option_copied};
 ghost use Rattle.contacts_base.specs.Keys.{key_number};
 ghost use Rattle.contacts_base.specs.Contacts.{lookup, AreKeysRising};
@@ -186,6 +186,14 @@ pub fn seek_next(entries: &[ContactEntry], hint: usize, key: ContactKey) -> usiz
     seek_further(entries, hint, key)
 }
 
+/// Whether one key has the same number as another.
+#[inline(always)]
+fn is_same(one: ContactKey, other: ContactKey) -> bool
+    ensures { result ≡ (key_number one == key_number other) }
+{
+    one == other
+}
+
 /// The contact with this key, where `place` is that of the first contact whose key isn't below it; `None` where there is
 /// none.
 #[inline(always)]
@@ -194,9 +202,8 @@ pub fn contact_at(entries: &[ContactEntry], place: usize, key: ContactKey) -> Op
     requires place { IsFirstFrom entries.now (key_number key) place }
     ensures { option_copied result ≡ lookup entries.now key }
 {
-    let wanted = key.number();
     let entry = entries.get(place)?;
-    if entry.key.number() == wanted {
+    if is_same(entry.key, key) {
         Some(entry)
     } else {
         None
