@@ -1,3 +1,4 @@
 pub mod BoxLemmas
 pub mod FatLaws
 pub mod KindLaws
+mod SlowLaws
