@@ -1,6 +1,7 @@
 pub mod Masses
 pub mod States
 pub mod Passes
+pub mod Sums
 pub mod RowVisits
 pub mod ConstraintVisits
 pub mod ColourRows

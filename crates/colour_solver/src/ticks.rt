@@ -14,7 +14,8 @@ use crate::{Change, Passes, Phase, Rows, pass_two};
 use body_handles::MAX_SLOTS;
 use fixed_geom::Vec2;
 use momenta::{
-    BodyState, Gain, MassData, Motion, NOTHING, Reciprocals, advance, clamp_speed, plus, pull,
+    BodyState, Gain, MassData, Motion, NOTHING, Reciprocals, advance, advance_inside, clamp_speed,
+    is_slow, plus, pull,
 };
 
 /// What a step has added to the movers' momentum, by cause.
@@ -43,6 +44,16 @@ impl Change for Pull {
     fn change(&self, mass: MassData, reciprocals: Reciprocals, motion: Motion) -> Motion {
         pull(motion, mass, self.gravity)
     }
+
+    #[inline(always)]
+    fn change_64(
+        &self,
+        mass: MassData,
+        reciprocals: Reciprocals,
+        motion: Motion,
+    ) -> Option<Motion> {
+        Some(pull(motion, mass, self.gravity))
+    }
 }
 
 /// The speed limit.
@@ -60,6 +71,20 @@ impl Change for Limit {
         let (limited, _) = clamp_speed(motion, mass);
         limited
     }
+
+    #[inline(always)]
+    fn change_64(
+        &self,
+        mass: MassData,
+        reciprocals: Reciprocals,
+        motion: Motion,
+    ) -> Option<Motion> {
+        if is_slow(motion, mass) {
+            Some(motion)
+        } else {
+            None
+        }
+    }
 }
 
 /// The move.
@@ -76,6 +101,16 @@ impl Change for Move {
     fn change(&self, mass: MassData, reciprocals: Reciprocals, motion: Motion) -> Motion {
         let (moved, _) = advance(motion, mass, reciprocals);
         moved
+    }
+
+    #[inline(always)]
+    fn change_64(
+        &self,
+        mass: MassData,
+        reciprocals: Reciprocals,
+        motion: Motion,
+    ) -> Option<Motion> {
+        advance_inside(motion, mass, reciprocals)
     }
 }
 

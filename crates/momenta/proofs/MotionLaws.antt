@@ -1,14 +1,20 @@
 -- Laws of the phases of a tick: what the speed limit leaves alone, and what each phase keeps.
-use Rattle.std.proofs.Common.{◌≡◌, ◌*◌, ◌^◌, ◌≤◌, ℕ, suc, ℤ, pos, negsuc, ◌*ℤ◌, ◌≤ℤ◌, unsigned_abs, inl, inr, refl, ap, ◌∙◌}
+use Rattle.std.proofs.Common.{◌≡◌, ◌*◌, ◌^◌, ◌≤◌, ℕ, suc, ℤ, pos, negsuc, ◌*ℤ◌, ◌≤ℤ◌, unsigned_abs, arith, inl, inr, refl, ap, ◌∙◌}
 use Rattle.std.proofs.lemmas.Bool.{cases_lt, le-leb, lt-leb}
-use Rattle.std.proofs.lemmas.Int.{unsigned_abs-mul}
+use Rattle.std.proofs.lemmas.Int.{ints, unsigned_abs-mul}
+use Rattle.std.specs.Int.{w64}
+use mir.Val.{SFits}
 use Rattle.fixed_geom.specs.Numbers.{rdiv}
 use Rattle.fixed_geom.specs.Vectors.{IsWithin}
 use Rattle.fixed_geom.specs.declared.vectors.Vec2.{Vec2}
+use Rattle.fixed_geom.specs.declared.facings.Rot.{Rot}
+use Rattle.fixed_geom.specs.Facings.{turn}
 use Rattle.momenta.specs.declared.mass.MassData.{MassData}
 use Rattle.momenta.specs.declared.motion.Motion.{Motion}
-use Rattle.momenta.specs.Motions.{advanced, speed_clamped, clamped_component, pulled, signed_as, velocity}
-use Rattle.momenta.proofs.Rounding.{rdiv_at}
+use Rattle.momenta.specs.Motions.{advanced, aim, speed_clamped, clamped_component, pulled, signed_as, spin, velocity}
+use Rattle.fixed_geom.proofs.Sizes.{product_le}
+use Rattle.momenta.proofs.Rounding.{rdiv_at, rdiv_slow}
+use Rattle.momenta.proofs.Spins.{fits_64}
 
 -- ---- the speed limit
 
@@ -39,6 +45,20 @@ clamped_slow m s h = rw (le-leb (unsigned_abs (rdiv s.p.x m.mass)) (2 ^ 20) h.x,
 pub clamped_twice : (m : MassData) (s : Motion) → pos 1 ≤ℤ m.mass → speed_clamped m (speed_clamped m s) ≡ speed_clamped m s
 clamped_twice m s h = clamped_slow m (speed_clamped m s) (clamped_is_slow m s h)
 
+-- the mass times the limit has room
+pub limit_fits : (mass : ℤ) → unsigned_abs mass ≤ 2 ^ 20 → SFits w64 (mass *ℤ pos (2 ^ 20))
+limit_fits mass h = fits_64 (mass *ℤ pos (2 ^ 20)) (omega (arith, product_le mass (pos (2 ^ 20)) (2 ^ 20) (2 ^ 20) h (omega arith)))
+
+-- a momentum up to it is slow, and small
+pub below_is_slow : (p mass : ℤ) → pos 1 ≤ℤ mass → unsigned_abs p ≤ unsigned_abs (mass *ℤ pos (2 ^ 20)) → unsigned_abs (rdiv p mass) ≤ 2 ^ 20
+below_is_slow p mass h below =
+    let size : unsigned_abs (mass *ℤ pos (2 ^ 20)) ≡ unsigned_abs mass * 2 ^ 20 = unsigned_abs-mul mass (pos (2 ^ 20)) in
+    let some : 1 ≤ unsigned_abs mass = omega (arith, ints) in
+    rdiv_slow p mass (2 ^ 20) h (omega (arith, size, some, below))
+
+pub below_is_small : (p mass : ℤ) → unsigned_abs mass ≤ 2 ^ 20 → unsigned_abs p ≤ unsigned_abs (mass *ℤ pos (2 ^ 20)) → unsigned_abs p ≤ 2 ^ 40
+below_is_small p mass h below = omega (arith, below, product_le mass (pos (2 ^ 20)) (2 ^ 20) (2 ^ 20) h (omega arith))
+
 -- ---- what is kept: gravity and the limit change the momentum alone, the move leaves the angular momentum
 
 pub pulled_keeps : (g : Vec2) (m : MassData) (s : Motion) → pulled g m s ≡ record s { p = (pulled g m s).p }
@@ -52,3 +72,10 @@ clamped_keeps m s = refl
 pub advanced_keeps : (m : MassData) (s : Motion) → (advanced m s).l ≡ s.l
 unfolding advanced
 advanced_keeps m s = refl
+
+-- ---- the move, inside the edge
+
+-- where the velocity leads inside the edge, it is the place that the body comes to, and no momentum is lost
+pub advanced_inside : (m : MassData) (s : Motion) (x : Vec2) (w : ℤ) (rot : Rot) → x ≡ aim m s → IsWithin (2 ^ 36) x → w ≡ spin m.inertia s.l → rot ≡ turn s.rot w → record s { x = x; rot = rot } ≡ advanced m s
+unfolding advanced
+advanced_inside m s x w rot e h f g = rw (← e, g, f, le-leb (unsigned_abs x.x) (2 ^ 36) h.x, le-leb (unsigned_abs x.y) (2 ^ 36) h.y) refl

@@ -30,6 +30,17 @@ pub fn gain_between(old: Vec2, new: Vec2) -> Gain
     }
 }
 
+/// A change of momentum as a sum of one.
+pub fn gain_of(change: Vec2) -> Gain
+    ensures x { result.x ≡ change.x }
+    ensures y { result.y ≡ change.y }
+{
+    Gain {
+        x: i128::from(change.x),
+        y: i128::from(change.y),
+    }
+}
+
 /// The sum of two changes of momentum.
 pub fn plus(a: Gain, b: Gain) -> Gain
     requires first { IsGain (2 ^ 100) a }

@@ -20,7 +20,7 @@ mod speed_limit;
 mod state;
 mod travel;
 
-pub use gain::{Gain, NOTHING, gain_between, plus};
+pub use gain::{Gain, NOTHING, gain_between, gain_of, plus};
 pub use goal::Goal;
 pub use gravity::pull;
 pub use inverse::{inverse_mass, inverse_reciprocal};
@@ -38,6 +38,6 @@ pub use line_64::{
 pub use mass::MassData;
 pub use motion::{Momenta, Motion, spin, velocity};
 pub use reciprocals::{Reciprocals, reciprocals_of};
-pub use speed_limit::clamp_speed;
+pub use speed_limit::{clamp_speed, is_slow};
 pub use state::{BodyState, Ends, NOBODY, impulse_pair, turned_by};
-pub use travel::advance;
+pub use travel::{advance, advance_inside};

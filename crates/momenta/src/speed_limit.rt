@@ -1,10 +1,11 @@
 //! The speed limit.
 
-ghost use Rattle.std.specs.Prelude.{◌≡◌, ℕ, ◌*◌, ◌^◌, ◌≤◌, pos, ◌≤ℤ◌, ◌*ℤ◌, unsigned_abs};
+ghost use Rattle.std.specs.Prelude.{◌≡◌, ℕ, ◌*◌, ◌^◌, ◌≤◌, true, pos, ◌≤ℤ◌, ◌<ℤ◌, ◌*ℤ◌, unsigned_abs};
 ghost use Rattle.fixed_geom.specs.Numbers.{rdiv};
 ghost use Rattle.fixed_geom.specs.Vectors.{IsWithin, minus};
 ghost use Rattle.momenta.specs.Motions.{IsMass, IsMotion, IsPulled, speed_clamped, clamped_component, signed_as, velocity};
 
+use crate::ranges::are_in;
 use crate::{MAX_MASS, MAX_SPEED, MassData, Motion};
 use fixed_geom::{Vec2, minus};
 
@@ -27,6 +28,31 @@ pub fn clamp_speed(motion: Motion, mass: MassData) -> (Motion, Vec2)
         y: clamp_component(motion.p.y, mass.mass),
     };
     (Motion { p, ..motion }, minus(p, motion.p))
+}
+
+/// Whether the momentum is below the mass times `MAX_SPEED`, so that the speed limit leaves it as it is.
+#[inline(always)]
+pub fn is_slow(motion: Motion, mass: MassData) -> bool
+    requires mass { IsMass mass }
+    requires motion { IsPulled mass motion }
+    ensures same { result ≡ true → speed_clamped mass motion ≡ motion }
+    ensures motion { result ≡ true → IsMotion mass motion }
+    ensures slow { result ≡ true → IsWithin (unsigned_abs MAX_SPEED) (velocity mass.mass motion.p) }
+    ensures room { pos (unsigned_abs motion.p.x) <ℤ (mass.mass *ℤ MAX_SPEED) → pos (unsigned_abs motion.p.y) <ℤ (mass.mass *ℤ MAX_SPEED) → result ≡ true }
+{
+    is_below_limit(motion.p, mass.mass)
+}
+
+/// Whether both components of a momentum are below the mass times `MAX_SPEED`.
+#[inline(always)]
+fn is_below_limit(p: Vec2, mass: i64) -> bool
+    requires positive { pos 1 ≤ℤ mass }
+    requires mass { unsigned_abs mass ≤ unsigned_abs MAX_MASS }
+    ensures slow { result ≡ true → IsWithin (unsigned_abs MAX_SPEED) (velocity mass p) }
+    ensures small { result ≡ true → IsWithin (2 ^ 40) p }
+    ensures room { pos (unsigned_abs p.x) <ℤ (mass *ℤ MAX_SPEED) → pos (unsigned_abs p.y) <ℤ (mass *ℤ MAX_SPEED) → result ≡ true }
+{
+    are_in(p.x, p.y, mass * MAX_SPEED)
 }
 
 /// One component of the momentum. The velocity `p / mass`, rounded, is within the limit exactly where

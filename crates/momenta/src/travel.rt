@@ -1,12 +1,13 @@
 //! The way of a tick, and the edge of the world.
 
-ghost use Rattle.std.specs.Prelude.{◌≡◌, ◌^◌, ◌≤◌, unsigned_abs};
+ghost use Rattle.std.specs.Prelude.{◌≡◌, ◌^◌, ◌≤◌, true, pos, ◌<ℤ◌, unsigned_abs, IfSome, is_some};
 ghost use Rattle.fixed_geom.specs.Reciprocals.{rdiv_reciprocal};
 ghost use Rattle.fixed_geom.specs.Vectors.{IsWithin, minus};
 ghost use Rattle.momenta.specs.Motions.{IsMass, IsMotion, advanced, aim, kept_component, limited, velocity};
 ghost use Rattle.momenta.specs.Reciprocals.{reciprocals_of};
 
 use crate::line_64::{spin_by, velocity_64};
+use crate::ranges::are_in;
 use crate::{MAX_MOMENTUM, MAX_SPEED, MassData, Motion, Reciprocals};
 use fixed_geom::{MAX_POSITION, Vec2, minus, turn};
 
@@ -47,7 +48,29 @@ pub fn advance(motion: Motion, mass: MassData, reciprocals: Reciprocals) -> (Mot
     )
 }
 
+/// The same of a centre that stays inside the edge of the world, so that the momentum is as it was: `None` where it may not.
+#[inline(always)]
+pub fn advance_inside(motion: Motion, mass: MassData, reciprocals: Reciprocals) -> Option<Motion>
+    requires mass { IsMass mass }
+    requires motion { IsMotion mass motion }
+    requires slow { IsWithin (unsigned_abs MAX_SPEED) (velocity mass.mass motion.p) }
+    requires reciprocals { reciprocals ≡ reciprocals_of mass }
+    ensures value { IfSome result (λ r. r ≡ advanced mass motion) }
+    ensures momentum { IfSome result (λ r. r.p ≡ motion.p) }
+    ensures motion { IfSome result (IsMotion mass) }
+    ensures room { pos (unsigned_abs (aim mass motion).x) <ℤ MAX_POSITION → pos (unsigned_abs (aim mass motion).y) <ℤ MAX_POSITION → is_some result ≡ true }
+{
+    let x = aim(motion, mass, reciprocals.mass);
+    if !are_in(x.x, x.y, MAX_POSITION) {
+        return None;
+    }
+    let spin = spin_by(motion.l, mass.inertia, reciprocals.inertia);
+    let rot = turn(motion.rot, spin);
+    Some(Motion { x, rot, ..motion })
+}
+
 /// Where the velocity leads, were there no edge.
+#[inline(always)]
 fn aim(motion: Motion, mass: MassData, reciprocal: i64) -> Vec2
     requires mass { IsMass mass }
     requires motion { IsMotion mass motion }

@@ -1,6 +1,8 @@
 use Rattle.std.proofs.Common.{◌≤◌, length, slice_index_or, refl, arith, add-one}
-use Rattle.colour_solver.specs.States.{as_vector}
-use Rattle.colour_solver.proofs.PassLaws.{grown}
+use Rattle.body_handles.specs.declared.slot_table.TheConstants.{MAX_SLOTS}
+use Rattle.colour_solver.specs.Passes.{changed, one_gain}
+use Rattle.colour_solver.specs.Sums.{first_sum, second_sum}
+use Rattle.colour_solver.proofs.SumLaws.{none_so_far, within_all}
 use Rattle.colour_solver.proofs.AwakeLaws.{here_at, few_movers, walked_first, walked_last, walked_more}
 use Rattle.colour_solver.proofs.passes.pass_two.Goals as goal
 
@@ -8,22 +10,24 @@ pub loop-place-init : goal.loop-place-init
 loop-place-init g c = record {
   walked = walked_first (g.A.Change.after c.args.first.now) (g.B.Change.after c.args.second.now) (g.B.Change.gives c.args.second.now) c.args.states.now.items c.args.awake.now c.requires.awake;
   few = few_movers c.args.states.now.items c.args.awake.now c.requires.awake c.requires.few;
-  small_first = record { x = omega arith; y = omega arith };
-  small_second = record { x = omega arith; y = omega arith };
+  small = none_so_far;
 }
 
-pub change_body-gains-requires-clause-small : goal.change_body-gains-requires-clause-small
-change_body-gains-requires-clause-small g c =
+pub change_next-sums-requires-clause-sums : goal.change_next-sums-requires-clause-sums
+change_next-sums-requires-clause-sums g c = within_all c.loop-place.place MAX_SLOTS c.loop-place.sums (omega (arith, c.loop-place-test.true, c.loop-place.invariant.few)) c.loop-place.invariant.small
+
+pub change_next-sums-requires-clause-small : goal.change_next-sums-requires-clause-small
+change_next-sums-requires-clause-small g c =
     c.requires.small (slice_index_or c.args.awake.now c.loop-place.place 0) c.index_mut.result.now
     (here_at (g.A.Change.after c.args.first.now) (g.B.Change.after c.args.second.now) (g.B.Change.gives c.args.second.now) c.args.states.now.items c.args.awake.now c.loop-place.place (slice_index_or c.args.awake.now c.loop-place.place 0) c.loop-place.states.items _ _ c.index_mut.result.now c.loop-place.invariant.walked c.loop-place-test.true refl c.index_mut.ensures.value).there
 
-pub change_body-gains-requires-clause-fits : goal.change_body-gains-requires-clause-fits
-change_body-gains-requires-clause-fits g c =
+pub change_next-sums-requires-clause-fits : goal.change_next-sums-requires-clause-fits
+change_next-sums-requires-clause-fits g c =
     c.requires.fits (slice_index_or c.args.awake.now c.loop-place.place 0) c.index_mut.result.now
     (here_at (g.A.Change.after c.args.first.now) (g.B.Change.after c.args.second.now) (g.B.Change.gives c.args.second.now) c.args.states.now.items c.args.awake.now c.loop-place.place (slice_index_or c.args.awake.now c.loop-place.place 0) c.loop-place.states.items _ _ c.index_mut.result.now c.loop-place.invariant.walked c.loop-place-test.true refl c.index_mut.ensures.value).there
 
-pub change_body-gains-requires-clause-reciprocals : goal.change_body-gains-requires-clause-reciprocals
-change_body-gains-requires-clause-reciprocals g c =
+pub change_next-sums-requires-clause-reciprocals : goal.change_next-sums-requires-clause-reciprocals
+change_next-sums-requires-clause-reciprocals g c =
     c.requires.reciprocals (slice_index_or c.args.awake.now c.loop-place.place 0) c.index_mut.result.now
     (here_at (g.A.Change.after c.args.first.now) (g.B.Change.after c.args.second.now) (g.B.Change.gives c.args.second.now) c.args.states.now.items c.args.awake.now c.loop-place.place (slice_index_or c.args.awake.now c.loop-place.place 0) c.loop-place.states.items _ _ c.index_mut.result.now c.loop-place.invariant.walked c.loop-place-test.true refl c.index_mut.ensures.value).there
 
@@ -36,22 +40,18 @@ loop-place-preserved g c =
     let slot = slice_index_or c.args.awake.now place 0 in
     let known = c.loop-place.invariant in
     let sums = c.loop-place.sums in
-    let gains = c.change_body-gains.result in
-    let made = c.change_body-gains.ensures in
+    let old = c.index_mut.result.now in
+    let made = c.change_next-sums.ensures in
     record {
-      walked = rw (c.plus.ensures.x, c.plus.ensures.y, c.plus-in-loop-place.ensures.x, c.plus-in-loop-place.ensures.y, add-one)
-          (walked_more f s (g.B.Change.gives c.args.second.now) all c.args.awake.now place slot c.loop-place.states.items (as_vector sums.first) (as_vector sums.second) (as_vector gains.first) (as_vector gains.second) c.index_mut.result.now c.change_body-gains.new.body
-          known.walked c.loop-place-test.true refl c.index_mut.ensures.value made.body made.gives made.first made.second);
+      walked = rw (add-one, made.first, made.second)
+          (walked_more f s (g.B.Change.gives c.args.second.now) all c.args.awake.now place slot c.loop-place.states.items (first_sum sums) (second_sum sums) (one_gain f old) (one_gain s (changed f old)) old c.change_next-sums.new.body
+          known.walked c.loop-place-test.true refl c.index_mut.ensures.value made.body made.gives refl refl);
       few = known.few;
-      small_first = record {
-        x = rw c.plus.ensures.x (grown sums.first.x gains.first.x place known.small_first.x made.small_first.x);
-        y = rw c.plus.ensures.y (grown sums.first.y gains.first.y place known.small_first.y made.small_first.y);
-      };
-      small_second = record {
-        x = rw c.plus-in-loop-place.ensures.x (grown sums.second.x gains.second.x place known.small_second.x made.small_second.x);
-        y = rw c.plus-in-loop-place.ensures.y (grown sums.second.y gains.second.y place known.small_second.y made.small_second.y);
-      };
+      small = made.grown place known.small;
     }
+
+pub sums_of-requires : goal.sums_of-requires
+sums_of-requires g c = record { sums = within_all c.loop-place.place MAX_SLOTS c.loop-place.sums (omega (arith, c.loop-place.auto.place-end, c.loop-place.invariant.few)) c.loop-place.invariant.small }
 
 pub returns-clause-gives : goal.returns-clause-gives
 returns-clause-gives g c =

@@ -1,5 +1,5 @@
-use Rattle.std.proofs.Common.{ℤ, ◌+◌, ◌+ℤ◌, ◌*ℤ◌, ◌^◌, ◌≤◌, unsigned_abs, arith}
-use Rattle.std.proofs.lemmas.Int.{to_z-of_z}
+use Rattle.std.proofs.Common.{ℕ, ℤ, ◌+◌, ◌+ℤ◌, ◌-ℤ◌, ◌*ℤ◌, ◌^◌, ◌≤◌, unsigned_abs, arith}
+use Rattle.std.proofs.lemmas.Int.{ints, to_z-of_z}
 use Rattle.std.specs.Int.{w64}
 use mir.Val.{SFits}
 use Rattle.fixed_geom.proofs.Sizes.{passed_64, product_le, sum_le}
@@ -22,3 +22,9 @@ returns-clause-value c =
 
 pub returns-clause-small : goal.returns-clause-small
 returns-clause-small c = rw (returns-clause-value c) (omega (arith, pulled_size c.args.p c.args.mass c.args.g c.requires.p c.requires.mass c.requires.g))
+
+pulled_by : (p d : ℤ) (k : ℕ) → unsigned_abs d ≤ k → unsigned_abs ((p +ℤ d) -ℤ p) ≤ k
+pulled_by p d k h = omega (arith, ints)
+
+pub returns-clause-near : goal.returns-clause-near
+returns-clause-near c = rw (returns-clause-value c) (pulled_by c.args.p (c.args.mass *ℤ c.args.g) (2 ^ 36) (pull_size c.args.mass c.args.g c.requires.mass c.requires.g))
