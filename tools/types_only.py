@@ -18,19 +18,21 @@ from pathlib import Path
 TOP = Path(__file__).resolve().parent.parent
 KIND = re.compile(r"(?:pub(?:\([a-z]+\))? )?(?:unsafe )?(const fn|fn|impl|trait|struct|enum|const|use|mod|ghost use|#!\[)")
 NAMED = re.compile(r"\b(?:struct|enum|const) (\w+)")
-IMPORT = re.compile(r"(pub )?use ([\w:]+?)::(?:\{([^}]*)\}|(\w+));")
+NAME = r"\w+(?: as \w+)?"
+IMPORT = re.compile(rf"(pub )?use ([\w:]+?)::(?:\{{([^}}]*)\}}|({NAME}));")
 GONE = {"fn", "const fn", "impl", "trait", "ghost use"}
 
 
 def items_of(text):
     """The items of a source in their order, each with its comments and attributes. Clauses of a function belong to it."""
-    item, depth = [], 0
+    item, depth, opening = [], 0, ""
     for line in text.splitlines():
         item.append(line)
         code = re.sub(r"//.*|\"[^\"]*\"", "", line).strip()
+        opening = opening if depth else code
         depth += sum(code.count(sign) for sign in "{([") - sum(code.count(sign) for sign in "})]")
         is_end = code.endswith(("}", ";")) or code.startswith("#![")
-        if depth == 0 and is_end and not re.match(r"#\[|requires\b|ensures\b", code):
+        if depth == 0 and is_end and not re.match(r"#\[|requires\b|ensures\b", opening):
             yield "\n".join(item)
             item = []
 
@@ -48,11 +50,11 @@ def kind_of(item):
 def import_left(item, known, modules, rest):
     """An import with the names that are still there, and that the rest of the file needs where it isn't public."""
     found = IMPORT.search(item)
-    public, path, names = found[1] or "", found[2], re.findall(r"\w+", found[3] or found[4])
+    public, path, names = found[1] or "", found[2], re.findall(NAME, found[3] or found[4])
     if path.split("::")[0] in modules | {"crate"}:
-        names = [name for name in names if name in known]
+        names = [name for name in names if name.split()[0] in known]
     if not public:
-        names = [name for name in names if re.search(rf"\b{name}\b", rest)]
+        names = [name for name in names if re.search(rf"\b{name.split()[-1]}\b", rest)]
     return [f"{public}use {path}::{{{', '.join(names)}}};"] if names else []
 
 

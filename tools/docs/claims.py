@@ -116,6 +116,10 @@ FURTHER = [
             Contract("queries", "world_queries", "region", "shapes"),
         ],
     ),
+    Claim(
+        "A census lists each body, joint and contact once, in the set where it stands.",
+        [Contract("census", "world_core", "WorldCore::census WorldCore::stand")],
+    ),
     Claim("An id that was taken back never names a body again.", [Contract("worlds", "body_handles", "removed_stays_gone")]),
     Claim("A digest is a function of the world alone.", [Contract("digests", "world_digest", "digest")]),
     Claim("A facing that is turned is a facing.", [Contract("numbers", "fixed_geom", "turn", "facing")]),

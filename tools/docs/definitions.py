@@ -75,6 +75,7 @@ NOTATION = [
     ("`requires`, `ensures`", "in a contract: what a caller has to keep; what then holds"),
     ("`self.old`, `self.new`, `x.now`, `result`", "in a contract: the value before the call and after it, the argument x, the answer"),
     ("`IfOk r P`, `IfErr r P`, `IfSome o P`", "P of what r or o has, if it is Ok, Err or Some"),
+    ("`IsSome o`", "o is Some of anything"),
     ("`OnOk r a`, `OnErr r a`; `IsOkUnless r e`", "a, if r is Ok, or Err; r is Ok or else Err of e"),
     ("`MatchResult r P Q`, `MatchBool b P Q`", "P of the value or else Q of the error; P if b is true, else Q"),
     ("`v.items`, `arc_value x`", "the items of a Vec; what an Arc has"),

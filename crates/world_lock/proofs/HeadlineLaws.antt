@@ -18,26 +18,27 @@ use Rattle.plain_world.specs.declared.body.Body.{Body}
 use Rattle.plain_world.specs.Bodies.{IsAtRest, is_mover_in}
 use Rattle.plain_world.specs.Slots.{body_at}
 use Rattle.solver_sets.proofs.ListLaws.{in_map}
-use Rattle.solver_sets.specs.Census.{IsCensus, census_of, standings_of}
-use Rattle.solver_sets.specs.Laws.{ListsAreCensus, TiesAreWithin}
+use Rattle.solver_sets.specs.Laws.{TiesAreWithin}
 use Rattle.solver_sets.specs.Tied.{AreTied}
 use Rattle.solver_sets.specs.Alike.{AreJointSlots}
 use Rattle.solver_sets.specs.Ties.{IsKeyWithin, JointSlots, member_of, members_of, movers_of, tie_with}
-use Rattle.world_rules.specs.Laws as rules
 use Rattle.world_rules.specs.Laws.{ColoursAreApart, LinkedMoversStandTogether, SleepingSetsAreComponents, SleepsIn, WhatActsHasAColour}
 use Rattle.world_rules.specs.Sets.{acting_of}
 use Rattle.world_rules.specs.Sound.{AreTold, HasBodies, IsSound}
 use Rattle.world_rules.specs.World.{World, joints_in_slots}
-use Rattle.world_lock.specs.Headline.{EachHasOneColour, EachSleepingSetIsOneComponent, EachSleepingSetIsOneIsland, EachStandsInOneSet, LinkedShareAnIsland, LinkedStandTogether, NoColourSharesAMover, OnlyAwakeMoversHaveMomentum, WhatActsIsColoured, census_of_world}
+use Rattle.world_lock.specs.Headline.{EachHasOneColour, EachSleepingSetIsOneComponent, EachSleepingSetIsOneIsland, EachStandsInOneSet, LinkedShareAnIsland, LinkedStandTogether, NoColourSharesAMover, OnlyAwakeMoversHaveMomentum, WhatActsIsColoured}
+use Rattle.world_lock.proofs.StandLaws.{sleeps_there, stands_there}
 
 -- ---- solver sets
 
-census_is : ListsAreCensus → (w : World) → IsCensus (standings_of w.plain.slot_entries w.plain.bodies (joints_in_slots w.plain) w.plain.contacts) (census_of_world w)
-unfolding census_of
-census_is law w = law (standings_of w.plain.slot_entries w.plain.bodies (joints_in_slots w.plain) w.plain.contacts)
-
-pub in_one_set : ListsAreCensus → rules.EachStandsInOneSet → (w : World) → IsSound w → EachStandsInOneSet w
-in_one_set are law w s = record { once = law w s; census = census_is are w }
+pub in_one_set : (w : World) → IsSound w → EachStandsInOneSet w
+in_one_set w s = record {
+  stands = λ item. stands_there w.plain.slot_entries w.plain.bodies (joints_in_slots w.plain) w.plain.contacts item s.formed.matched s.formed.joint_slots;
+  bodies = s.formed.matched;
+  joints = s.formed.joint_slots;
+  contacts = s.formed.contacts;
+  sleepers = λ name slot. sleeps_there w.plain.bodies name slot s.formed.bodies;
+}
 
 -- ---- colours
 

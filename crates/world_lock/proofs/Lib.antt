@@ -1,3 +1,4 @@
+mod StandLaws
 mod HeadlineLaws
 pub mod CrossingLaws
 pub mod Tallying

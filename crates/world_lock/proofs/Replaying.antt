@@ -1,5 +1,5 @@
 -- One call more at the end of a list of calls, and what it does to a world with its journal.
-use Rattle.std.proofs.Common.{◌≡◌, ◌+◌, ◌^◌, ◌≤◌, List, [], ◌∷◌, ◌++◌, length, take, drop, Result, Ok, Err, refl, sym, ap, ◌∙◌, subst, arith, append_assoc, length-append, inl, inr, ◌⊎◌}
+use Rattle.std.proofs.Common.{◌≡◌, ◌+◌, ◌^◌, ◌≤◌, List, [], ◌∷◌, ◌++◌, length, map, take, drop, Result, Ok, Err, refl, sym, ap, ◌∙◌, subst, arith, append_assoc, length-append, inl, inr, ◌⊎◌}
 use Rattle.std.specs.Prelude.{MatchResult, unwrap_or}
 use Rattle.std.proofs.Math.Seq.{drop-append_seam}
 use Rattle.std.proofs.lemmas.List.{append-nil, map-append, take-append-le, take_all}
@@ -23,7 +23,7 @@ use Rattle.world_rules.specs.Replay.{after, after_one, answer_of, answers_to, re
 use Rattle.world_rules.specs.Laws.{EachCallCounts, PushesAreSmall, push_of}
 use Rattle.world_rules.specs.Sound.{IsSound}
 use Rattle.world_core.specs.Frames.{with_ledger_settled}
-use Rattle.world_lock.specs.Journals.{AreTotalsSince, Beginning, IsJournalled, IsLegal, IsLike, Journalled, KeepsHeadline, Line, beginning_at, booked_by, command_of, commands_of, entries_of, replayed, opening_of, replies_of, reply_of}
+use Rattle.world_lock.specs.Journals.{AreTotalsSince, Beginning, IsJournalled, IsLegal, IsLike, Journalled, KeepsHeadline, Line, beginning_at, booked_by, command_of, commands_of, entries_of, replayed, opening_of, reply_of}
 
 -- ---- one answer
 
@@ -60,7 +60,7 @@ answers_push first (x ∷ xs) e = ap (λ l. answer_of (apply first.plain (comman
 
 pub legal_push : (first : World) (es : List Line) (e : Line) → IsLegal first es → answer_of (apply (replayed first es).plain (command_of e)) ≡ reply_of e → IsLegal first (es ++ e ∷ [])
 legal_push first es e legal one =
-    let both : answers_to first (commands_of es) ++ answer_of (apply (replayed first es).plain (command_of e)) ∷ [] ≡ replies_of es ++ reply_of e ∷ [] = λ i. legal i ++ one i ∷ [] in
+    let both : answers_to first (commands_of es) ++ answer_of (apply (replayed first es).plain (command_of e)) ∷ [] ≡ map reply_of es ++ reply_of e ∷ [] = λ i. legal i ++ one i ∷ [] in
     answers_push first es e ∙ both ∙ sym (map-append reply_of es (e ∷ []))
 
 -- ---- worlds that differ by settled entries alone

@@ -1,7 +1,8 @@
 -- Trusted: What the headline says of a world whose lock is free, part by part.
-use Rattle.std.specs.Prelude.{◌≡◌, ℕ, ◌↔◌, true, false, All, Contains, Some, pos, take}
+use Rattle.std.specs.Prelude.{◌≡◌, ℕ, ◌↔◌, true, false, All, Contains, IsSome, Option, Some, option_map, pos, take}
 use Rattle.contacts.specs.Constraints.{constraint_number}
 use Rattle.contacts.specs.declared.constraint.Constraint.{Constraint}
+use Rattle.contacts_base.specs.Contacts.{AreKeysRising}
 use Rattle.graph_colours.specs.Colours.{IsColouring, all_members, ids_of}
 use Rattle.graph_colours.specs.Members.{AreApart}
 use Rattle.graph_colours.specs.declared.limits.TheConstants.{COLOURS}
@@ -10,23 +11,28 @@ use Rattle.islands.specs.Labels.{is_loose, label_at}
 use Rattle.islands.specs.Links.{Joined}
 use Rattle.islands.specs.declared.label.Label.{Label}
 use Rattle.plain_world.specs.declared.body.Body.{Body}
+use Rattle.plain_world.specs.declared.body.SetName.{SetName}
+use Rattle.plain_world.specs.declared.body.SetName.TheVariants.{Sleeping}
 use Rattle.plain_world.specs.Bodies.{is_awake, standing_of}
-use Rattle.plain_world.specs.Slots.{body_at}
-use Rattle.solver_sets.specs.Census.{Census, IsCensus, census_of, standings_of}
-use Rattle.solver_sets.specs.EachOnce.{ListsEachOnce}
+use Rattle.plain_world.specs.Slots.{AreMatched, body_at}
+use Rattle.solver_sets.specs.declared.census.Item.{Item}
+use Rattle.solver_sets.specs.EachOnce.{IsPresent, stand}
 use Rattle.solver_sets.specs.Ties.{IsConstraintWithin, movers_of}
 use Rattle.world_rules.specs.Laws.{AreLinked, SleepsIn, coloured_in, movers_awake, ties_of_world}
 use Rattle.world_rules.specs.World.{World, joints_in_slots}
 
--- the lists of its solver sets
-abbrev pub census_of_world : World → Census
-census_of_world w = census_of w.plain.slot_entries w.plain.bodies (joints_in_slots w.plain) w.plain.contacts
+-- the solver set in which an item stands: a body or a joint that a handle names, or a contact that a key names; none where there is no such
+abbrev pub stand_in : World → Item → Option SetName
+stand_in w item = stand w.plain.slot_entries w.plain.bodies (joints_in_slots w.plain) w.plain.contacts item
 
--- Each body, joint and contact stands in exactly one solver set: in the lists of all sets together none occurs twice, and each is in the list of the set in
--- which it stands. In each list bodies come first, by slot, then joints by slot, then contacts by key.
+-- Each body, joint and contact stands in exactly one solver set: just what is there stands in a set, and a function of it says in which. What is in a slot has
+-- a live handle, and each contact a key of its own, so that no two items have one name. A body stands in a sleeping set just if it sleeps under its name.
 pub record EachStandsInOneSet (w : World) : Type 0 where
-  pub once : ListsEachOnce w.plain.slot_entries w.plain.bodies (joints_in_slots w.plain) w.plain.contacts (census_of_world w)
-  pub census : IsCensus (standings_of w.plain.slot_entries w.plain.bodies (joints_in_slots w.plain) w.plain.contacts) (census_of_world w)
+  pub stands : (item : Item) → IsPresent w.plain.slot_entries (joints_in_slots w.plain) w.plain.contacts item ↔ IsSome (stand_in w item)
+  pub bodies : AreMatched w.plain.slot_entries w.plain.bodies
+  pub joints : AreMatched w.plain.joint_entries w.plain.joints
+  pub contacts : AreKeysRising w.plain.contacts
+  pub sleepers : (name slot : ℕ) → SleepsIn w.plain.bodies name slot ↔ (option_map standing_of (body_at w.plain.bodies slot) ≡ Some (Sleeping name))
 
 -- No two constraints of a colour share a mover: those with a colour are those that the world lists.
 abbrev pub NoColourSharesAMover : World → Type 0

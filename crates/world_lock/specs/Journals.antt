@@ -35,12 +35,9 @@ reply_of e = Ok e.call.reply
 abbrev pub commands_of : List Line → List Command
 commands_of es = map command_of es
 
-abbrev pub replies_of : List Line → List (Result Reply Refusal)
-replies_of es = map reply_of es
-
 -- the replay of its commands on one thread gives its replies
 abbrev pub IsLegal : World → List Line → Type 0
-IsLegal first es = answers_to first (commands_of es) ≡ replies_of es
+IsLegal first es = answers_to first (commands_of es) ≡ map reply_of es
 
 -- the world that this replay leaves
 abbrev pub replayed : World → List Line → World

@@ -20,14 +20,14 @@ use crate::shared::Closed;
 use crate::tally::{Tally, calls_in, count_call};
 use fixed_geom::Refusal;
 use seat_book::{Book, Keeper};
-use solver_sets::laws::{lists_are_census, ties_are_within};
+use solver_sets::laws::ties_are_within;
 use std::alloc::Global;
 use std::marker::Model;
 use std::sync::Arc;
 use world_core::{Command, Events, Frame, OneThread, Reply, StepSolver, each_call_counts};
 use world_rules::{
-    colours_are_apart, each_stands_in_one_set, linked_movers_stand_together,
-    sleeping_sets_are_components, what_acts_has_a_colour,
+    colours_are_apart, linked_movers_stand_together, sleeping_sets_are_components,
+    what_acts_has_a_colour,
 };
 
 /// What the lock of a shared world guards: the world with its journal, what each seat did, and the keeper of the history.
@@ -100,8 +100,6 @@ impl<N: Opened> Held<N> {
         ensures totals { AreTotalsSince self.now.opening_totals (booked_by self.now.opening (commands_of self.now.journal)) self.now.world }
     {
         // What a sound world is, in the headline's words.
-        lists_are_census();
-        each_stands_in_one_set();
         colours_are_apart();
         what_acts_has_a_colour();
         ties_are_within();

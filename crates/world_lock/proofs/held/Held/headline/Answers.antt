@@ -3,7 +3,7 @@ use Rattle.world_lock.proofs.Replaying.{booked_since}
 use Rattle.world_lock.proofs.held.Held.headline.Goals as goal
 
 pub returns-clause-each_stands_in_one_set : goal.returns-clause-each_stands_in_one_set
-returns-clause-each_stands_in_one_set g c = rw (← c.self.view_is) (in_one_set c.lists_are_census.ensures c.each_stands_in_one_set.ensures _ c.journal.ensures.headline.sound)
+returns-clause-each_stands_in_one_set g c = rw (← c.self.view_is) (in_one_set _ c.journal.ensures.headline.sound)
 
 pub returns-clause-no_colour_shares_a_mover : goal.returns-clause-no_colour_shares_a_mover
 returns-clause-no_colour_shares_a_mover g c = rw (← c.self.view_is) (no_colour_shares c.colours_are_apart.ensures _ c.journal.ensures.headline.sound)
