@@ -37,6 +37,8 @@ pub enum Part {
     Text,
     /// A world whose text is read with no value of it.
     Quick,
+    /// The same of a world of free slots.
+    Slots,
 }
 
 impl Part {
@@ -49,6 +51,7 @@ impl Part {
             "world" => Some(Part::World),
             "text" => Some(Part::Text),
             "quick" => Some(Part::Quick),
+            "slots" => Some(Part::Slots),
             _ => None,
         }
     }
@@ -80,7 +83,7 @@ fn written_again(
         Part::Joints => joints(alloc, &mut reader, version, value)?,
         Part::Contacts => contacts(alloc, &mut reader, version, value)?,
         Part::Totals => totals(alloc, &mut reader, value)?,
-        Part::World | Part::Text | Part::Quick => world(alloc, value)?,
+        Part::World | Part::Text | Part::Quick | Part::Slots => world(alloc, value)?,
     };
     reader.verdict(Clause::Momentum)?;
     Ok(written)

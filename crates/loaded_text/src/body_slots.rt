@@ -89,7 +89,7 @@ pub(crate) fn add_bodies(
 {
     text.expect(lead)?;
     text.expect(b"[")?;
-    for count in 0..MAX_SLOTS {
+    for count in 0..MAX_SLOTS + 1 {
         let more = text.has_item(count == 0)?;
         if !more {
             return Some(());

@@ -77,7 +77,7 @@ pub(crate) fn add_joints(text: &mut Text, lead: &[u8], joints: &mut SavedJoints)
 {
     text.expect(lead)?;
     text.expect(b"[")?;
-    for count in 0..MAX_SLOTS {
+    for count in 0..MAX_SLOTS + 1 {
         let more = text.has_item(count == 0)?;
         if !more {
             return Some(());
