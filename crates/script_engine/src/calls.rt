@@ -115,7 +115,7 @@ pub(crate) fn settle(world: &mut WorldCore) {
 
 /// The digest of the world. Refused 1 where memory is wanting.
 pub(crate) fn digest(world: &WorldCore) -> Result<[u8; 32], Refusal> {
-    world_desk::digest_of(world)
+    world_desk::digest(world)
 }
 
 /// The text of the world. Refused 1 where memory is wanting.

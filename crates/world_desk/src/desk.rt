@@ -18,7 +18,6 @@ ghost use Rattle.world_queries.specs.Limits.{is_region};
 ghost use Rattle.world_queries.specs.Posed.{posed_shapes};
 ghost use Rattle.world_rules.specs.World.{book_of};
 
-use crate::digest::digest_of;
 use crate::loading::world_of_text;
 use crate::log::{events_of, is_stepped};
 use crate::step_event::{StepEvent, Tagged};
@@ -28,6 +27,7 @@ use crate::unread::Unread;
 use fixed_geom::{Box2, Refusal, Vec2};
 use std::alloc::Global;
 use world_core::{Command, ContactEntry, Handle, Reply, ShapeId, WorldCore};
+use world_digest::digest;
 use world_queries::{Hit, QueryFilter};
 
 /// A world, and beside it what was last saved of it or found in it.
@@ -250,6 +250,6 @@ impl Desk {
         ensures digest { IfOk result (λ bytes. bytes ≡ digest_of self.now.world.plain (totals_of (book_of self.now.world))) }
         ensures memory_only { IsOkUnless result Refusal.NoMemory }
     {
-        digest_of(&self.world)
+        digest(&self.world)
     }
 }

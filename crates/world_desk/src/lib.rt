@@ -6,7 +6,6 @@
 #![tactic(auto)]
 
 mod desk;
-mod digest;
 mod loading;
 mod log;
 mod step_event;
@@ -15,8 +14,8 @@ mod text;
 mod unread;
 
 pub use desk::Desk;
-pub use digest::digest_of;
 pub use loading::read_world;
 pub use step_event::{EventBody, StepEvent, Tagged};
 pub use text::text_of;
 pub use unread::Unread;
+pub use world_digest::digest;

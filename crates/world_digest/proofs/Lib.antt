@@ -1,1 +1,4 @@
 pub mod SumLaws
+mod ContactLaws
+mod ColourLaws
+mod TotalLaws

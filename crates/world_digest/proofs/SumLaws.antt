@@ -30,16 +30,37 @@ fed_list words xs ys s t same fed = fed ∙ ap (λ zs. absorbed_all s (list_word
 rest_at : {T : Type 0} (xs : List T) (k : ℕ) (x : T) → k < length xs → x ≡ slice_index_or xs k x → drop k xs ≡ x ∷ drop (k + 1) xs
 rest_at xs k x low is = drop-cons xs k x low ∙ rw (add-one, ← is) refl
 
+-- the first item of what is left of a list is taken
+pub fed_head : {T : Type 0} (words : T → List ℕ) (x : T) (xs ys : List T) (all s t : Sums) → xs ≡ x ∷ ys → t ≡ absorbed_all s (words x)
+    → absorbed_all s (flat_map words xs) ≡ all → absorbed_all t (flat_map words ys) ≡ all
+fed_head words x xs ys all s t is fed known =
+    ap (λ u. absorbed_all u (flat_map words ys)) fed
+    ∙ sym (absorbed_both s (words x) (flat_map words ys))
+    ∙ ap (λ l. absorbed_all s (flat_map words l)) (sym is)
+    ∙ known
+
 -- one item more of a list is taken
 pub fed_more : {T : Type 0} (words : T → List ℕ) (xs : List T) (k : ℕ) (x : T) (all s t : Sums)
     → k < length xs → x ≡ slice_index_or xs k x → t ≡ absorbed_all s (words x)
     → absorbed_all s (flat_map words (drop k xs)) ≡ all
     → absorbed_all t (flat_map words (drop (k + 1) xs)) ≡ all
-fed_more words xs k x all s t low is fed known =
-    ap (λ u. absorbed_all u (flat_map words (drop (k + 1) xs))) fed
-    ∙ sym (absorbed_both s (words x) (flat_map words (drop (k + 1) xs)))
-    ∙ ap (λ l. absorbed_all s (flat_map words l)) (sym (rest_at xs k x low is))
-    ∙ known
+fed_more words xs k x all s t low is fed known = fed_head words x (drop k xs) (drop (k + 1) xs) all s t (rest_at xs k x low is) fed known
+
+-- the same, where the item is had by another default
+pub fed_slot : {T : Type 0} (words : T → List ℕ) (xs : List T) (k : ℕ) (x d : T) (all s t : Sums)
+    → k < length xs → x ≡ slice_index_or xs k d → t ≡ absorbed_all s (words x)
+    → absorbed_all s (flat_map words (drop k xs)) ≡ all
+    → absorbed_all t (flat_map words (drop (k + 1) xs)) ≡ all
+fed_slot words xs k x d all s t low is fed known =
+    fed_head words x (drop k xs) (drop (k + 1) xs) all s t (drop-cons xs k d low ∙ rw (add-one, ← is) refl) fed known
+
+-- one list is taken behind another
+pub fed_append : {T : Type 0} (words : T → List ℕ) (s : Sums) (xs ys : List T) → absorbed_all s (flat_map words (xs ++ ys)) ≡ absorbed_all (absorbed_all s (flat_map words xs)) (flat_map words ys)
+fed_append words s [] ys = refl
+fed_append words s (x ∷ xs) ys =
+    absorbed_both s (words x) (flat_map words (xs ++ ys))
+    ∙ fed_append words (absorbed_all s (words x)) xs ys
+    ∙ ap (λ u. absorbed_all u (flat_map words ys)) (sym (absorbed_both s (words x) (flat_map words xs)))
 
 -- the digest of four pieces
 pub of_pieces : (a b c d p q r s : List ℕ) → a ≡ p → b ≡ q → c ≡ r → d ≡ s → sha256 ([] ++ a ++ b ++ c ++ d) ≡ sha256 (p ++ q ++ r ++ s)

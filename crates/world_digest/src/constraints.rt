@@ -1,19 +1,21 @@
 //! Joints, contacts and colours as words.
 
-ghost use Rattle.std.specs.Prelude.{◌≡◌};
-ghost use Rattle.world_digest.specs.ConstraintWords.{colours_words, constraint_words, contact_words, handle_words, joint_words, key_words, point_words, row_joint_words};
-ghost use Rattle.world_digest.specs.Sums.{absorbed_all};
+ghost use Rattle.std.specs.Prelude.{◌≡◌, ◌≤◌, ◌+◌, OnOk};
+ghost use Rattle.std.specs.Result.{IsOkUnless};
+ghost use Rattle.graph_colours.specs.Colours.{ids_of, list_at};
 ghost use Rattle.graph_colours.specs.declared.limits.TheConstants.{COLOURS};
-ghost use Rattle.std.specs.Prelude.{◌+◌};
+ghost use Rattle.world_digest.specs.ConstraintWords.{colours_words, constraint_words, contact_words, handle_words, joint_words, key_words, point_words, row_joint_words};
+ghost use Rattle.world_digest.specs.Sums.{absorbed_all, list_words};
 
 use crate::sums::Sums;
 use crate::words::{Words, feed_all};
 use body_handles::Handle;
 use contacts::Constraint;
 use contacts_base::{ContactEntry, ContactKey, ContactPoint};
-use graph_colours::COLOURS;
+use fixed_geom::Refusal;
+use graph_colours::{Colours, Member, OVERFLOW};
 use joint_rows::Joint;
-use plain_world::{BodyJoint, Plain};
+use plain_world::BodyJoint;
 
 impl Words for Joint {
     ghost words = { λ j. row_joint_words j };
@@ -100,11 +102,32 @@ impl Words for Constraint {
     }
 }
 
-/// The constraints of each colour, those in the overflow last.
-pub(crate) fn feed_colours(plain: &Plain, sums: &mut Sums)
-    ensures { sums.new ≡ absorbed_all sums.old (colours_words plain.now.colours (COLOURS + 1)) }
-{
-    for colour in 0..COLOURS + 1 {
-        feed_all(plain.members(colour), sums);
+impl Words for Member<Constraint> {
+    ghost words = { λ m. constraint_words m.id };
+
+    fn feed(&self, sums: &mut Sums) {
+        self.id.feed(sums);
     }
+}
+
+/// The constraints of a colour. Refused 1 where memory is wanting.
+fn feed_colour(colours: &Colours<Constraint>, colour: u8, sums: &mut Sums) -> Result<(), Refusal>
+    requires { colour ≤ OVERFLOW }
+    ensures fed { OnOk result (sums.new ≡ absorbed_all sums.old (list_words (λ m. constraint_words m.id) (list_at colours.now.lists colour))) }
+    ensures memory_only { IsOkUnless result Refusal.NoMemory }
+{
+    let members = colours.to_members(colour)?;
+    feed_all(members.as_slice(), sums);
+    Ok(())
+}
+
+/// The constraints of each colour, those in the overflow last. Refused 1 where memory is wanting.
+pub(crate) fn feed_colours(colours: &Colours<Constraint>, sums: &mut Sums) -> Result<(), Refusal>
+    ensures fed { OnOk result (sums.new ≡ absorbed_all sums.old (colours_words (ids_of colours.now.lists) (COLOURS + 1))) }
+    ensures memory_only { IsOkUnless result Refusal.NoMemory }
+{
+    for colour in 0..OVERFLOW + 1 {
+        feed_colour(colours, colour, sums)?;
+    }
+    Ok(())
 }

@@ -1,14 +1,20 @@
 //! The digest of a world.
 
-ghost use Rattle.std.specs.Prelude.{◌≡◌};
-ghost use Rattle.world_digest.specs.Digests.{counts_words, digest_of, links_words, slots_words, total_words, totals_words, words_of};
+ghost use Rattle.std.specs.Prelude.{◌≡◌, IfOk, OnOk};
+ghost use Rattle.std.specs.Result.{IsOkUnless};
+ghost use Rattle.impulse_ledger.specs.Sums.{totals_of};
+ghost use Rattle.world_digest.specs.Digests.{counts_words, digest_of, links_words, slots_words, total_words, totals_words};
 ghost use Rattle.world_digest.specs.Sums.{absorbed_all};
+ghost use Rattle.world_rules.specs.World.{book_of};
 
 use crate::constraints::feed_colours;
+use crate::contact_lists::feed_contacts;
+use crate::labels::feed_islands;
 use crate::sums::Sums;
 use crate::words::{Words, feed_all};
+use fixed_geom::Refusal;
 use impulse_ledger::{Total, Totals};
-use plain_world::Plain;
+use world_core::WorldCore;
 
 impl Words for Total {
     ghost words = { λ t. total_words t };
@@ -33,45 +39,49 @@ impl Words for Totals {
 }
 
 /// What stands in the slots of bodies and of joints.
-fn feed_slots(plain: &Plain, sums: &mut Sums)
-    ensures { sums.new ≡ absorbed_all sums.old (slots_words plain.now) }
+fn feed_slots(world: &WorldCore, sums: &mut Sums)
+    ensures { sums.new ≡ absorbed_all sums.old (slots_words world.now.plain) }
 {
-    feed_all(plain.slot_entries(), sums);
-    feed_all(plain.bodies(), sums);
-    feed_all(plain.joint_entries(), sums);
-    feed_all(plain.joints(), sums);
+    feed_all(world.slot_entries(), sums);
+    feed_all(world.bodies(), sums);
+    feed_all(world.joint_entries(), sums);
+    feed_all(world.joints().joints(), sums);
 }
 
-/// Contacts, islands and colours.
-fn feed_links(plain: &Plain, sums: &mut Sums)
-    ensures { sums.new ≡ absorbed_all sums.old (links_words plain.now) }
+/// Contacts, islands and colours. Refused 1 where memory is wanting.
+fn feed_links(world: &WorldCore, sums: &mut Sums) -> Result<(), Refusal>
+    ensures fed { OnOk result (sums.new ≡ absorbed_all sums.old (links_words world.now.plain)) }
+    ensures memory_only { IsOkUnless result Refusal.NoMemory }
 {
-    feed_all(plain.contacts(), sums);
-    feed_all(plain.islands(), sums);
-    feed_colours(plain, sums);
+    feed_contacts(world.contacts().split(), sums);
+    feed_islands(world.islands(), sums);
+    feed_colours(world.colours(), sums)?;
+    Ok(())
 }
 
 /// The gravity, and how many steps and calls were accepted.
-fn feed_counts(plain: &Plain, sums: &mut Sums)
-    ensures { sums.new ≡ absorbed_all sums.old (counts_words plain.now) }
+fn feed_counts(world: &WorldCore, sums: &mut Sums)
+    ensures { sums.new ≡ absorbed_all sums.old (counts_words world.now.plain) }
 {
-    plain.gravity().feed(sums);
-    sums.natural(plain.steps());
-    sums.natural(plain.calls());
+    world.gravity().feed(sums);
+    sums.natural(world.steps());
+    sums.natural(world.calls());
 }
 
-/// The digest of a world, given as plain lists and the totals of its ledger: SHA-256 of the four sums of its words. So worlds with the
-/// same lists, counts and totals have the same digest, whatever calls they came from. It costs by the lists, and takes no memory.
+/// The digest of a world: SHA-256 of the four sums of the words of its plain lists, its counts and the totals of its ledger. So worlds with
+/// the same lists, counts and totals have the same digest, whatever calls they came from. Its events and its entries have no part in it. It
+/// costs by the lists, which are read where they lie. Refused 1 where memory is wanting, for the constraints of one colour at a time.
 ///
 /// Worlds that differ have different digests but for chance: one in 2^64 where the difference was not made on purpose. The sums are
 /// no defence against somebody who looks for two worlds with one digest.
-pub fn digest(plain: &Plain, totals: &Totals) -> [u8; 32]
-    ensures { result ≡ digest_of plain.now totals.now }
+pub fn digest(world: &WorldCore) -> Result<[u8; 32], Refusal>
+    ensures digest { IfOk result (λ bytes. bytes ≡ digest_of world.now.plain (totals_of (book_of world.now))) }
+    ensures memory_only { IsOkUnless result Refusal.NoMemory }
 {
     let mut sums = Sums::new();
-    feed_slots(plain, &mut sums);
-    feed_links(plain, &mut sums);
-    feed_counts(plain, &mut sums);
-    totals.feed(&mut sums);
-    sums.finish()
+    feed_slots(world, &mut sums);
+    feed_links(world, &mut sums)?;
+    feed_counts(world, &mut sums);
+    world.ledger().totals().feed(&mut sums);
+    Ok(sums.finish())
 }

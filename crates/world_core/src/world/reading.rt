@@ -39,6 +39,13 @@ impl WorldCore {
         self.sets.islands()
     }
 
+    /// How many calls were accepted.
+    pub fn calls(&self) -> u64
+        ensures { result ≡ self.now.plain.calls }
+    {
+        self.calls
+    }
+
     /// The colours of the constraints that act.
     pub fn colours(&self) -> &Colours<Constraint>
         ensures { ids_of result.now.lists ≡ self.now.plain.colours }
