@@ -7,3 +7,4 @@ pub mod MeetingLemmas
 pub mod PlaceLemmas
 pub mod HitPlaces
 pub mod BoxLaws
+pub mod SurfaceLemmas

@@ -2,3 +2,4 @@ pub mod Casts
 pub mod Hits
 pub mod Laws
 pub mod Reach
+pub mod Surfaces

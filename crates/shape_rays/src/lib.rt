@@ -10,7 +10,9 @@ mod boxes;
 mod cast;
 mod hits;
 pub mod laws;
+mod surfaces;
 
 pub use boxes::{RAY_SLACK, limits_in_digits};
 pub use cast::RayCast;
 pub use hits::{Hit, PosedShape, first_hit, hit_on, is_over, nearer};
+pub use surfaces::{ShapeHit, ray_on_shape};
