@@ -5,3 +5,4 @@ pub mod ShownLaws
 pub mod ThroughLaws
 pub mod AllHitsLaws
 pub mod CountLaws
+pub mod OnShapeLaws

@@ -8,3 +8,4 @@ pub mod Joints
 pub mod OwnContacts
 pub mod Counts
 pub mod AllHits
+pub mod OnShape
