@@ -158,6 +158,13 @@ typedef struct {
   dm_shape_id shape;
 } dm_hit;                    /* 16 bytes */
 
+typedef struct {
+  uint32_t is_hit;           /* 1 where the shape was hit; else all is 0 */
+  uint32_t fraction;         /* how far along the way, in 2^24ths */
+  dm_vec point;              /* where */
+  dm_vec normal;             /* how the surface faces there: from the shape outwards, times 2^30 */
+} dm_shape_hit;              /* 40 bytes */
+
 #define DM_NO_ISLAND UINT32_MAX
 #define DM_NO_COLOUR UINT32_MAX
 typedef struct {
@@ -314,6 +321,9 @@ DM_KEEP dm_status dm_ray_through(const dm_world *world, dm_vec from, dm_vec alon
 DM_KEEP dm_status dm_ray_all(dm_world *world, dm_vec from, dm_vec along, const dm_filter *filter, size_t *count); /* all that are, a hit for each shape.
   * A way of { 0, 0 } hits the shapes that the start lies in. 32, 5, 2, 1 */
 size_t dm_hits_found(const dm_world *world, dm_hit *out, size_t out_len);                /* those of the last dm_ray_all, the nearest first, then by name */
+DM_KEEP dm_status dm_ray_on_shape(const dm_world *world, dm_vec from, dm_vec along, dm_shape_id shape, dm_shape_hit *out); /* what the ray hits of one shape, as
+  * it lies now: the point and the normal of a hit of these are those of its shape. Where the start lies on a circle's centre or on a capsule's core, the normal
+  * is up, or square to the core to its left; a segment's is square to it, to the side of the start. 32, 5, 2 (no shape of an enabled body) */
 DM_KEEP dm_status dm_region_through(dm_world *world, const dm_box *bounds, const dm_filter *filter, size_t *count); /* fetched as dm_region's. 32, 5, 2, 1 */
 DM_KEEP dm_status dm_contacts(dm_world *world, size_t *count);                           /* the contacts of near shapes. 32, 1 */
 size_t dm_contacts_listed(const dm_world *world, dm_contact *out, size_t out_len);       /* those that the last dm_contacts found, ascending */

@@ -389,6 +389,13 @@ class world {
     must(dm_ray_through(&held, from, along, &filter, &hit));
     return hit.is_hit ? std::optional<dm_hit>(hit) : std::nullopt;
   }
+  // What the ray hits of one shape, as it lies now: the point and the normal of a hit. Nothing where it misses, or where there is no such shape.
+  [[nodiscard]] std::optional<dm_shape_hit> ray_on(dm_shape_id shape, dm_vec from, dm_vec along) const {
+    dm_shape_hit hit{};
+    const dm_status status = dm_ray_on_shape(&held, from, along, shape, &hit);
+    if (status != DM_STALE_HANDLE) must(status);
+    return hit.is_hit ? std::optional<dm_shape_hit>(hit) : std::nullopt;
+  }
   // All hits on the way, the nearest first. A way of {0, 0} hits the shapes that the start lies in.
   [[nodiscard]] std::vector<dm_hit> all_hits(dm_vec from, dm_vec along, const dm_filter &filter = {}) const {
     std::size_t count = 0;

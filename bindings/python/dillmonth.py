@@ -319,6 +319,12 @@ class Hit(Struct):
     _fields_ = [("is_hit", c_uint32), ("fraction", c_uint32), ("shape", ShapeId)]
 
 
+class ShapeHit(Struct):
+    """Where a ray hits a shape: how far along the way, in 2^24ths, the point, and how the surface faces there, times 2^30."""
+
+    _fields_ = [("is_hit", c_uint32), ("fraction", c_uint32), ("point", Vec), ("normal", Vec)]
+
+
 class Filter(Struct):
     """Which shapes a question sees: all but those of one body, and those alone whose category meets a mask."""
 
@@ -595,6 +601,7 @@ CALLS = {
     "dm_region": (U32, [W, POINTER(Box), POINTER(S)]), "dm_region_found": (S, [W, POINTER(ShapeId), S]),
     "dm_ray_through": (U32, [W, Vec, Vec, POINTER(Filter), POINTER(Hit)]),
     "dm_ray_all": (U32, [W, Vec, Vec, POINTER(Filter), POINTER(S)]), "dm_hits_found": (S, [W, POINTER(Hit), S]),
+    "dm_ray_on_shape": (U32, [W, Vec, Vec, ShapeId, POINTER(ShapeHit)]),
     "dm_region_through": (U32, [W, POINTER(Box), POINTER(Filter), POINTER(S)]),
     "dm_info": (U32, [W, Handle, POINTER(Info)]), "dm_shapes": (U32, [W, Handle, POINTER(Shape), S, POINTER(S)]),
     "dm_joints_of": (U32, [W, Handle, POINTER(Handle), S, POINTER(S)]),
@@ -927,6 +934,14 @@ class World:
         """The first hit on what a filter lets through, or None."""
         hit = Hit()
         must(self._ask(self._calls.dm_ray_through, vec(start), vec(along), byref(through or Filter()), byref(hit)))
+        return hit if hit.is_hit else None
+
+    def ray_on(self, shape: ShapeId, start: Place, along: Place) -> Optional[ShapeHit]:
+        """What a ray hits of one shape, as it lies now: the point and the normal of a hit. None where it misses, or where there is no such shape."""
+        hit = ShapeHit()
+        status = self._ask(self._calls.dm_ray_on_shape, vec(start), vec(along), shape, byref(hit))
+        if status != Status.STALE_HANDLE:
+            must(status)
         return hit if hit.is_hit else None
 
     def all_hits(self, start: Place, along: Place = (0, 0), through: Optional[Filter] = None) -> Any:

@@ -77,6 +77,9 @@ values! {
     /// How much there is of a world: `awake` counts movers, `contacts` near shapes, `colours` those that some constraint has.
     pub Counts { bodies: usize, awake: usize, joints: usize, contacts: usize, touching: usize, islands: usize, colours: usize }
     RawHit { is_hit: u32, fraction: u32, shape: ShapeId }
+    /// Where a ray hits a shape: how far along the way, in 2^24ths, the point, and how the surface faces there, times 2^30.
+    pub ShapeHit { fraction: u32, point: Vec2, normal: Vec2 }
+    RawShapeHit { is_hit: u32, fraction: u32, point: Vec2, normal: Vec2 }
     RawInfo { kind: u32, enabled: u32, mass: i64, inertia: i64, shapes: usize, island: u32, unused: u32 }
     RawJointView { def: RawJointDef, impulse: i64, colour: u32, unused: u32 }
     RawSum { x_low: u64, x_high: i64, y_low: u64, y_high: i64 }
@@ -154,6 +157,7 @@ extern "C" {
     fn dm_ray_through(world: *mut Held, from: Vec2, along: Vec2, filter: *const RawFilter, out: *mut RawHit) -> u32;
     fn dm_ray_all(world: *mut Held, from: Vec2, along: Vec2, filter: *const RawFilter, count: *mut usize) -> u32;
     fn dm_hits_found(world: *mut Held, out: *mut RawHit, room: usize) -> usize;
+    fn dm_ray_on_shape(world: *mut Held, from: Vec2, along: Vec2, shape: ShapeId, out: *mut RawShapeHit) -> u32;
     fn dm_region_through(world: *mut Held, bounds: *const Box2, filter: *const RawFilter, count: *mut usize) -> u32;
     fn dm_region(world: *mut Held, bounds: *const Box2, count: *mut usize) -> u32;
     fn dm_region_found(world: *mut Held, out: *mut ShapeId, room: usize) -> usize;
@@ -1088,6 +1092,13 @@ impl World {
         let mut hit = RawHit::default();
         outcome(unsafe { dm_ray_through(self.raw(), from, along, &filter.raw(), &mut hit) }, 0)?;
         Ok((hit.is_hit != 0).then(|| (hit.shape, hit.fraction)))
+    }
+
+    /// What a ray hits of one shape, as it lies now: the point and the normal of a hit. `None` where it misses; refused where there is no such shape.
+    pub fn ray_on(&self, shape: ShapeId, from: Vec2, along: Vec2) -> Result<Option<ShapeHit>, Refused> {
+        let mut hit = RawShapeHit::default();
+        outcome(unsafe { dm_ray_on_shape(self.raw(), from, along, shape, &mut hit) }, 0)?;
+        Ok((hit.is_hit != 0).then(|| ShapeHit { fraction: hit.fraction, point: hit.point, normal: hit.normal }))
     }
 
     /// All that a ray hits, the nearest first. A way of zero hits the shapes that the start lies in.

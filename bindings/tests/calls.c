@@ -60,6 +60,8 @@ static void without_a_world(void) {
   WANT(dm_ray_through(&world, (dm_vec){0, 0}, (dm_vec){1, 1}, &all, &hit) == DM_NO_WORLD);
   WANT(dm_ray_all(&world, (dm_vec){0, 0}, (dm_vec){1, 1}, &all, &count) == DM_NO_WORLD && dm_hits_found(&world, &hit, 1) == 0);
   WANT(dm_region_through(&world, &box, &all, &count) == DM_NO_WORLD && count == 9);
+  dm_shape_hit on_shape = {7, 7, {7, 7}, {7, 7}};
+  WANT(dm_ray_on_shape(&world, (dm_vec){0, 0}, (dm_vec){1, 1}, id, &on_shape) == DM_NO_WORLD && on_shape.is_hit == 7);
   dm_frame frame = DM_NO_FRAME;
   WANT(dm_frame_take(&world, &frame) == DM_NO_WORLD && frame.at == 0);
   WANT(dm_frame_pose(frame, made, &pose) == DM_NO_WORLD && dm_frame_total(frame, &sum) == DM_NO_WORLD && dm_frame_calls(frame) == 0);
@@ -270,6 +272,31 @@ static void what_there_is(void) {
   dm_close(&world);
 }
 
+/* A ball on the ground, a wall to its left, and a ray that comes from above, from the right, or from within. */
+static void on_one_shape(void) {
+  dm_world world = DM_NONE;
+  dm_shape ball = {DM_CIRCLE, 0, {0, 0}, {0, 0}, METRE, 0, 0, 1, UINT64_MAX}, wall = {DM_SEGMENT, 0, {0, -METRE}, {0, METRE}, 0, 0, 0, 1, UINT64_MAX};
+  dm_body_def at_rest = {DM_STATIC, 0, {0, 0}, {(int64_t)1 << 30, 0}, 0, 0, {0, 0}, 0};
+  dm_handle made;
+  dm_shape_hit hit = {7, 7, {7, 7}, {7, 7}};
+  WANT(dm_open(&world, (dm_vec){0, 0}) == DM_DONE && dm_create_body(&world, &at_rest, &ball, 1, &made) == DM_DONE);
+  at_rest.at.x = -4 * METRE;
+  WANT(dm_create_body(&world, &at_rest, &wall, 1, &made) == DM_DONE);
+  WANT(dm_ray_on_shape(&world, (dm_vec){0, 9 * METRE}, (dm_vec){0, -16 * METRE}, (dm_shape_id){0, 0}, &hit) == DM_DONE && hit.is_hit == 1);
+  WANT(hit.fraction == 1 << 23 && hit.point.x == 0 && hit.point.y == METRE && hit.normal.x == 0 && hit.normal.y == (int64_t)1 << 30);
+  WANT(dm_ray_on_shape(&world, (dm_vec){9 * METRE, 0}, (dm_vec){-16 * METRE, 0}, (dm_shape_id){0, 0}, &hit) == DM_DONE && hit.normal.x == (int64_t)1 << 30);
+  WANT(dm_ray_on_shape(&world, (dm_vec){0, 0}, (dm_vec){METRE, 0}, (dm_shape_id){0, 0}, &hit) == DM_DONE && hit.fraction == 0 && hit.normal.y == (int64_t)1 << 30);
+  WANT(dm_ray_on_shape(&world, (dm_vec){0, 0}, (dm_vec){-8 * METRE, 0}, (dm_shape_id){1, 0}, &hit) == DM_DONE && hit.fraction == 1 << 23);
+  WANT(hit.point.x == -4 * METRE && hit.normal.x == (int64_t)1 << 30 && hit.normal.y == 0);
+  WANT(dm_ray_on_shape(&world, (dm_vec){-8 * METRE, 0}, (dm_vec){8 * METRE, 0}, (dm_shape_id){1, 0}, &hit) == DM_DONE && hit.normal.x == -((int64_t)1 << 30));
+  WANT(dm_ray_on_shape(&world, (dm_vec){0, 9 * METRE}, (dm_vec){0, METRE}, (dm_shape_id){0, 0}, &hit) == DM_DONE && hit.is_hit == 0 && hit.normal.x == 0);
+  hit.is_hit = 7;
+  WANT(dm_ray_on_shape(&world, (dm_vec){0, 0}, (dm_vec){1, 0}, (dm_shape_id){0, 1}, &hit) == DM_STALE_HANDLE && hit.is_hit == 7);
+  WANT(dm_ray_on_shape(&world, (dm_vec){0, 0}, (dm_vec){1, 0}, (dm_shape_id){0, 256}, &hit) == DM_STALE_HANDLE && hit.is_hit == 7);
+  WANT(dm_ray_on_shape(&world, (dm_vec){0, 0}, (dm_vec){INT64_MAX, 0}, (dm_shape_id){9, 0}, &hit) == DM_OUT_OF_RANGE && hit.is_hit == 7);
+  dm_close(&world);
+}
+
 static void through_a_filter(void) {
   dm_world world = DM_NONE;
   dm_vec above = {0, 20 * METRE}, down = {0, -40 * METRE};
@@ -414,6 +441,7 @@ int main(void) {
   what_is_kept();
   what_there_is();
   through_a_filter();
+  on_one_shape();
   in_a_frame();
   in_a_batch();
   in_a_journal();

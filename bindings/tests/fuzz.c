@@ -63,6 +63,7 @@ static void ask(dm_world *world, const uint8_t *bytes, size_t count) {
   dm_counts counts;
   dm_sum sum;
   dm_hit hit, first;
+  dm_shape_hit on;
   dm_pose pose;
   size_t all = 0, found = 0;
   memset(&asked, 0, sizeof asked);
@@ -79,6 +80,7 @@ static void ask(dm_world *world, const uint8_t *bytes, size_t count) {
   dm_status status = dm_ray_through(world, asked.from, asked.along, &asked.filter, &hit);
   WANT(dm_ray_all(world, asked.from, asked.along, &asked.filter, &all) == status);
   if (status == DM_DONE) WANT((all > 0) == (hit.is_hit != 0) && (!all || (dm_hits_found(world, &first, 1) == all && memcmp(&first, &hit, sizeof hit) == 0)));
+  if (status == DM_DONE && hit.is_hit) WANT(dm_ray_on_shape(world, asked.from, asked.along, hit.shape, &on) == DM_DONE && on.is_hit && on.fraction == hit.fraction);
   if (dm_region_through(world, &asked.box, &asked.filter, &found) == DM_DONE) WANT(dm_region(world, &asked.box, &all) == DM_DONE && found <= all);
   WANT(same(before, digest_of(world)));
 }

@@ -32,6 +32,7 @@ AT(dm_contact, points, 16); AT(dm_contact, normal, 24); AT(dm_contact, first, 40
 SIZE(dm_event, 168);
 AT(dm_event, kind, 8); AT(dm_event, first, 16); AT(dm_event, second, 24); AT(dm_event, first_tag, 32); AT(dm_event, second_tag, 40); AT(dm_event, contact, 48);
 SIZE(dm_hit, 16);
+SIZE(dm_shape_hit, 40); AT(dm_shape_hit, point, 8); AT(dm_shape_hit, normal, 24);
 SIZE(dm_command, 200);
 AT(dm_command, body, 16); AT(dm_command, joint, 96); AT(dm_command, by, 160); AT(dm_command, ticks, 192);
 SIZE(dm_answer, 24);

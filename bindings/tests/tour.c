@@ -88,6 +88,9 @@ static void look(void) {
   WANT(dm_body(&world, balls[2], &view) == DM_DONE && dm_body(&world, balls[4], &view) == DM_STALE_HANDLE);
   printf("%zu poses, %zu moved, %zu contacts of %zu points, %zu in a region\n", dm_poses(&world, &pose, 1), dm_moved(&world, &pose, 1), near, points, found);
   printf("a ray hits %" PRIu32 ".%" PRIu32 " at %" PRIu32 "\n", hit.shape.slot, hit.shape.index, hit.fraction);
+  dm_shape_hit on;
+  WANT(dm_ray_on_shape(&world, (dm_vec){0, 20 * METRE}, (dm_vec){0, -40 * METRE}, hit.shape, &on) == DM_DONE && on.is_hit && on.fraction == hit.fraction);
+  printf("at %" PRId64 ", %" PRId64 ", where it faces %" PRId64 ", %" PRId64 "\n", on.point.x, on.point.y, on.normal.x, on.normal.y);
   printf("a body at %" PRId64 ", %" PRId64 " with %" PRId64 ", %" PRId64 " and %" PRId64 ", awake %d\n", view.pose.at.x, view.pose.at.y, view.p.x, view.p.y,
          (int64_t)view.l_low, view.set == DM_SET_AWAKE);
   printf("%" PRIu64 " steps, gravity %" PRId64 "\n", dm_steps(&world), dm_gravity(&world).y);

@@ -97,6 +97,8 @@ void look(scene &scene) {
   dm::must(world.body(scene.balls[4]) ? DM_STALE_HANDLE : DM_DONE);
   std::printf("%zu poses, %zu moved, %zu contacts of %zu points, %zu in a region\n", world.poses().size(), world.moved().size(), contacts.size(), points, found);
   std::printf("a ray hits %" PRIu32 ".%" PRIu32 " at %" PRIu32 "\n", hit.shape.slot, hit.shape.index, hit.fraction);
+  dm_shape_hit on = world.ray_on(hit.shape, dm::at(0, 20), dm::at(0, -40)).value();
+  std::printf("at %" PRId64 ", %" PRId64 ", where it faces %" PRId64 ", %" PRId64 "\n", on.point.x, on.point.y, on.normal.x, on.normal.y);
   std::printf("a body at %" PRId64 ", %" PRId64 " with %" PRId64 ", %" PRId64 " and %" PRId64 ", awake %d\n", view.pose.at.x, view.pose.at.y, view.p.x,
               view.p.y, std::int64_t(view.l_low), view.set == DM_SET_AWAKE);
   std::printf("%" PRIu64 " steps, gravity %" PRId64 "\n", world.steps(), world.gravity().y);

@@ -77,6 +77,8 @@ def look(world, balls):
     assert gone is None and world.poses_into((Pose * 3)()) == world.poses_into(bytearray(400)) == len(world.poses())
     print(f"{len(world.poses())} poses, {len(world.moved())} moved, {len(contacts)} contacts of {points} points, {len(found)} in a region")
     print(f"a ray hits {hit.shape.slot}.{hit.shape.index} at {hit.fraction}")
+    on = world.ray_on(hit.shape, (0, 20 * METRE), (0, -40 * METRE))
+    print(f"at {on.point.x}, {on.point.y}, where it faces {on.normal.x}, {on.normal.y}")
     print(f"a body at {view.pose.at.x}, {view.pose.at.y} with {view.p.x}, {view.p.y} and {view.l}, awake {int(view.set == Set.AWAKE)}")
     print(f"{world.steps} steps, gravity {world.gravity.y}")
 

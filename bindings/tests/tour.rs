@@ -106,6 +106,8 @@ fn look(scene: &Scene) -> Result<(), Refused> {
     let (poses, moved) = (world.poses().len(), world.moved().len());
     println!("{poses} poses, {moved} moved, {} contacts of {points} points, {found} in a region", contacts.len());
     println!("a ray hits {}.{} at {fraction}", shape.slot, shape.index);
+    let on = world.ray_on(shape, at(0, 20 * METRE), at(0, -40 * METRE))?.expect("the ray hits");
+    println!("at {}, {}, where it faces {}, {}", on.point.x, on.point.y, on.normal.x, on.normal.y);
     let is_awake = i32::from(view.set == Set::Awake);
     println!("a body at {}, {} with {}, {} and {}, awake {is_awake}", view.pose.at.x, view.pose.at.y, view.p.x, view.p.y, view.l);
     println!("{} steps, gravity {}", world.steps(), world.gravity().y);

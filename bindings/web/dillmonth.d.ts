@@ -113,6 +113,7 @@ export type StepEvent =
   | { step: bigint; kind: "begun" | "ended"; first: Handle; second: Handle; firstTag: bigint; secondTag: bigint; contact: Contact }
   | { step: bigint; kind: "slept" | "woke"; body: Handle; tag: bigint };
 export interface Hit { fraction: number; shape: ShapeId }
+export interface ShapeHit { fraction: number; point: Vec; normal: Vec }
 /** Which shapes a question sees: all but those of one body, and those alone whose category meets a mask. */
 export interface Filter { without?: Handle; mask?: bigint | null }
 export interface BodyInfo { kind: 0 | 1 | 2; isEnabled: boolean; mass: bigint; inertia: bigint; shapes: number; island: number | null }
@@ -218,6 +219,7 @@ export class World implements Commands<Handle, void, bigint> {
   ray(from: VecLike, along: VecLike): Hit | null;
   region(lo: VecLike, hi: VecLike): ShapeId[];
   rayThrough(from: VecLike, along: VecLike, filter: Filter): Hit | null;
+  rayOn(shape: ShapeId, from: VecLike, along: VecLike): ShapeHit | null;
   allHits(from: VecLike, along: VecLike, filter?: Filter): Hit[];
   regionThrough(lo: VecLike, hi: VecLike, filter: Filter): ShapeId[];
   info(body: Handle): BodyInfo | null;

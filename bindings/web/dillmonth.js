@@ -699,6 +699,16 @@ export class World {
     return isHit ? { fraction, shape: reader.id() } : null;
   }
 
+  /** What a ray hits of one shape, as it lies now: the point and the normal of a hit. null where it misses, or where there is no such shape. */
+  rayOn([slot, index], from, along) {
+    const at = this.library.room(0, 96), shape = BigInt(slot) | (BigInt(index) << 32n);
+    const status = this.calls.dm_ray_on_shape(this.world, int64(from.x), int64(from.y), int64(along.x), int64(along.y), uint64(shape), BigInt(at));
+    if (status === 2) return null;
+    done(status);
+    const reader = new Reader(this.library.view(), at), isHit = reader.u32() !== 0, fraction = reader.u32();
+    return isHit ? { fraction, point: reader.vec(), normal: reader.vec() } : null;
+  }
+
   /** All hits on the way, the nearest first. A way of zero hits the shapes that the start lies in. */
   allHits(from, along, filter = {}) {
     const at = this.library.room(0, 96);

@@ -160,6 +160,7 @@ PARTS = {
             "world_queries/Posed world_queries/Framed world_queries/Filters world_queries/AllHits world_queries/Limits shape_rays/Hits shapes/src/beam.rt "
             "shapes/Rays",
         ),
+        Chapter("surfaces", "A ray on one shape", "Where a ray hits one shape, and how its surface faces there.", "world_queries/OnShape shape_rays/src/surfaces.rt shape_rays/Surfaces"),
         Chapter(
             "asked",
             "What a world is asked",
@@ -224,7 +225,7 @@ PARTS = {
             "The events that are kept of step after step, and the tags of bodies.",
             "world_desk/Logs world_desk/Tags dillmonth/Events",
         ),
-        Chapter("library_questions", "Questions of the library", "What each call that only asks answers.", "dillmonth/src/questions.rt dillmonth/Questions"),
+        Chapter("library_questions", "Questions of the library", "What each call that only asks answers.", "dillmonth/src/questions.rt dillmonth/Questions dillmonth/src/on_shape.rt dillmonth/OnShape"),
         Chapter("library_lists", "Lists of the library", "The lists that the library keeps for a world, and what is left of each.", "dillmonth/Lists"),
         Chapter("library_getters", "Getters of the library", "What each call answers that asks for one body, joint or count.", "dillmonth/Getters"),
         Chapter("library_frames", "Frames of the library", "How a frame is taken of a world, and what each call answers that reads one.", "dillmonth/src/frames.rt dillmonth/src/frame_reading.rt dillmonth/Frames dillmonth/Loans"),

@@ -13,3 +13,4 @@ pub mod Frames
 pub mod Events
 pub mod Motions
 pub mod Moving
+pub mod OnShape

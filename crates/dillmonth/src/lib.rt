@@ -17,6 +17,7 @@ mod held;
 mod keeping;
 mod motions;
 mod moving;
+mod on_shape;
 mod questions;
 mod raw_box;
 mod reading;
@@ -47,6 +48,7 @@ pub use keeping::{
     dm_close, dm_copy, dm_digest, dm_load, dm_open, dm_save, dm_saved, dm_settle, dm_version,
 };
 pub use moving::{CMotion, dm_motion, dm_push_to, dm_set_target, dm_twist, dm_twist_to};
+pub use on_shape::{CShapeHit, dm_ray_on_shape};
 pub use questions::{
     CFilter, CHit, dm_contacts, dm_contacts_listed, dm_hits_found, dm_ray, dm_ray_all,
     dm_ray_through, dm_region, dm_region_found, dm_region_through,
