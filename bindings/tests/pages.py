@@ -3,8 +3,8 @@
 
     bindings/tests/pages.py     with the library that bindings/build makes; the last line is 'N passed, M failed'
 
-A page's code in a language is one program. Its first lines, up to an empty one, come first, and all others into `main`. A page without code in its language fails,
-and so does a program that prints nothing. A language whose compiler isn't there is skipped.
+A page's code in a language is one program. Its first lines, up to an empty one, come first, and all others into `main`; what closes the world comes last. A page
+without code in its language fails, and so does a program that prints nothing. A language whose compiler isn't there is skipped.
 """
 
 import os
@@ -19,6 +19,7 @@ TOP = Path(__file__).resolve().parent.parent.parent
 BINDINGS = TOP / "bindings"
 OUT = BINDINGS / "out"
 BLOCK = re.compile(r"^```(\w+)\n(.*?)^```$", re.M | re.S)
+CLOSES = "dm_close(&world);\n"
 OURS = re.compile(r"\bdm_|\bworld\.|\bWorld\b")
 INCLUDES = [f"-I{BINDINGS}/c", f"-I{BINDINGS}/cpp"]
 # what stands round the code, and how it is run
@@ -34,7 +35,8 @@ ENDINGS = {"c": "c", "cpp": "cpp", "rust": "rs", "python": "py"}
 def code_of(page, language):
     """The code that a page has in a language, as far as it is of a world."""
     blocks = BLOCK.findall((TOP / page).read_text(encoding="utf-8"))
-    return "\n".join(code for name, code in blocks if name == language and OURS.search(code))
+    code = "\n".join(code for name, code in blocks if name == language and OURS.search(code))
+    return code.replace(CLOSES, "") + CLOSES if CLOSES in code else code
 
 
 def run(folder, page, language):
