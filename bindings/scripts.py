@@ -19,7 +19,7 @@ HERE = Path(__file__).resolve().parent
 sys.path[:0] = [str(HERE / "python"), str(HERE.parent / "examples")]
 import dillmonth  # noqa: E402
 from digest import digest_of  # noqa: E402
-from dillmonth import Body, Command, Handle, Joint, Refused, Rot, Shape, Vec, World  # noqa: E402
+from dillmonth import Body, Cause, Command, Handle, Joint, Kind, Refused, Rot, Shape, Vec, World  # noqa: E402
 
 SETS = ("static", "disabled", "awake")
 
@@ -135,14 +135,13 @@ class Player:
             return {"refused": 2}
         answer = {"at": [view.pose.at.x, view.pose.at.y], "facing": [view.pose.facing.c, view.pose.facing.s], "l": str(view.l),
                   "p": [view.p.x, view.p.y], "set": SETS[view.set] if view.set < 3 else f"sleeping {view.island}"}
-        if self.kinds.get(line["body"]) == "kinematic":
+        if self.world.info(view.pose.handle).kind == Kind.KINEMATIC:
             answer.update(velocity=[view.velocity.x, view.velocity.y], spin=view.spin)
         return answer
 
     def ledger(self):
-        causes = json.loads(self.world.save())["ledger"]
-        total = [str(sum(int(pair[axis]) for pair in causes.values())) for axis in (0, 1)]
-        return {"causes": causes, "total": total}
+        texts = lambda pair: [str(part) for part in pair]  # noqa: E731
+        return {"causes": {cause.name.lower().rstrip("s"): texts(self.world.total(cause)) for cause in Cause}, "total": texts(self.world.total())}
 
     def look(self, line):
         """A line that only looks, or that loads."""
@@ -173,20 +172,9 @@ class Player:
                 answer["clause"] = refused.clause
         return compact(answer)
 
-    def note(self, line, answer):
-        """Keeps the kind of a body that was made, which a view doesn't tell."""
-        if line["do"] == "create" and "body" in answer:
-            self.kinds[json.loads(answer)["body"]] = line["kind"]
-        if line["do"] == "load" and "done" in answer:
-            slots = enumerate(line["world"]["bodies"])
-            self.kinds = {f"{slot}.{place['generation']}": place["body"]["kind"] for slot, place in slots if "body" in place}
-
     def play(self, lines):
-        self.kinds = {}
         for line in lines:
-            answer = self.answer(line)
-            self.note(line, answer)
-            yield answer
+            yield self.answer(line)
 
 
 class BatchPlayer(Player):
@@ -204,26 +192,22 @@ class BatchPlayer(Player):
                 yield compact({"done": True})
 
     def play(self, lines):
-        self.kinds, run, commands, shapes = {}, [], [], []
+        commands, shapes = [], []
 
         def flush():
-            for line, answer in zip(run, list(self.answers_to(commands, shapes))):
-                self.note(line, answer)
-                yield answer
-            run.clear(), commands.clear(), shapes.clear()
+            yield from list(self.answers_to(commands, shapes))
+            commands.clear(), shapes.clear()
 
         for line in lines:
             command = command_of(line, shapes)
             if command is not None:
-                run.append(line), commands.append(command)
+                commands.append(command)
                 # events are those of the last step: a run ends with it
                 if line["do"] == "step":
                     yield from flush()
                 continue
             yield from flush()
-            answer = self.answer(line)
-            self.note(line, answer)
-            yield answer
+            yield self.answer(line)
         yield from flush()
 
 
@@ -260,9 +244,8 @@ def has_told_digest(world):
 
 def write_digests(path):
     player = Player()
-    player.kinds = {}
     for line in lines_of(path):
-        player.note(line, player.answer(line))
+        player.answer(line)
         print(player.world.digest().hex())
 
 

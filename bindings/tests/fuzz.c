@@ -88,7 +88,7 @@ static void ask(dm_world *world, const uint8_t *bytes, size_t count) {
 /* What a frame answers is what its world does: where a body is enabled, what a ray hits, which shapes lie over a region. */
 static void look_at_a_frame(dm_world *world, const uint8_t *bytes, size_t count) {
   struct { dm_handle id; dm_vec from, along; dm_box box; } asked;
-  dm_frame frame = DM_NO_FRAME;
+  dm_frame frame = DM_NO_FRAME, again = DM_NO_FRAME;
   dm_body_info info;
   dm_pose pose;
   dm_view view;
@@ -109,6 +109,8 @@ static void look_at_a_frame(dm_world *world, const uint8_t *bytes, size_t count)
   WANT(dm_frame_region(frame, &asked.box, found, 16, &some) == status && some == all);
   if (status == DM_DONE) WANT(dm_region_found(world, ids, 16) == all && memcmp(ids, found, (all < 16 ? all : 16) * sizeof *ids) == 0);
   WANT(dm_total(world, &sum) == DM_DONE && dm_frame_total(frame, &booked) == DM_DONE && memcmp(&sum, &booked, sizeof sum) == 0);
+  WANT(dm_frame_take(world, &again) == DM_DONE && dm_frame_calls(again) == dm_frame_calls(frame));
+  dm_frame_drop(&again);
   dm_frame_drop(&frame);
 }
 

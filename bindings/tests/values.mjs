@@ -1,6 +1,8 @@
 // What the owner for JavaScript does with values, over the module that bindings/web/build makes: values.mjs
 import { readFileSync } from "node:fs";
-import { Batch, DYNAMIC, Journal, Library, METRE, Refused, at, circle, circleMass, dynamicBody, handleOf, metres } from "../web/dillmonth.js";
+import {
+  ALL, Batch, DYNAMIC, Journal, Library, METRE, Refused, at, circle, circleMass, degrees, dynamicBody, handleOf, kinematicBody, metres, segment, staticBody,
+} from "../web/dillmonth.js";
 
 const library = await Library.load(readFileSync(new URL("../web/out/dillmonth.wasm", import.meta.url)));
 let passed = 0, failed = 0;
@@ -50,6 +52,32 @@ const replayed = journal.replay();
 check("a journal is played again", journal.batch.length === 4 && replayed.digest() === journal.world.digest() && replayed.steps() === 2n);
 journal.world.close();
 replayed.close();
+const moving = library.open({ x: 0, y: -179 }), ground = moving.createBody(staticBody(at(0, 0)), [segment(at(-8, 0), at(8, 0))]);
+const coin = moving.createBody(dynamicBody(at(0, 1), circleMass(metres(0.5))), [circle(metres(0.5))]), nobody = handleOf(9, 1);
+const lift = moving.createBody(kinematicBody(at(5, 5), at(0, 0)), [circle(metres(0.25))]);
+moving.setTag(coin, ALL);
+check("tags", moving.tag(coin) === ALL && moving.body(coin).tag === ALL && moving.tag(ground) === 0n && thrown(() => moving.setTag(nobody, 1)).status === 2);
+check("a tag fits 64 bits", thrown(() => moving.setTag(coin, -1)) instanceof RangeError);
+moving.pushTo(coin, { x: 3000, y: -4000 });
+moving.twistTo(coin, 1000000);
+moving.twist(coin, 1n << 40n);
+const its = moving.motion(coin);
+check("a velocity and a spin", its.velocity.x === 3000n && its.velocity.y === -4000n && its.spin > 1000000n && moving.motion(nobody) === null);
+moving.setTarget(lift, at(6, 5), degrees(10), 8);
+check("a target", moving.motion(lift).velocity.x === METRE / 8n && thrown(() => moving.setTarget(coin, at(0, 0))).status === 15);
+check("movers alone", [() => moving.pushTo(lift, at(0, 0)), () => moving.twist(lift, 1), () => moving.twistTo(lift, 1)].every((call) => thrown(call).status === 6));
+moving.clearEvents();
+moving.step(8);
+check("it is met", moving.body(lift).at.x === metres(6) && moving.body(lift).at.y === metres(5));
+while (moving.slept().length === 0 && moving.steps() < 2000n) moving.step(1);
+const told = moving.events(), [begun] = told, slept = told.at(-1);
+check("events of all steps", begun.kind === "begun" && begun.step < slept.step && slept.step === moving.steps() && slept.kind === "slept" && slept.body === coin);
+check("an event's bodies", begun.first === ground && begun.second === coin && begun.firstTag === 0n && begun.secondTag === ALL && slept.tag === ALL);
+check("an event's contact", begun.contact.points.length === 1 && begun.contact.points[0].normalImpulse > 0n && begun.contact.normal.y === 1n << 30n);
+moving.clearEvents(false);
+moving.step(1);
+check("no events are kept", moving.events().length === 0);
+moving.close();
 world.close();
 world.close();
 const closed = thrown(() => world.step());

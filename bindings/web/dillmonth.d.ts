@@ -23,6 +23,7 @@ export const NOBODY: Handle;
 export const STATIC: 0, KINEMATIC: 1, DYNAMIC: 2;
 export const CIRCLE: 0, CAPSULE: 1, SEGMENT: 2;
 export const SETS: readonly ["static", "disabled", "awake", "asleep"];
+export const EVENTS: readonly ["begun", "ended", "slept", "woke"];
 
 export function handleOf(slot: Whole | string, generation: Whole | string): Handle;
 export function slotOf(handle: Handle): number;

@@ -21,18 +21,16 @@ function setOf(body) {
   return `${body.isAsleep ? "asleep" : "awake"}, island ${body.island}`;
 }
 
-/** How fast a body is and turns, by what it weighs; a kinematic one as it was told. */
-function motionOf(body, view) {
-  const speed = METRE / TICKS_A_SECOND;
+/** How fast a body is and turns. */
+function motionOf(body, { velocity, spin }) {
   if (body.kind === "static") return { velocity: "none", spin: 0 };
-  if (body.kind === "kinematic") return { velocity: pair(view.velocity, speed, "m/s"), spin: (Number(view.spin) / UNIT) * TICKS_A_SECOND };
-  return { velocity: pair(view.p, speed * body.mass, "m/s"), spin: body.inertia ? (Number(view.l) / body.inertia) * TICKS_A_SECOND : 0 };
+  return { velocity: pair(velocity, METRE / TICKS_A_SECOND, "m/s"), spin: (Number(spin) / UNIT) * TICKS_A_SECOND };
 }
 
-function shapeText({ form, radius, ends, saved }) {
+function shapeText({ form, radius, ends, friction, restitution }) {
   const length = Math.hypot(ends[0].x - ends.at(-1).x, ends[0].y - ends.at(-1).y);
   const size = [form === "circle" ? "" : `${number(length)} m long`, radius ? `radius ${number(radius)} m` : ""].filter(Boolean).join(", ");
-  return `${form}, ${size}\nfriction ${number((saved.friction ?? 0) / SHARE)}, restitution ${number((saved.restitution ?? 0) / SHARE)}`;
+  return `${form}, ${size}\nfriction ${number(friction / SHARE)}, restitution ${number(restitution / SHARE)}`;
 }
 
 /** Of each contact of a body its other body, its points and its impulse; the largest first. */
@@ -50,7 +48,7 @@ function contactTexts(picture, contacts, slot) {
 export function toldOf(world, picture, slot, contacts) {
   const body = picture.bodies.get(slot), view = body?.handle && world.body(body.handle);
   if (!view) return null;
-  const { velocity, spin } = motionOf(body, view), isDynamic = body.kind === "dynamic";
+  const { velocity, spin } = motionOf(body, world.motion(body.handle)), isDynamic = body.kind === "dynamic";
   const texts = [
     setOf(body),
     `${number(body.at.x, 3)}, ${number(body.at.y, 3)} m`,
