@@ -69,6 +69,8 @@ check("movers alone", [() => moving.pushTo(lift, at(0, 0)), () => moving.twist(l
 moving.clearEvents();
 moving.step(8);
 check("it is met", moving.body(lift).at.x === metres(6) && moving.body(lift).at.y === metres(5));
+moving.pushTo(coin, at(0, 0)); // it falls straight down, and comes to rest
+moving.twistTo(coin, 0);
 while (moving.slept().length === 0 && moving.steps() < 2000n) moving.step(1);
 const told = moving.events(), [begun] = told, slept = told.at(-1);
 check("events of all steps", begun.kind === "begun" && begun.step < slept.step && slept.step === moving.steps() && slept.kind === "slept" && slept.body === coin);
