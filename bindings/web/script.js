@@ -23,7 +23,7 @@ const WHOLE = /^(?:0|-?[1-9]\d*)$/;
 const NUMBER = /^-?(?:0|[1-9]\d*)(?:\.\d+)?(?:[eE][+-]?\d+)?$/;
 
 /** JSON whose whole numbers become BigInt, since doubles don't hold them. */
-export function readExact(text) {
+function readExact(text) {
   const marked = text.replace(TOKEN, (found) => {
     if (found.startsWith('"')) return found.startsWith('"#') ? `"#${found.slice(1)}` : found;
     return NUMBER.test(found) ? `"#${found}"` : found;
