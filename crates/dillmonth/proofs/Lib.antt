@@ -4,11 +4,8 @@ mod FrameValues
 mod LoanSteps
 mod CrossingLaws
 mod ListLaws
-mod StatusLaws
 mod FormLaws
 mod BatchLaws
-mod KeepingLaws
 mod PoseLaws
-mod QuestionLaws
 mod FrameLaws
 mod MovingLaws
