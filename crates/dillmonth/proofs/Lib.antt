@@ -9,3 +9,4 @@ mod BatchLaws
 mod PoseLaws
 mod FrameLaws
 mod MovingLaws
+mod TwistLaws

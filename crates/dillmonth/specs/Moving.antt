@@ -1,5 +1,5 @@
 -- Trusted: Velocities and spins that are read and set, by commands that there are.
-use Rattle.std.specs.Prelude.{◌≡◌, ℕ, zero, suc, Option, Some, None, ℤ, pos, neg_ℤ}
+use Rattle.std.specs.Prelude.{◌≡◌, ℕ, ◌⊎◌, Option, Some, None, ℤ, pos, neg_ℤ}
 use Rattle.fixed_geom.specs.declared.vectors.Vec2.{Vec2}
 use Rattle.body_handles.specs.declared.handle.Handle.{Handle}
 use Rattle.dillmonth.specs.Calls.{IsAnswered}
@@ -56,8 +56,7 @@ untwisting h by = Push h (record { x = pos 0; y = neg_ℤ (twist_push by) })
 
 -- the second command where the first was accepted, and else nothing more
 abbrev pub IsThen : Command → ℕ → Desk → ℕ → Desk → Type 0
-IsThen c zero mid status new = AnswersAs c mid status new
-IsThen c (suc refused) mid status new = (status ≡ suc refused) × (new ≡ mid)
+IsThen c first mid status new = ((first ≡ 0) × AnswersAs c mid status new) ⊎ ((¬ (first ≡ 0)) × (status ≡ first) × (new ≡ mid))
 
 -- both pushes, one after the other
 abbrev pub Twists : Handle → ℤ → Desk → ℕ → Desk → Type 0

@@ -48,7 +48,8 @@ const TOO_MUCH: i64 = (1 << 40) + 1;
 
 /// A part of a push: one that is beyond 2^40 stays beyond it, so that the push is refused.
 fn push_part(part: i128) -> i64
-    ensures { result ≡ push_part part }
+    ensures value { result ≡ push_part part }
+    ensures size { unsigned_abs result ≤ 2 ^ 40 + 1 }
 {
     if part > i128::from(TOO_MUCH) {
         TOO_MUCH
@@ -235,7 +236,8 @@ pub(crate) fn lever(by: i64) -> i64
 
 /// The push that gives an angular impulse at its arm.
 pub(crate) fn twist_push(by: i64) -> i64
-    ensures { result ≡ twist_push by }
+    ensures value { result ≡ twist_push by }
+    ensures size { unsigned_abs result ≤ 2 ^ 40 + 1 }
 {
     push_part(rdiv(i128::from(by), i128::from(lever(by))))
 }

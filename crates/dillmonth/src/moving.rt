@@ -5,7 +5,7 @@ ghost use Rattle.std.specs.Option.{option_copied};
 ghost use Rattle.plain_world.specs.Bodies.{IsBody};
 ghost use Rattle.dillmonth.specs.Forms.{handle_said, pose_said, vector_said};
 ghost use Rattle.dillmonth.specs.Motions.{motion_of, twist_to};
-ghost use Rattle.dillmonth.specs.Moving.{AnswersAs, DoesBy, IsMoving, IsMovingIn, Twists, TwistsIn, motion_shown, pushing_to, steering_to, twisting, untwisting};
+ghost use Rattle.dillmonth.specs.Moving.{AnswersAs, DoesBy, IsMoving, IsMovingIn, IsThen, Twists, TwistsIn, motion_shown, pushing_to, steering_to, twisting, untwisting};
 ghost use Rattle.world_rules.specs.World.{body_named};
 
 use crate::commands::answer_to;
@@ -173,15 +173,29 @@ fn untwisting(body: Handle, by: i64) -> Command
     Command::Push(body, push)
 }
 
-/// Gives a mover of a desk both pushes.
-fn twist(alloc: Global, desk: &mut Desk, body: Handle, by: i64) -> u32
-    ensures { Twists body by desk.old result desk.new }
+/// Gives a mover of a desk the push beside its centre.
+fn begin_twist(alloc: Global, desk: &mut Desk, body: Handle, by: &i64) -> u32
+    ensures { AnswersAs (twisting body by.now) desk.old result desk.new }
 {
-    let first = answer_to(alloc, desk, twisting(body, by)).status;
+    answer_to(alloc, desk, twisting(body, *by)).status
+}
+
+/// Gives it the opposite push, where the first one was accepted.
+fn end_twist(alloc: Global, desk: &mut Desk, body: Handle, by: &i64, first: u32) -> u32
+    ensures { IsThen (untwisting body by.now) first desk.old result desk.new }
+{
     if first != 0 {
         return first;
     }
-    answer_to(alloc, desk, untwisting(body, by)).status
+    answer_to(alloc, desk, untwisting(body, *by)).status
+}
+
+/// Gives a mover of a desk both pushes.
+fn twist(alloc: Global, desk: &mut Desk, body: Handle, by: &i64) -> u32
+    ensures { Twists body by.now desk.old result desk.new }
+{
+    let first = begin_twist(alloc, desk, body, by);
+    end_twist(alloc, desk, body, by, first)
 }
 
 /// Gives a mover an angular impulse, in mass·u²/tick: a push beside its centre, and the opposite one at it. So its momentum stays, and two entries that add up to
@@ -194,7 +208,7 @@ pub extern "C" fn dm_twist(alloc: Global, world: &mut CWorld, body: CHandle, by:
     match take(alloc, world) {
         None => NO_WORLD,
         Some(mut desk) => {
-            let status = twist(alloc, &mut desk, handle_of(body), by);
+            let status = twist(alloc, &mut desk, handle_of(body), &by);
             put(world, desk);
             status
         }
@@ -206,7 +220,7 @@ fn twist_body_to(alloc: Global, desk: &mut Desk, body: Handle, spin: i64) -> u32
     ensures { Twists body (twist_to (body_named desk.old.world.plain body) spin) desk.old result desk.new }
 {
     let by = twist_to(sound_body(&desk.world, body), spin);
-    twist(alloc, desk, body, by)
+    twist(alloc, desk, body, &by)
 }
 
 /// Gives a mover the spin, the tangent of the turn of a tick times 2^30, by a `dm_twist` of `inertia * spin / 2^30 - l`, and is refused as that. A body of

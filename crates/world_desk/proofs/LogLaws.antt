@@ -56,8 +56,8 @@ applied c old new outcome none kept answers pending =
       answers = answers;
       kept = kept ∙ (λ i. record old { world = new.world; log = (sym (ap (λ (d : Desk). d.log) kept)) i; pending = new.pending });
       told = ap (λ (p : Bool). new.log.items ++ cond p all []) (pending ∙ ap (λ (k : Bool). is_stepped outcome && k) keeps)
-        ∙ ap (λ (es : List StepEvent). new.log.items ++ es) (both_if (is_stepped outcome) new.keeps all)
-        ∙ ap (λ (es : List StepEvent). es ++ added new outcome) (log ∙ sym (told_is_log old none));
+          ∙ ap (λ (es : List StepEvent). new.log.items ++ es) (both_if (is_stepped outcome) new.keeps all)
+          ∙ ap (λ (es : List StepEvent). es ++ added new outcome) (log ∙ sym (told_is_log old none));
     }
 
 -- the same once the events of the last step are logged
@@ -76,7 +76,7 @@ tagged_after given old mid new h none kept is =
     let pending : new.pending ≡ false = ap (λ (d : Desk). d.pending) kept ∙ none in
     record {
       kept = kept ∙ ap (λ (d : Desk). record d { tags = new.tags }) h.kept
-        ∙ (λ i. record old { log = (sym (ap (λ (d : Desk). d.log) kept)) i; pending = (sym (ap (λ (d : Desk). d.pending) kept)) i; tags = new.tags });
+          ∙ (λ i. record old { log = (sym (ap (λ (d : Desk). d.log) kept)) i; pending = (sym (ap (λ (d : Desk). d.pending) kept)) i; tags = new.tags });
       told = told_is_log new pending ∙ log ∙ sym (told_is_log mid none) ∙ h.told;
       tags = is;
     }

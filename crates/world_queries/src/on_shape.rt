@@ -13,23 +13,14 @@ use shape_rays::{PosedShape, ShapeHit};
 use world_core::WorldCore;
 
 /// The ray's hit on a shape that was found by its name; refused 2 where none was.
-fn hit_of(
-    found: Option<PosedShape>,
-    from: Vec2,
-    along: Vec2,
-) -> Result<Option<ShapeHit>, Refusal>
+fn hit_of(found: Option<PosedShape>, from: Vec2, along: Vec2) -> Result<Option<ShapeHit>, Refusal>
     requires found { IfSome found (λ posed. IsPosedShape posed) }
     requires ray { IsBeam (beam_of from along) }
     ensures { result ≡ hit_of_posed (beam_of from along) found }
 {
     match found {
         None => Err(Refusal::StaleHandle),
-        Some(posed) => Ok(shape_rays::ray_on_shape(
-            &posed.shape,
-            posed.pose,
-            from,
-            along,
-        )),
+        Some(posed) => Ok(shape_rays::ray_on_shape(&posed.shape, posed.pose, from, along)),
     }
 }
 
