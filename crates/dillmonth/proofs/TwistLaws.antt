@@ -1,8 +1,10 @@
 -- Both pushes of an angular impulse, where there is a world.
 use Rattle.std.proofs.Common.{◌≡◌, ℕ, Option, Some, subst, sym, ℤ}
 use Rattle.body_handles.specs.declared.handle.Handle.{Handle}
+use Rattle.dillmonth.specs.Motions.{twist_to}
 use Rattle.dillmonth.specs.Moving.{Twists, TwistsIn}
 use Rattle.world_desk.specs.declared.desk.Desk.{Desk}
+use Rattle.world_rules.specs.World.{body_named}
 
 pub twists_in : (h named : Handle) (by passed : ℤ) (held put : Option Desk) (old now new : Desk) (status : ℕ) → named ≡ h → passed ≡ by → held ≡ Some old → now ≡ old → put ≡ Some new → Twists named passed now status new → TwistsIn h (λ w. by) held status put
 twists_in h named by passed held put old now new status is same_by there same putting twists =
@@ -10,3 +12,17 @@ twists_in h named by passed held put old now new status is same_by there same pu
     (subst (λ (o : Option Desk). TwistsIn h (λ w. by) (Some old) status o) (sym putting)
     (subst (λ (k : Handle). Twists k by old status new) is
     (subst (λ (z : ℤ). Twists named z old status new) same_by (subst (λ (d : Desk). Twists named passed d status new) same twists))))
+
+-- an impulse by another name
+pub twists_same : (h : Handle) (by passed : ℤ) (old new : Desk) (status : ℕ) → passed ≡ by → Twists h passed old status new → Twists h by old status new
+twists_same h by passed old new status is twists = subst (λ (z : ℤ). Twists h z old status new) is twists
+
+-- one that depends on the body, where there is a world
+pub twists_to_in : (h named : Handle) (spin passed : ℤ) (held put : Option Desk) (old now new : Desk) (status : ℕ) → named ≡ h → passed ≡ spin → held ≡ Some old → now ≡ old → put ≡ Some new
+    → Twists named (twist_to (body_named now.world.plain named) passed) now status new → TwistsIn h (λ w. twist_to (body_named w.plain h) spin) held status put
+twists_to_in h named spin passed held put old now new status is same_spin there same putting twists =
+    subst (λ (o : Option Desk). TwistsIn h (λ w. twist_to (body_named w.plain h) spin) o status put) (sym there)
+    (subst (λ (o : Option Desk). TwistsIn h (λ w. twist_to (body_named w.plain h) spin) (Some old) status o) (sym putting)
+    (subst (λ (k : Handle). Twists k (twist_to (body_named old.world.plain k) spin) old status new) is
+    (subst (λ (z : ℤ). Twists named (twist_to (body_named old.world.plain named) z) old status new) same_spin
+    (subst (λ (d : Desk). Twists named (twist_to (body_named d.world.plain named) passed) d status new) same twists))))
