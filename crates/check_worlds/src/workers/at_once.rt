@@ -223,14 +223,15 @@ fn check_workers<R: AllocGlobal + Print + Threads + Wait + Sync, W: WholeWorld>(
     Ok(())
 }
 
-/// Makes all steps of a wide pile by two workers that wait for each other.
-fn check_meeting<R: AllocGlobal + Print + Threads + Wait + Sync, W: WholeWorld>(
+/// Makes all steps of a wide pile by a crew of two workers that wait for each other and solve each by parts.
+fn check_meeting<R: Print + Threads + Wait + Sync, W: WholeWorld>(
     rt: &R,
+    alloc: Global,
     worlds: &mut Worlds<W>,
     after: &[String],
 ) -> Result<(), Stop> {
     let meeting = Meeting::new();
-    let are_same = are_alike(rt, &meeting, worlds, 2, after)?;
+    let are_same = are_alike_by_crew(rt, alloc, &meeting, worlds, 2, after)?;
     print_meeting(rt, "a wide pile", are_same, &meeting)
 }
 
@@ -248,8 +249,7 @@ fn check_crews<R: Print + Threads + Wait + Sync, W: WholeWorld>(
     print_meeting(rt, "a pile", are_same, &meeting)
 }
 
-/// Checks steps of piles. A pile and two are so small that the calling thread solves them, but for a crew that is to solve each step by parts. A
-/// wide pile is worth its workers.
+/// Checks steps of piles. They are so small that the calling thread solves them, but for a crew that is to solve each step by parts.
 fn check_after<R: AllocGlobal + Print + Threads + Wait + Sync, W: WholeWorld>(
     rt: &R,
     piles: Piles,
@@ -265,7 +265,7 @@ fn check_after<R: AllocGlobal + Print + Threads + Wait + Sync, W: WholeWorld>(
         Piles::Two => check_workers(rt, "two piles", worlds, after),
         Piles::Wide => {
             check_workers(rt, "a wide pile", worlds, after)?;
-            check_meeting(rt, worlds, after)
+            check_meeting(rt, rt.alloc(), worlds, after)
         }
     }
 }
