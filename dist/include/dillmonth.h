@@ -17,8 +17,10 @@
  *   5. A call has 256 KB of stack (EMBEDDING_C.md).
  *   6. An object of type dm_world isn't const, also where a call takes a const dm_world *: such a call changes nothing that another one can
  *      tell, and yet writes to the struct for a while. So it is one call at a time for these too.
+ *   7. A dm_frame begins as DM_NO_FRAME, and only dm_frame_take and dm_frame_drop write it. What 1 to 5 say of worlds holds for these two calls. No
+ *      call reads a frame that was dropped.
  *
- * A step by workers and the mirror for readers aren't here: a library for C may neither start a thread nor take a lock.
+ * A step by workers isn't here: a library for C may neither start a thread nor take a lock.
  *
  * Numbers: lengths in u (2^20 u are a metre), velocities in u/tick (with 240 ticks a second a step of 4 is a frame of 60), masses as the
  * caller likes, momenta and impulses in mass*u/tick, angular momenta in mass*u^2/tick, cosines and sines times 2^30, friction and restitution
@@ -119,21 +121,49 @@ typedef struct {
   dm_vec velocity;           /* of a kinematic body */
   int64_t spin;
   uint32_t set, island;      /* a sleeper has the name of its island */
-} dm_view;                   /* 104 bytes */
+  uint64_t tag;              /* of dm_set_tag, or 0 */
+} dm_view;                   /* 112 bytes */
+
+typedef struct {
+  dm_vec velocity;           /* in u/tick */
+  int64_t spin;              /* the tangent of the turn of a tick, times 2^30 */
+} dm_course;                 /* 24 bytes */
+
+typedef struct {
+  dm_vec offset;             /* from the centre of the first shape's body */
+  int64_t separation;        /* below 0 where the shapes overlap */
+  int64_t normal_impulse;    /* along the normal, in mass*u/tick */
+  int64_t tangent_impulse;   /* across it, of friction */
+} dm_contact_point;          /* 40 bytes */
 
 typedef struct {
   dm_pair pair;
   uint32_t points, unused;   /* 0 to 2: without a point the shapes are near and don't touch */
   dm_vec normal;             /* from the first shape to the second, times 2^30 */
-  dm_vec first_offset, second_offset;    /* the points, from the centre of the first shape's body */
-  int64_t first_impulse, second_impulse; /* along the normal */
-} dm_contact;                /* 88 bytes */
+  dm_contact_point first, second; /* all zeros where it isn't there */
+} dm_contact;                /* 120 bytes */
+
+enum { DM_EVENT_BEGUN = 0, DM_EVENT_ENDED = 1, DM_EVENT_SLEPT = 2, DM_EVENT_WOKE = 3 }; /* dm_event.kind */
+typedef struct {
+  uint64_t step;             /* the number of the step */
+  uint32_t kind, unused;
+  dm_handle first, second;   /* the bodies of both shapes; where a body fell asleep or woke, `second` names nothing */
+  uint64_t first_tag, second_tag; /* the tags that they had then */
+  dm_contact contact;        /* of shapes: as the step left it, so that one that began has the impulses of its first step */
+} dm_event;                  /* 168 bytes */
 
 typedef struct {
   uint32_t is_hit;           /* 1 where something was hit */
   uint32_t fraction;         /* how far along the way, in 2^24ths */
   dm_shape_id shape;
 } dm_hit;                    /* 16 bytes */
+
+typedef struct {
+  uint32_t is_hit;           /* 1 where the shape was hit; else all is 0 */
+  uint32_t fraction;         /* how far along the way, in 2^24ths */
+  dm_vec point;              /* where */
+  dm_vec normal;             /* how the surface faces there: from the shape outwards, times 2^30 */
+} dm_shape_hit;              /* 40 bytes */
 
 #define DM_NO_ISLAND UINT32_MAX
 #define DM_NO_COLOUR UINT32_MAX
@@ -182,7 +212,7 @@ dm_status dm_settle(dm_world *world);                          /* sums up what w
 
 /* ---- commands: one call of the world each. What a pointer names is written only where the status is 0. Each may answer 32 (no world),
  * 10 before all else, and 1 after all else. A body to be made is read first: so 33 and 34, and 1 where memory is wanting for its shapes, come
- * before these. ---- */
+ * before these; and so does 1 where memory is wanting for the events of the last step (dm_events_clear). ---- */
 DM_KEEP dm_status dm_create_body(dm_world *world, const dm_body_def *def, const dm_shape *shapes, size_t shapes_len, dm_handle *made); /* 33, 4, 5, 3 */
 dm_status dm_destroy_body(dm_world *world, dm_handle body);                                   /* with its joints and, untold, its contacts. 2 */
 DM_KEEP dm_status dm_create_joint(dm_world *world, const dm_joint_def *def, dm_handle *made); /* 2, 7, 8, 5, 3 */
@@ -196,6 +226,14 @@ dm_status dm_disable(dm_world *world, dm_handle body);                          
 dm_status dm_enable(dm_world *world, dm_handle body);                                         /* 2 */
 dm_status dm_wake(dm_world *world, dm_handle body);                                           /* 2, 6, 8 */
 dm_status dm_sleep(dm_world *world, dm_handle body);                                          /* 2, 6, 8 */
+/* These are the commands above, with what a body is and has taken into account. */
+dm_status dm_push_to(dm_world *world, dm_handle body, dm_vec velocity);                       /* a mover's velocity, by the push mass * velocity - p. As dm_push */
+dm_status dm_twist(dm_world *world, dm_handle body, int64_t by);                              /* an angular impulse, in mass*u^2/tick: a push beside the centre and
+  * the opposite one at it. Up to 2^40 it is met, up to 2^60 to the nearest 2^20. 2, 6, 8, 5, 9; 10 and 1 may also come between the two, and the first stays */
+dm_status dm_twist_to(dm_world *world, dm_handle body, int64_t spin);                         /* a mover's spin, by the twist inertia * spin / 2^30 - l. As dm_twist */
+dm_status dm_set_target(dm_world *world, dm_handle body, dm_vec at, dm_rot facing, int64_t ticks); /* the course that leads a kinematic body to a pose in a
+  * step of so many ticks, which it keeps after it: the way, and the tangent of the angle, by the ticks. In one tick it is met. In several a turn of 10 degrees
+  * comes out a hundredth too large, and one of 40 a fifth. 2, 15, 8; 5 also for a quarter of a turn or more */
 DM_KEEP dm_status dm_step(dm_world *world, int64_t ticks, uint64_t *step);                    /* 1 to 8 ticks; *step: its number, from 1. 5.
   * A world books what its momentum gains. A program calls dm_settle now and then, as after each step: that takes no memory, and changes
   * nothing that a call answers, nor the digest. Without it up to some hundred bytes are kept for each step. */
@@ -242,8 +280,19 @@ size_t dm_ended(const dm_world *world, dm_pair *out, size_t out_len);           
 size_t dm_slept(const dm_world *world, dm_handle *out, size_t out_len);         /* the bodies that fell asleep in the last step, ascending */
 size_t dm_woke(const dm_world *world, dm_handle *out, size_t out_len);          /* those that woke */
 DM_KEEP dm_status dm_body(const dm_world *world, dm_handle body, dm_view *out); /* 32, 2 */
+DM_KEEP dm_status dm_motion(const dm_world *world, dm_handle body, dm_course *out); /* of any body: its velocity and its spin. 32, 2 */
 uint64_t dm_steps(const dm_world *world);                                       /* how many steps were accepted */
 dm_vec dm_gravity(const dm_world *world);
+
+/* ---- the events of all steps since dm_events_clear, with ids, and with the contact of shapes that began to touch. A world keeps them from the first
+ * dm_events_clear on, and until the next. A copy and a loaded world keep none ---- */
+dm_status dm_events_clear(dm_world *world, uint32_t keeps);                          /* drops them; from now on those of each step are kept, where `keeps` isn't 0. 32 */
+DM_KEEP dm_status dm_events(dm_world *world, dm_event *out, size_t out_len, size_t *count); /* step by step; of a step those that began, ended, slept, woke.
+  * They stay. 32, 1 */
+
+/* ---- tags: a number of the program's own for each body, which views and events have. No save and no digest has it; a copy has ---- */
+dm_status dm_set_tag(dm_world *world, dm_handle body, uint64_t tag);                 /* 32, 2, 1 */
+uint64_t dm_tag(const dm_world *world, dm_handle body);                              /* 0 without one. Also of a body that is gone, until another in its slot gets one */
 
 /* ---- what a body and a joint are: nothing changes. Where a call counts into *count, it writes the first of them, as many as fit ---- */
 DM_KEEP dm_status dm_info(const dm_world *world, dm_handle body, dm_body_info *out); /* kind, mass, number of shapes, island. 32, 2 */
@@ -273,9 +322,27 @@ DM_KEEP dm_status dm_ray_through(const dm_world *world, dm_vec from, dm_vec alon
 DM_KEEP dm_status dm_ray_all(dm_world *world, dm_vec from, dm_vec along, const dm_filter *filter, size_t *count); /* all that are, a hit for each shape.
   * A way of { 0, 0 } hits the shapes that the start lies in. 32, 5, 2, 1 */
 size_t dm_hits_found(const dm_world *world, dm_hit *out, size_t out_len);                /* those of the last dm_ray_all, the nearest first, then by name */
+DM_KEEP dm_status dm_ray_on_shape(const dm_world *world, dm_vec from, dm_vec along, dm_shape_id shape, dm_shape_hit *out); /* what the ray hits of one shape, as
+  * it lies now: the point and the normal of a hit of these are those of its shape. Where the start lies on a circle's centre or on a capsule's core, the normal
+  * is up, or square to the core to its left; a segment's is square to it, to the side of the start. 32, 5, 2 (no shape of an enabled body) */
 DM_KEEP dm_status dm_region_through(dm_world *world, const dm_box *bounds, const dm_filter *filter, size_t *count); /* fetched as dm_region's. 32, 5, 2, 1 */
 DM_KEEP dm_status dm_contacts(dm_world *world, size_t *count);                           /* the contacts of near shapes. 32, 1 */
 size_t dm_contacts_listed(const dm_world *world, dm_contact *out, size_t out_len);       /* those that the last dm_contacts found, ascending */
+
+/* ---- frames. A frame is what a world shows at one moment: the poses and the shapes of its enabled bodies, what all causes gave the movers, and the
+ * number of its calls. It is a value of its own, which no later call changes, and outlives the world. Threads may read one at once, with no lock, also
+ * while the world steps: a read writes nothing to it. A dm_frame may be copied for that; all its copies name one frame, which is dropped once, by one of
+ * them, when nobody reads it any more. A dm_frame is passed by value ---- */
+typedef struct { void *at; } dm_frame;
+#define DM_NO_FRAME { 0 }
+DM_KEEP dm_status dm_frame_take(const dm_world *world, dm_frame *frame);                 /* what was held is dropped. A call of the world. 32, 1 */
+void dm_frame_drop(dm_frame *frame);                                                     /* drops it, if there is one; twice is harmless */
+DM_KEEP dm_status dm_frame_pose(dm_frame frame, dm_handle body, dm_pose *out);           /* of an enabled body. 32 (no frame), 2 */
+DM_KEEP dm_status dm_frame_ray(dm_frame frame, dm_vec from, dm_vec along, dm_hit *out);  /* as dm_ray; it looks at each shape. 32, 5 */
+DM_KEEP dm_status dm_frame_region(dm_frame frame, const dm_box *bounds, dm_shape_id *out, size_t out_len, size_t *count); /* as dm_region, and written at once,
+  * as many as fit; it looks at each shape. 32, 5, 1 */
+DM_KEEP dm_status dm_frame_total(dm_frame frame, dm_sum *out);                           /* as dm_total. 32 */
+uint64_t dm_frame_calls(dm_frame frame);                                                 /* how many calls were accepted; 0 without a frame */
 
 /* ---- keeping ---- */
 DM_KEEP dm_status dm_save(dm_world *world, size_t *bytes);                                          /* the world as JSON, kept in it. 32, 1 */

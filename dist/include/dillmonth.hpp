@@ -15,6 +15,7 @@
 #ifndef DILLMONTH_HPP
 #define DILLMONTH_HPP
 #include "dillmonth.h"
+#include "dillmonth_journal.h"
 #include <array>
 #include <cstdint>
 #include <cstdio>
@@ -134,6 +135,66 @@ inline dm_joint_def joint(body_id a, body_id b, std::int64_t length, dm_vec from
   return {a.handle(), b.handle(), from, to, length, collide ? 1u : 0u, 0};
 }
 
+// ---- a frame ----
+
+// What a world shows at one moment: `take_frame` of a world takes one. It never changes, and outlives the world. Any number of threads may read one at once, with no
+// lock, also while the world steps; a `std::shared_ptr` to it is dropped by the last that reads it.
+class frame {
+ public:
+  frame(frame &&other) noexcept : held(std::exchange(other.held, dm_frame{})) {}
+  frame &operator=(frame &&other) noexcept {
+    if (this != &other) {
+      dm_frame_drop(&held);
+      held = std::exchange(other.held, dm_frame{});
+    }
+    return *this;
+  }
+  frame(const frame &) = delete;
+  frame &operator=(const frame &) = delete;
+  ~frame() { dm_frame_drop(&held); }
+
+  // Where an enabled body was; nothing where the id named none.
+  [[nodiscard]] std::optional<dm_pose> pose(body_id body) const {
+    dm_pose pose{};
+    const dm_status status = dm_frame_pose(held, body.handle(), &pose);
+    if (status == DM_STALE_HANDLE) return std::nullopt;
+    must(status);
+    return pose;
+  }
+  // The first shape on the way; nothing where there is none.
+  [[nodiscard]] std::optional<dm_hit> ray(dm_vec from, dm_vec along) const {
+    dm_hit hit{};
+    must(dm_frame_ray(held, from, along, &hit));
+    return hit.is_hit ? std::optional<dm_hit>(hit) : std::nullopt;
+  }
+  [[nodiscard]] std::vector<dm_shape_id> region(const dm_box &bounds) const {
+    std::vector<dm_shape_id> items(32);
+    std::size_t count = 0;
+    must(dm_frame_region(held, &bounds, items.data(), items.size(), &count));
+    if (count > items.size()) {
+      items.resize(count);
+      must(dm_frame_region(held, &bounds, items.data(), items.size(), &count));
+    }
+    items.resize(count);
+    return items;
+  }
+  // What all causes had given the movers.
+  [[nodiscard]] dm_sum total() const {
+    dm_sum sum{};
+    must(dm_frame_total(held, &sum));
+    return sum;
+  }
+  // How many calls the world had accepted.
+  [[nodiscard]] std::uint64_t calls() const { return dm_frame_calls(held); }
+  // For the calls of C.
+  dm_frame get() const { return held; }
+
+ private:
+  friend class world;
+  frame() = default;
+  dm_frame held{};
+};
+
 // ---- a world ----
 
 class world {
@@ -208,6 +269,12 @@ class world {
   void push_at(body_id body, dm_vec by, dm_vec offset) { must(try_push_at(body, by, offset)); }
   void set_pose(body_id body, dm_vec place, dm_rot facing) { must(try_set_pose(body, place, facing)); }
   void set_velocity(body_id body, dm_vec velocity, std::int64_t spin = 0) { must(try_set_velocity(body, velocity, spin)); }
+  // A mover's velocity and its spin, by pushes. An angular impulse is two, a push beside the centre and the opposite one at it: `dm_twist` says more.
+  void push_to(body_id body, dm_vec velocity) { must(try_push_to(body, velocity)); }
+  void twist(body_id body, std::int64_t by) { must(try_twist(body, by)); }
+  void twist_to(body_id body, std::int64_t spin) { must(try_twist_to(body, spin)); }
+  // The course that leads a kinematic body to a pose in a step of so many ticks, and that it keeps.
+  void set_target(body_id body, dm_vec place, dm_rot facing, std::int64_t ticks) { must(try_set_target(body, place, facing, ticks)); }
   void set_gravity(dm_vec gravity) { must(try_set_gravity(gravity)); }
   void disable(body_id body) { must(try_disable(body)); }
   void enable(body_id body) { must(try_enable(body)); }
@@ -220,6 +287,12 @@ class world {
   [[nodiscard]] dm_status try_set_pose(body_id body, dm_vec place, dm_rot facing) { return dm_set_pose(&held, body.handle(), place, facing); }
   [[nodiscard]] dm_status try_set_velocity(body_id body, dm_vec velocity, std::int64_t spin = 0) {
     return dm_set_velocity(&held, body.handle(), velocity, spin);
+  }
+  [[nodiscard]] dm_status try_push_to(body_id body, dm_vec velocity) { return dm_push_to(&held, body.handle(), velocity); }
+  [[nodiscard]] dm_status try_twist(body_id body, std::int64_t by) { return dm_twist(&held, body.handle(), by); }
+  [[nodiscard]] dm_status try_twist_to(body_id body, std::int64_t spin) { return dm_twist_to(&held, body.handle(), spin); }
+  [[nodiscard]] dm_status try_set_target(body_id body, dm_vec place, dm_rot facing, std::int64_t ticks) {
+    return dm_set_target(&held, body.handle(), place, facing, ticks);
   }
   [[nodiscard]] dm_status try_set_gravity(dm_vec gravity) { return dm_set_gravity(&held, gravity); }
   [[nodiscard]] dm_status try_disable(body_id body) { return dm_disable(&held, body.handle()); }
@@ -257,6 +330,27 @@ class world {
   [[nodiscard]] std::vector<dm_pair> ended() const { return all<dm_pair>(dm_ended); }
   [[nodiscard]] std::vector<body_id> slept() const { return ids(dm_slept); }
   [[nodiscard]] std::vector<body_id> woke() const { return ids(dm_woke); }
+  // Drops the events that were kept; from now on those of each step are kept, or none are.
+  void clear_events(bool keeps = true) { must(dm_events_clear(&held, keeps ? 1 : 0)); }
+  // Those of all steps since then, step by step. They stay.
+  void events_into(std::vector<dm_event> &out) const {
+    std::size_t count = 0;
+    if (out.empty()) out.resize(32);
+    must(dm_events(&held, out.data(), out.size(), &count));
+    if (count > out.size()) {
+      out.resize(count);
+      must(dm_events(&held, out.data(), out.size(), &count));
+    }
+    out.resize(count);
+  }
+  [[nodiscard]] std::vector<dm_event> events() const {
+    std::vector<dm_event> told;
+    events_into(told);
+    return told;
+  }
+  // A number of the program's own for a body, which its view and its events have.
+  void set_tag(body_id body, std::uint64_t tag) { must(dm_set_tag(&held, body.handle(), tag)); }
+  [[nodiscard]] std::uint64_t tag(body_id body) const { return dm_tag(&held, body.handle()); }
   [[nodiscard]] std::vector<dm_contact> contacts() const {
     std::size_t count = 0;
     must(dm_contacts(&held, &count));
@@ -275,6 +369,14 @@ class world {
     must(status);
     return view;
   }
+  // The velocity and the spin of a body, whatever its kind; nothing where the id names none.
+  [[nodiscard]] std::optional<dm_course> motion(body_id body) const {
+    dm_course course{};
+    const dm_status status = dm_motion(&held, body.handle(), &course);
+    if (status == DM_STALE_HANDLE) return std::nullopt;
+    must(status);
+    return course;
+  }
   // The first shape on the way; nothing where there is none.
   [[nodiscard]] std::optional<dm_hit> ray(dm_vec from, dm_vec along) const {
     dm_hit hit{};
@@ -286,6 +388,13 @@ class world {
     dm_hit hit{};
     must(dm_ray_through(&held, from, along, &filter, &hit));
     return hit.is_hit ? std::optional<dm_hit>(hit) : std::nullopt;
+  }
+  // What the ray hits of one shape, as it lies now: the point and the normal of a hit. Nothing where it misses, or where there is no such shape.
+  [[nodiscard]] std::optional<dm_shape_hit> ray_on(dm_shape_id shape, dm_vec from, dm_vec along) const {
+    dm_shape_hit hit{};
+    const dm_status status = dm_ray_on_shape(&held, from, along, shape, &hit);
+    if (status != DM_STALE_HANDLE) must(status);
+    return hit.is_hit ? std::optional<dm_shape_hit>(hit) : std::nullopt;
   }
   // All hits on the way, the nearest first. A way of {0, 0} hits the shapes that the start lies in.
   [[nodiscard]] std::vector<dm_hit> all_hits(dm_vec from, dm_vec along, const dm_filter &filter = {}) const {
@@ -345,6 +454,13 @@ class world {
   }
   [[nodiscard]] std::uint64_t steps() const { return dm_steps(&held); }
   [[nodiscard]] dm_vec gravity() const { return dm_gravity(&held); }
+
+  // What it shows now, for readers in other threads.
+  [[nodiscard]] frame take_frame() const {
+    frame made;
+    must(dm_frame_take(&held, &made.held));
+    return made;
+  }
 
   // The world as JSON.
   [[nodiscard]] std::string save() const {
@@ -410,6 +526,47 @@ class world {
   }
   // (a call that only looks writes to the struct too, for as long as it lasts)
   mutable dm_world held{};
+};
+
+// ---- a journal ----
+
+// The calls that a world accepted since it was opened, from which it can be made again: each command of the world goes by `apply`.
+class journal {
+ public:
+  // Of this world, which is opened anew with this gravity.
+  journal(world &of, dm_vec gravity) { must(dm_journal_open(&held, of.get(), gravity)); }
+  journal(journal &&other) noexcept : held(std::exchange(other.held, dm_journal{})) {}
+  journal &operator=(journal &&other) noexcept {
+    if (this != &other) {
+      dm_journal_close(&held);
+      held = std::exchange(other.held, dm_journal{});
+    }
+    return *this;
+  }
+  journal(const journal &) = delete;
+  journal &operator=(const journal &) = delete;
+  ~journal() { dm_journal_close(&held); }
+
+  // Applies a command, and keeps it where it is accepted. The answer has the status, and what was made.
+  dm_answer apply(world &of, const dm_command &command, const std::vector<dm_shape> &shapes = {}) {
+    dm_answer answer{};
+    dm_command whole = command;
+    whole.shapes_count = static_cast<std::uint32_t>(shapes.size());
+    static_cast<void>(dm_journal_apply(&held, of.get(), &whole, shapes.data(), &answer));
+    return answer;
+  }
+  // A world with the same digest.
+  [[nodiscard]] world replay() const {
+    world made = world(held.gravity);
+    must(dm_journal_replay(&held, made.get()));
+    return made;
+  }
+  // Its commands and their shapes, as `apply_all` takes them.
+  [[nodiscard]] std::vector<dm_command> commands() const { return {held.commands, held.commands + held.commands_len}; }
+  [[nodiscard]] std::vector<dm_shape> shapes() const { return {held.shapes, held.shapes + held.shapes_len}; }
+
+ private:
+  dm_journal held{};
 };
 
 } // namespace dm

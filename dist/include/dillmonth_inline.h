@@ -77,6 +77,20 @@ DM_KEEP static inline dm_status dm_advance(dm_world *world, int64_t ticks) {
   return status;
 }
 
+/* ---- questions ---- */
+
+/* Where a ray that began at `from` hit something: `along` times the fraction, in 2^24ths, to the nearest. */
+static inline int64_t dm_part(int64_t way, uint32_t fraction) {
+  int64_t product = way * (int64_t)fraction; /* a way is within 2^28, and a fraction within 2^24 */
+  return (product + (product < 0 ? -((int64_t)1 << 23) : (int64_t)1 << 23)) / ((int64_t)1 << 24);
+}
+static inline dm_vec dm_hit_point(dm_vec from, dm_vec along, dm_hit hit) {
+  dm_vec point;
+  point.x = from.x + dm_part(along.x, hit.fraction);
+  point.y = from.y + dm_part(along.y, hit.fraction);
+  return point;
+}
+
 /* ---- units ---- */
 
 static inline int64_t dm_nearest(double value) {

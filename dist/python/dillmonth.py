@@ -32,7 +32,7 @@ import threading
 from ctypes import POINTER, byref, c_int32, c_int64, c_size_t, c_uint8, c_uint32, c_uint64
 from enum import IntEnum
 from pathlib import Path
-from typing import Any, Dict, Iterator, NamedTuple, Optional, Sequence, Tuple, Union
+from typing import Any, Dict, Iterator, List, NamedTuple, Optional, Sequence, Tuple, Union
 
 VERSION = 1  # of the calls
 RATE = 240  # ticks a second, on all pages: a frame of 60 a second is four steps of one tick. A world doesn't know it
@@ -274,7 +274,7 @@ class View(Struct):
     """What is seen of a body: its pose, the momentum `p`, the angular momentum `l`, and of a kinematic body velocity and spin."""
 
     _fields_ = [("pose", Pose), ("p", Vec), ("l_low", c_uint64), ("l_high", c_int64), ("velocity", Vec), ("spin", c_int64),
-                ("set", c_uint32), ("island", c_uint32)]
+                ("set", c_uint32), ("island", c_uint32), ("tag", c_uint64)]
 
     @property
     def l(self) -> int:  # noqa: E743
@@ -282,13 +282,47 @@ class View(Struct):
         return (self.l_high << 64) + self.l_low
 
 
+class Course(Struct):
+    """A velocity in u/tick, and a spin: the tangent of the turn of a tick, times 2^30."""
+
+    _fields_ = [("velocity", Vec), ("spin", c_int64)]
+
+
+class ContactPoint(Struct):
+    """A point where two shapes touch: its offset is from the centre of the first shape's body, its impulses are along the normal and across it. All zeros where
+    there is none."""
+
+    _fields_ = [("offset", Vec), ("separation", c_int64), ("normal_impulse", c_int64), ("tangent_impulse", c_int64)]
+
+
 class Contact(Struct):
-    _fields_ = [("pair", Pair), ("points", c_uint32), ("unused", c_uint32), ("normal", Vec), ("first_offset", Vec), ("second_offset", Vec),
-                ("first_impulse", c_int64), ("second_impulse", c_int64)]
+    """Two near shapes, with up to two points where they touch. The normal leads from the first shape to the second, times 2^30."""
+
+    _fields_ = [("pair", Pair), ("points", c_uint32), ("unused", c_uint32), ("normal", Vec), ("first", ContactPoint), ("second", ContactPoint)]
+
+
+class EventKind(IntEnum):
+    BEGUN = 0
+    ENDED = 1
+    SLEPT = 2
+    WOKE = 3
+
+
+class Event(Struct):
+    """What happened in a step to the shapes of two bodies, or to the body `first`. The tags are those that they had then, the contact is as the step left it."""
+
+    _fields_ = [("step", c_uint64), ("kind", c_uint32), ("unused", c_uint32), ("first", Handle), ("second", Handle), ("first_tag", c_uint64),
+                ("second_tag", c_uint64), ("contact", Contact)]
 
 
 class Hit(Struct):
     _fields_ = [("is_hit", c_uint32), ("fraction", c_uint32), ("shape", ShapeId)]
+
+
+class ShapeHit(Struct):
+    """Where a ray hits a shape: how far along the way, in 2^24ths, the point, and how the surface faces there, times 2^30."""
+
+    _fields_ = [("is_hit", c_uint32), ("fraction", c_uint32), ("point", Vec), ("normal", Vec)]
 
 
 class Filter(Struct):
@@ -367,7 +401,7 @@ def fields_of(form: Any) -> Any:
     return [(name, names[kind] if kind in names else fields_of(kind)) for name, kind in form._fields_]
 
 
-HANDLE, PAIR, CONTACT, COMMAND, ANSWER, SHAPE = map(fields_of, (Handle, Pair, Contact, Command, Answer, Shape))
+HANDLE, PAIR, CONTACT, EVENT, COMMAND, ANSWER, SHAPE = map(fields_of, (Handle, Pair, Contact, Event, Command, Answer, Shape))
 
 
 # ---- units: each is one rounding, to the nearest and halves away from zero, so that peers with the same numbers get the same ones ----
@@ -535,6 +569,10 @@ def find_library() -> str:
     raise OSError(f"{name} isn't there: a wheel has it, and bindings/build makes it")
 
 
+class HeldFrame(ctypes.Structure):
+    _fields_ = [("at", ctypes.c_void_p)]
+
+
 W, S, U32 = POINTER(Held), c_size_t, c_uint32
 CALLS = {
     "dm_version": (U32, []),
@@ -546,6 +584,10 @@ CALLS = {
     "dm_destroy_joint": (U32, [W, Handle]),
     "dm_push": (U32, [W, Handle, Vec]), "dm_push_at": (U32, [W, Handle, Vec, Vec]),
     "dm_set_pose": (U32, [W, Handle, Vec, Rot]), "dm_set_velocity": (U32, [W, Handle, Vec, c_int64]),
+    "dm_push_to": (U32, [W, Handle, Vec]), "dm_twist": (U32, [W, Handle, c_int64]), "dm_twist_to": (U32, [W, Handle, c_int64]),
+    "dm_set_target": (U32, [W, Handle, Vec, Rot, c_int64]), "dm_motion": (U32, [W, Handle, POINTER(Course)]),
+    "dm_events_clear": (U32, [W, U32]), "dm_events": (U32, [W, POINTER(Event), S, POINTER(S)]),
+    "dm_set_tag": (U32, [W, Handle, c_uint64]), "dm_tag": (c_uint64, [W, Handle]),
     "dm_set_gravity": (U32, [W, Vec]),
     "dm_disable": (U32, [W, Handle]), "dm_enable": (U32, [W, Handle]), "dm_wake": (U32, [W, Handle]), "dm_sleep": (U32, [W, Handle]),
     "dm_step": (U32, [W, c_int64, POINTER(c_uint64)]),
@@ -559,6 +601,7 @@ CALLS = {
     "dm_region": (U32, [W, POINTER(Box), POINTER(S)]), "dm_region_found": (S, [W, POINTER(ShapeId), S]),
     "dm_ray_through": (U32, [W, Vec, Vec, POINTER(Filter), POINTER(Hit)]),
     "dm_ray_all": (U32, [W, Vec, Vec, POINTER(Filter), POINTER(S)]), "dm_hits_found": (S, [W, POINTER(Hit), S]),
+    "dm_ray_on_shape": (U32, [W, Vec, Vec, ShapeId, POINTER(ShapeHit)]),
     "dm_region_through": (U32, [W, POINTER(Box), POINTER(Filter), POINTER(S)]),
     "dm_info": (U32, [W, Handle, POINTER(Info)]), "dm_shapes": (U32, [W, Handle, POINTER(Shape), S, POINTER(S)]),
     "dm_joints_of": (U32, [W, Handle, POINTER(Handle), S, POINTER(S)]),
@@ -568,6 +611,10 @@ CALLS = {
     "dm_count": (U32, [W, POINTER(Counts)]), "dm_total_of": (U32, [W, U32, POINTER(Sum)]), "dm_total": (U32, [W, POINTER(Sum)]),
     "dm_rules": (U32, []),
     "dm_contacts": (U32, [W, POINTER(S)]), "dm_contacts_listed": (S, [W, POINTER(Contact), S]),
+    "dm_frame_take": (U32, [W, POINTER(HeldFrame)]), "dm_frame_drop": (None, [POINTER(HeldFrame)]),
+    "dm_frame_pose": (U32, [HeldFrame, Handle, POINTER(Pose)]), "dm_frame_ray": (U32, [HeldFrame, Vec, Vec, POINTER(Hit)]),
+    "dm_frame_region": (U32, [HeldFrame, POINTER(Box), POINTER(ShapeId), S, POINTER(S)]),
+    "dm_frame_total": (U32, [HeldFrame, POINTER(Sum)]), "dm_frame_calls": (c_uint64, [HeldFrame]),
     "dm_save": (U32, [W, POINTER(S)]), "dm_saved": (S, [W, POINTER(c_uint8), S]),
     "dm_load": (U32, [W, POINTER(c_uint8), S, POINTER(U32)]),
     "dm_digest": (U32, [W, POINTER(c_uint8), S]),
@@ -614,6 +661,50 @@ def array_of(form: Any, items: Any) -> Tuple[Any, int]:
 def must(status: int, clause: int = 0) -> None:
     if status:
         raise Refused(status, clause)
+
+
+class Frame:
+    """What a world shows at one moment: `World.frame` takes one. It never changes, and outlives the world. Any number of threads may read one at once, with no lock,
+    also while the world steps. It is dropped when nothing names it any more."""
+
+    def __init__(self, calls: ctypes.CDLL) -> None:
+        self._calls, self.held = calls, HeldFrame()
+
+    def __del__(self) -> None:
+        if getattr(self, "held", None) is not None:
+            self._calls.dm_frame_drop(byref(self.held))
+
+    def pose(self, body: Handle) -> Optional[Pose]:
+        """Where an enabled body was, or None where the id named none."""
+        pose = Pose()
+        status = self._calls.dm_frame_pose(self.held, body, byref(pose))
+        if status == Status.STALE_HANDLE:
+            return None
+        must(status)
+        return pose
+
+    def ray(self, start: Place, along: Place) -> Optional[Hit]:
+        """The first hit, or None."""
+        hit = Hit()
+        must(self._calls.dm_frame_ray(self.held, vec(start), vec(along), byref(hit)))
+        return hit if hit.is_hit else None
+
+    def region(self, lo: Place, hi: Place, room: int = 64) -> Any:
+        """The shapes whose boxes met a box."""
+        found, count = (ShapeId * room)(), S()
+        must(self._calls.dm_frame_region(self.held, byref(Box(vec(lo), vec(hi))), found, room, byref(count)))
+        return self.region(lo, hi, count.value) if count.value > room else (ShapeId * count.value).from_buffer(found)
+
+    def total(self) -> Tuple[int, int]:
+        """What all causes had given the movers, in mass·u/tick."""
+        total = Sum()
+        must(self._calls.dm_frame_total(self.held, byref(total)))
+        return total.pair
+
+    @property
+    def calls(self) -> int:
+        """How many calls the world had accepted."""
+        return self._calls.dm_frame_calls(self.held)
 
 
 class World:
@@ -707,6 +798,46 @@ class World:
     def set_velocity(self, body: Handle, velocity: Place, spin: int = 0) -> None:
         """Of a kinematic body."""
         must(self._ask(self._calls.dm_set_velocity, body, vec(velocity), fitting(spin, c_int64, "spin")))
+
+    def push_to(self, body: Handle, velocity: Place) -> None:
+        """Gives a dynamic body a velocity, by one push."""
+        must(self._ask(self._calls.dm_push_to, body, vec(velocity)))
+
+    def twist(self, body: Handle, by: int) -> None:
+        """Gives a dynamic body an angular impulse, in mass·u²/tick: a push beside its centre, and the opposite one at it. Up to 2^40 it is met, up to 2^60 to the
+        nearest 2^20. NO_MEMORY and WORN_OUT may come between the two, and the first one then stays."""
+        must(self._ask(self._calls.dm_twist, body, fitting(by, c_int64, "by")))
+
+    def twist_to(self, body: Handle, spin: int) -> None:
+        """Gives a dynamic body a spin, by a twist."""
+        must(self._ask(self._calls.dm_twist_to, body, fitting(spin, c_int64, "spin")))
+
+    def set_target(self, body: Handle, at: Place, facing: Turn = (ONE, 0), ticks: int = 1) -> None:
+        """Gives a kinematic body the course that leads it to a pose in a step of so many ticks, which it keeps after that step."""
+        must(self._ask(self._calls.dm_set_target, body, vec(at), rot(facing), fitting(ticks, c_int64, "ticks")))
+
+    def set_tag(self, body: Handle, tag: int) -> None:
+        """Gives a body a number of the program's own, which its view and its events have. No save and no digest has it."""
+        must(self._ask(self._calls.dm_set_tag, body, fitting(tag, c_uint64, "tag")))
+
+    def tag(self, body: Handle) -> int:
+        """The tag of a body, or 0."""
+        return self._ask(self._calls.dm_tag, body)
+
+    def clear_events(self, keeps: bool = True) -> None:
+        """Drops the events that were kept; from now on those of each step are kept, or none are."""
+        must(self._ask(self._calls.dm_events_clear, int(keeps)))
+
+    def events(self) -> Any:
+        """The events of all steps since `clear_events`, step by step. They stay."""
+        count, room = S(), 64
+        with self._lock:
+            while True:
+                out = (Event * room)()
+                must(self._ask(self._calls.dm_events, out, room, byref(count)))
+                if count.value <= room:
+                    return (Event * count.value).from_buffer(out)
+                room = count.value
 
     def set_gravity(self, gravity: Place) -> None:
         must(self._ask(self._calls.dm_set_gravity, vec(gravity)))
@@ -805,6 +936,14 @@ class World:
         must(self._ask(self._calls.dm_ray_through, vec(start), vec(along), byref(through or Filter()), byref(hit)))
         return hit if hit.is_hit else None
 
+    def ray_on(self, shape: ShapeId, start: Place, along: Place) -> Optional[ShapeHit]:
+        """What a ray hits of one shape, as it lies now: the point and the normal of a hit. None where it misses, or where there is no such shape."""
+        hit = ShapeHit()
+        status = self._ask(self._calls.dm_ray_on_shape, vec(start), vec(along), shape, byref(hit))
+        if status != Status.STALE_HANDLE:
+            must(status)
+        return hit if hit.is_hit else None
+
     def all_hits(self, start: Place, along: Place = (0, 0), through: Optional[Filter] = None) -> Any:
         """All hits on the way, the nearest first. A way of zero hits the shapes that the start lies in."""
         count = S()
@@ -888,6 +1027,10 @@ class World:
         must(status)
         return view
 
+    def motion(self, handle: Handle) -> Optional[Course]:
+        """The velocity and the spin of a body, whatever its kind, or None where the id names none."""
+        return self._seen(self._calls.dm_motion, handle, Course)
+
     @property
     def steps(self) -> int:
         """How many steps were accepted."""
@@ -896,6 +1039,12 @@ class World:
     @property
     def gravity(self) -> Vec:
         return self._ask(self._calls.dm_gravity)
+
+    def frame(self) -> Frame:
+        """What it shows now, for readers in other threads."""
+        frame = Frame(self._calls)
+        must(self._ask(self._calls.dm_frame_take, byref(frame.held)))
+        return frame
 
     # ---- keeping ----
 
@@ -913,3 +1062,30 @@ class World:
         out = (c_uint8 * 32)()
         must(self._ask(self._calls.dm_digest, out, 32))
         return bytes(out)
+
+
+class Journal:
+    """A world with the calls that it accepted since it was opened, from which it can be made again: each command of `world` goes by `apply`."""
+
+    def __init__(self, gravity: Place = (0, 0)) -> None:
+        self.gravity, self.world = vec(gravity), World(gravity)
+        self.commands: List[Command] = []
+        self.shapes: List[Shape] = []
+
+    def apply(self, command: Command, shapes: Sequence[Shape] = ()) -> Answer:
+        """Applies a command, and keeps it where it is accepted. The answer has the status, and what was made."""
+        kept = Command.from_buffer_copy(bytes(command))  # type: ignore[call-overload]
+        kept.shapes_from, kept.shapes_count = 0, len(shapes)
+        answer = self.world.apply_all([kept], list(shapes))[0]
+        if answer.status == Status.DONE:
+            kept.shapes_from = len(self.shapes)
+            self.commands.append(kept)
+            self.shapes.extend(shapes)
+        return answer
+
+    def replay(self) -> World:
+        """A world with the same digest."""
+        world = World(self.gravity)
+        for answer in world.apply_all(self.commands, self.shapes):
+            must(answer.status)
+        return world

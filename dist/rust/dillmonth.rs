@@ -62,16 +62,24 @@ values! {
     pub Pair { first: ShapeId, second: ShapeId }
     pub Box2 { lo: Vec2, hi: Vec2 }
     pub Pose { body: BodyId, at: Vec2, facing: Rot }
-    /// Two near shapes, with up to two points where they touch: the offsets are from the centre of the first shape's body, the normal leads from the first
-    /// shape to the second, times 2^30.
-    pub Contact { pair: Pair, points: u32, unused: u32, normal: Vec2, first_offset: Vec2, second_offset: Vec2, first_impulse: i64, second_impulse: i64 }
+    /// A point where two shapes touch: its offset is from the centre of the first shape's body, its separation below 0 where they overlap, its impulses are along
+    /// the normal and across it. All zeros where there is none.
+    pub ContactPoint { offset: Vec2, separation: i64, normal_impulse: i64, tangent_impulse: i64 }
+    /// Two near shapes, with up to two points where they touch. The normal leads from the first shape to the second, times 2^30.
+    pub Contact { pair: Pair, points: u32, unused: u32, normal: Vec2, first: ContactPoint, second: ContactPoint }
+    /// A velocity in u/tick, and a spin: the tangent of the turn of a tick, times 2^30.
+    pub Course { velocity: Vec2, spin: i64 }
+    RawEvent { step: u64, kind: u32, unused: u32, first: BodyId, second: BodyId, first_tag: u64, second_tag: u64, contact: Contact }
     RawShape { form: u32, group: i32, first: Vec2, second: Vec2, radius: i64, friction: i64, restitution: i64, category: u64, mask: u64 }
     RawBodyDef { kind: u32, unused: u32, at: Vec2, facing: Rot, mass: i64, inertia: i64, velocity: Vec2, spin: i64 }
     RawJointDef { a: BodyId, b: BodyId, from: Vec2, to: Vec2, length: i64, collide: u32, unused: u32 }
-    RawView { pose: Pose, p: Vec2, l_low: u64, l_high: i64, velocity: Vec2, spin: i64, set: u32, island: u32 }
+    RawView { pose: Pose, p: Vec2, l_low: u64, l_high: i64, velocity: Vec2, spin: i64, set: u32, island: u32, tag: u64 }
     /// How much there is of a world: `awake` counts movers, `contacts` near shapes, `colours` those that some constraint has.
     pub Counts { bodies: usize, awake: usize, joints: usize, contacts: usize, touching: usize, islands: usize, colours: usize }
     RawHit { is_hit: u32, fraction: u32, shape: ShapeId }
+    /// Where a ray hits a shape: how far along the way, in 2^24ths, the point, and how the surface faces there, times 2^30.
+    pub ShapeHit { fraction: u32, point: Vec2, normal: Vec2 }
+    RawShapeHit { is_hit: u32, fraction: u32, point: Vec2, normal: Vec2 }
     RawInfo { kind: u32, enabled: u32, mass: i64, inertia: i64, shapes: usize, island: u32, unused: u32 }
     RawJointView { def: RawJointDef, impulse: i64, colour: u32, unused: u32 }
     RawSum { x_low: u64, x_high: i64, y_low: u64, y_high: i64 }
@@ -88,6 +96,12 @@ struct Held {
 // The library says that a world may go to another thread, which then gives it to one call at a time. `World` isn't `Sync`, so that is a matter of types.
 unsafe impl Send for Held {}
 
+#[repr(C)]
+#[derive(Clone, Copy)]
+struct HeldFrame {
+    at: *mut u8,
+}
+
 extern "C" {
     fn dm_version() -> u32;
     fn dm_open(world: *mut Held, gravity: Vec2) -> u32;
@@ -102,6 +116,15 @@ extern "C" {
     fn dm_push_at(world: *mut Held, body: BodyId, by: Vec2, offset: Vec2) -> u32;
     fn dm_set_pose(world: *mut Held, body: BodyId, at: Vec2, facing: Rot) -> u32;
     fn dm_set_velocity(world: *mut Held, body: BodyId, velocity: Vec2, spin: i64) -> u32;
+    fn dm_push_to(world: *mut Held, body: BodyId, velocity: Vec2) -> u32;
+    fn dm_twist(world: *mut Held, body: BodyId, by: i64) -> u32;
+    fn dm_twist_to(world: *mut Held, body: BodyId, spin: i64) -> u32;
+    fn dm_set_target(world: *mut Held, body: BodyId, at: Vec2, facing: Rot, ticks: i64) -> u32;
+    fn dm_motion(world: *mut Held, body: BodyId, out: *mut Course) -> u32;
+    fn dm_events_clear(world: *mut Held, keeps: u32) -> u32;
+    fn dm_events(world: *mut Held, out: *mut RawEvent, room: usize, count: *mut usize) -> u32;
+    fn dm_set_tag(world: *mut Held, body: BodyId, tag: u64) -> u32;
+    fn dm_tag(world: *mut Held, body: BodyId) -> u64;
     fn dm_set_gravity(world: *mut Held, gravity: Vec2) -> u32;
     fn dm_disable(world: *mut Held, body: BodyId) -> u32;
     fn dm_enable(world: *mut Held, body: BodyId) -> u32;
@@ -134,11 +157,19 @@ extern "C" {
     fn dm_ray_through(world: *mut Held, from: Vec2, along: Vec2, filter: *const RawFilter, out: *mut RawHit) -> u32;
     fn dm_ray_all(world: *mut Held, from: Vec2, along: Vec2, filter: *const RawFilter, count: *mut usize) -> u32;
     fn dm_hits_found(world: *mut Held, out: *mut RawHit, room: usize) -> usize;
+    fn dm_ray_on_shape(world: *mut Held, from: Vec2, along: Vec2, shape: ShapeId, out: *mut RawShapeHit) -> u32;
     fn dm_region_through(world: *mut Held, bounds: *const Box2, filter: *const RawFilter, count: *mut usize) -> u32;
     fn dm_region(world: *mut Held, bounds: *const Box2, count: *mut usize) -> u32;
     fn dm_region_found(world: *mut Held, out: *mut ShapeId, room: usize) -> usize;
     fn dm_contacts(world: *mut Held, count: *mut usize) -> u32;
     fn dm_contacts_listed(world: *mut Held, out: *mut Contact, room: usize) -> usize;
+    fn dm_frame_take(world: *mut Held, frame: *mut HeldFrame) -> u32;
+    fn dm_frame_drop(frame: *mut HeldFrame);
+    fn dm_frame_pose(frame: HeldFrame, body: BodyId, out: *mut Pose) -> u32;
+    fn dm_frame_ray(frame: HeldFrame, from: Vec2, along: Vec2, out: *mut RawHit) -> u32;
+    fn dm_frame_region(frame: HeldFrame, bounds: *const Box2, out: *mut ShapeId, room: usize, count: *mut usize) -> u32;
+    fn dm_frame_total(frame: HeldFrame, out: *mut RawSum) -> u32;
+    fn dm_frame_calls(frame: HeldFrame) -> u64;
     fn dm_save(world: *mut Held, bytes: *mut usize) -> u32;
     fn dm_saved(world: *mut Held, out: *mut u8, room: usize) -> usize;
     fn dm_load(world: *mut Held, text: *const u8, count: usize, clause: *mut u32) -> u32;
@@ -726,11 +757,52 @@ pub struct View {
     pub velocity: Vec2,
     pub spin: i64,
     pub set: Set,
+    /// What `set_tag` gave it, or 0.
+    pub tag: u64,
+}
+
+/// A body of an event, with the tag that it had then.
+#[derive(Clone, Copy, Debug, PartialEq, Eq)]
+pub struct Tagged {
+    pub body: BodyId,
+    pub tag: u64,
+}
+
+/// What happened in a step.
+#[derive(Clone, Copy, Debug, PartialEq, Eq)]
+pub enum Happening {
+    /// Two shapes began to touch: the contact is as the step left it.
+    Begun { first: Tagged, second: Tagged, contact: Contact },
+    /// Two shapes ceased to touch.
+    Ended { first: Tagged, second: Tagged, pair: Pair },
+    Slept(Tagged),
+    Woke(Tagged),
+}
+
+/// What happened, and in which step.
+#[derive(Clone, Copy, Debug, PartialEq, Eq)]
+pub struct Event {
+    pub step: u64,
+    pub happening: Happening,
+}
+
+impl Event {
+    fn of(raw: &RawEvent) -> Event {
+        let first = Tagged { body: raw.first, tag: raw.first_tag };
+        let second = Tagged { body: raw.second, tag: raw.second_tag };
+        let happening = match raw.kind {
+            0 => Happening::Begun { first, second, contact: raw.contact },
+            1 => Happening::Ended { first, second, pair: raw.contact.pair },
+            2 => Happening::Slept(first),
+            _ => Happening::Woke(first),
+        };
+        Event { step: raw.step, happening }
+    }
 }
 
 impl View {
     fn of(raw: RawView) -> View {
-        let RawView { pose, p, velocity, spin, .. } = raw;
+        let RawView { pose, p, velocity, spin, tag, .. } = raw;
         let l = i128::from(raw.l_high) << 64 | i128::from(raw.l_low);
         let set = match raw.set {
             0 => Set::Static,
@@ -738,7 +810,7 @@ impl View {
             2 => Set::Awake,
             _ => Set::Asleep(raw.island),
         };
-        View { pose, p, l, velocity, spin, set }
+        View { pose, p, l, velocity, spin, set, tag }
     }
 }
 
@@ -825,6 +897,61 @@ impl World {
         outcome(unsafe { dm_set_velocity(self.raw(), body, velocity, spin) }, 0)
     }
 
+    /// Gives a dynamic body a velocity, by one push.
+    pub fn push_to(&mut self, body: BodyId, velocity: Vec2) -> Result<(), Refused> {
+        outcome(unsafe { dm_push_to(self.raw(), body, velocity) }, 0)
+    }
+
+    /// Gives a dynamic body an angular impulse, in mass·u²/tick: a push beside its centre, and the opposite one at it. Up to 2^40 it is met, up to 2^60 to the
+    /// nearest 2^20. `NoMemory` and `WornOut` may come between the two, and the first one then stays.
+    pub fn twist(&mut self, body: BodyId, by: i64) -> Result<(), Refused> {
+        outcome(unsafe { dm_twist(self.raw(), body, by) }, 0)
+    }
+
+    /// Gives a dynamic body a spin, by a twist.
+    pub fn twist_to(&mut self, body: BodyId, spin: i64) -> Result<(), Refused> {
+        outcome(unsafe { dm_twist_to(self.raw(), body, spin) }, 0)
+    }
+
+    /// Gives a kinematic body the course that leads it to a pose in a step of so many ticks, which it keeps after that step.
+    pub fn set_target(&mut self, body: BodyId, at: Vec2, facing: Rot, ticks: i64) -> Result<(), Refused> {
+        outcome(unsafe { dm_set_target(self.raw(), body, at, facing, ticks) }, 0)
+    }
+
+    /// The velocity and the spin of a body, whatever its kind; `None` where the id names none.
+    pub fn motion(&self, body: BodyId) -> Option<Course> {
+        let mut course = Course::default();
+        let status = unsafe { dm_motion(self.raw(), body, &mut course) };
+        (status == 0).then_some(course)
+    }
+
+    /// Drops the events that were kept; from now on those of each step are kept, or none are.
+    pub fn clear_events(&mut self, keeps: bool) {
+        unsafe { dm_events_clear(self.raw(), keeps.into()) };
+    }
+
+    /// The events of all steps since `clear_events`, step by step. They stay.
+    pub fn events(&self) -> Result<Vec<Event>, Refused> {
+        let mut raw = vec![RawEvent::default(); 32];
+        let mut count = 0;
+        outcome(unsafe { dm_events(self.raw(), raw.as_mut_ptr(), raw.len(), &mut count) }, 0)?;
+        if count > raw.len() {
+            raw.resize(count, RawEvent::default());
+            outcome(unsafe { dm_events(self.raw(), raw.as_mut_ptr(), raw.len(), &mut count) }, 0)?;
+        }
+        Ok(raw[..count].iter().map(Event::of).collect())
+    }
+
+    /// Gives a body a number of the program's own, which its view and its events have. No save and no digest has it.
+    pub fn set_tag(&mut self, body: BodyId, tag: u64) -> Result<(), Refused> {
+        outcome(unsafe { dm_set_tag(self.raw(), body, tag) }, 0)
+    }
+
+    /// The tag of a body, or 0.
+    pub fn tag(&self, body: BodyId) -> u64 {
+        unsafe { dm_tag(self.raw(), body) }
+    }
+
     pub fn set_gravity(&mut self, gravity: Vec2) -> Result<(), Refused> {
         outcome(unsafe { dm_set_gravity(self.raw(), gravity) }, 0)
     }
@@ -869,6 +996,15 @@ impl World {
         unsafe { dm_apply_all(self.raw(), raw.as_ptr(), raw.len(), shapes.as_ptr(), shapes.len(), answers.as_mut_ptr(), answers.len()) };
         self.settle();
         commands.iter().zip(&answers).map(|(command, answer)| command.reply(answer)).collect()
+    }
+
+    /// One command as it lies in a batch, of these shapes.
+    fn apply_raw(&mut self, raw: &RawCommand, shapes: &[RawShape]) -> Result<RawAnswer, Refused> {
+        let mut answer = RawAnswer::default();
+        match unsafe { dm_apply_all(self.raw(), raw, 1, shapes.as_ptr(), shapes.len(), &mut answer, 1) } {
+            1 => Ok(answer),
+            _ => Err(Refused::NoWorld),
+        }
     }
 
     /// Writes a list over another, whose room is used again.
@@ -956,6 +1092,13 @@ impl World {
         let mut hit = RawHit::default();
         outcome(unsafe { dm_ray_through(self.raw(), from, along, &filter.raw(), &mut hit) }, 0)?;
         Ok((hit.is_hit != 0).then(|| (hit.shape, hit.fraction)))
+    }
+
+    /// What a ray hits of one shape, as it lies now: the point and the normal of a hit. `None` where it misses; refused where there is no such shape.
+    pub fn ray_on(&self, shape: ShapeId, from: Vec2, along: Vec2) -> Result<Option<ShapeHit>, Refused> {
+        let mut hit = RawShapeHit::default();
+        outcome(unsafe { dm_ray_on_shape(self.raw(), from, along, shape, &mut hit) }, 0)?;
+        Ok((hit.is_hit != 0).then(|| ShapeHit { fraction: hit.fraction, point: hit.point, normal: hit.normal }))
     }
 
     /// All that a ray hits, the nearest first. A way of zero hits the shapes that the start lies in.
@@ -1069,6 +1212,13 @@ impl World {
         unsafe { dm_gravity(self.raw()) }
     }
 
+    /// What it shows now, for readers in other threads.
+    pub fn frame(&self) -> Result<Frame, Refused> {
+        let mut frame = Frame { held: HeldFrame { at: std::ptr::null_mut() } };
+        outcome(unsafe { dm_frame_take(self.raw(), &mut frame.held) }, 0)?;
+        Ok(frame)
+    }
+
     /// The world as a text of JSON.
     pub fn save(&self) -> Result<String, Refused> {
         let mut count = 0;
@@ -1089,5 +1239,107 @@ impl World {
 impl Drop for World {
     fn drop(&mut self) {
         unsafe { dm_close(self.raw()) };
+    }
+}
+
+/// What a world shows at one moment: `World::frame` takes one. It never changes, and outlives the world. Any number of threads may read one at once, with no lock,
+/// also while the world steps: an `Arc` shares it, or a scope's borrow.
+pub struct Frame {
+    held: HeldFrame,
+}
+
+// The library says that a frame may go to another thread, and that calls which read one may be at once: they write nothing to it.
+unsafe impl Send for Frame {}
+unsafe impl Sync for Frame {}
+
+impl Frame {
+    /// Where an enabled body was; `None` where the id named none.
+    pub fn pose(&self, body: BodyId) -> Option<Pose> {
+        let mut pose = Pose::default();
+        let status = unsafe { dm_frame_pose(self.held, body, &mut pose) };
+        (status == 0).then(|| pose)
+    }
+
+    /// The first shape that a ray would have hit, and how far along the way, in 2^24ths.
+    pub fn ray(&self, from: Vec2, along: Vec2) -> Result<Option<(ShapeId, u32)>, Refused> {
+        let mut hit = RawHit::default();
+        outcome(unsafe { dm_frame_ray(self.held, from, along, &mut hit) }, 0)?;
+        Ok((hit.is_hit != 0).then(|| (hit.shape, hit.fraction)))
+    }
+
+    /// The shapes whose boxes met a box, ascending.
+    pub fn region(&self, bounds: Box2) -> Result<Vec<ShapeId>, Refused> {
+        let (mut found, mut count) = (vec![ShapeId::default(); 32], 0);
+        outcome(unsafe { dm_frame_region(self.held, &bounds, found.as_mut_ptr(), found.len(), &mut count) }, 0)?;
+        if count > found.len() {
+            found.resize(count, ShapeId::default());
+            outcome(unsafe { dm_frame_region(self.held, &bounds, found.as_mut_ptr(), found.len(), &mut count) }, 0)?;
+        }
+        found.truncate(count);
+        Ok(found)
+    }
+
+    /// What all causes had given the movers: their momentum.
+    pub fn total(&self) -> (i128, i128) {
+        let mut sum = RawSum::default();
+        unsafe { dm_frame_total(self.held, &mut sum) };
+        sum_of(sum)
+    }
+
+    /// How many calls the world had accepted.
+    pub fn calls(&self) -> u64 {
+        unsafe { dm_frame_calls(self.held) }
+    }
+}
+
+impl Drop for Frame {
+    fn drop(&mut self) {
+        unsafe { dm_frame_drop(&mut self.held) };
+    }
+}
+
+/// The calls that a world accepted since it was opened, from which it can be made again: each command of the world goes by `apply`.
+#[derive(Clone, Debug)]
+pub struct Journal {
+    gravity: Vec2,
+    commands: Vec<RawCommand>,
+    shapes: Vec<RawShape>,
+}
+
+impl Journal {
+    /// An empty world with this gravity, and its journal.
+    pub fn open(gravity: Vec2) -> Result<(World, Journal), Refused> {
+        Ok((World::new(gravity)?, Journal { gravity, commands: Vec::new(), shapes: Vec::new() }))
+    }
+
+    /// Applies a command, and keeps it where it is accepted.
+    pub fn apply(&mut self, world: &mut World, command: &Command) -> Result<Reply, Refused> {
+        let before = self.shapes.len();
+        let raw = command.raw(&mut self.shapes);
+        let reply = world.apply_raw(&raw, &self.shapes).and_then(|answer| command.reply(&answer));
+        match reply {
+            Ok(_) => self.commands.push(raw),
+            Err(_) => self.shapes.truncate(before),
+        }
+        reply
+    }
+
+    /// How many calls there are.
+    pub fn len(&self) -> usize {
+        self.commands.len()
+    }
+
+    pub fn is_empty(&self) -> bool {
+        self.commands.is_empty()
+    }
+
+    /// A world with the same digest.
+    pub fn replay(&self) -> Result<World, Refused> {
+        let mut world = World::new(self.gravity)?;
+        for raw in &self.commands {
+            outcome(world.apply_raw(raw, &self.shapes)?.status, 0)?;
+            world.settle();
+        }
+        Ok(world)
     }
 }

@@ -23,6 +23,7 @@ export const NOBODY: Handle;
 export const STATIC: 0, KINEMATIC: 1, DYNAMIC: 2;
 export const CIRCLE: 0, CAPSULE: 1, SEGMENT: 2;
 export const SETS: readonly ["static", "disabled", "awake", "asleep"];
+export const EVENTS: readonly ["begun", "ended", "slept", "woke"];
 
 export function handleOf(slot: Whole | string, generation: Whole | string): Handle;
 export function slotOf(handle: Handle): number;
@@ -99,15 +100,21 @@ export interface View extends Pose {
   spin: bigint;
   set: 0 | 1 | 2 | 3;
   island: number;
+  tag: bigint;
 }
+export interface Course { velocity: Vec; spin: bigint }
+export interface ContactPoint { offset: Vec; separation: bigint; normalImpulse: bigint; tangentImpulse: bigint }
 export interface Contact {
   a: ShapeId;
   b: ShapeId;
   normal: Vec;
-  offsets: Vec[];
-  impulses: bigint[];
+  points: ContactPoint[];
 }
+export type StepEvent =
+  | { step: bigint; kind: "begun" | "ended"; first: Handle; second: Handle; firstTag: bigint; secondTag: bigint; contact: Contact }
+  | { step: bigint; kind: "slept" | "woke"; body: Handle; tag: bigint };
 export interface Hit { fraction: number; shape: ShapeId }
+export interface ShapeHit { fraction: number; point: Vec; normal: Vec }
 /** Which shapes a question sees: all but those of one body, and those alone whose category meets a mask. */
 export interface Filter { without?: Handle; mask?: bigint | null }
 export interface BodyInfo { kind: 0 | 1 | 2; isEnabled: boolean; mass: bigint; inertia: bigint; shapes: number; island: number | null }
@@ -153,6 +160,16 @@ export class Batch implements Commands<void, void, void> {
   step(ticks: Whole): void;
 }
 
+/** A world with the calls that it accepted since it was opened, from which it can be made again: each command of `world` goes by `applyAll`. */
+export class Journal {
+  constructor(library: Library, gravity?: VecLike);
+  readonly world: World;
+  readonly batch: Batch;
+  applyAll(batch: Batch): Answer[];
+  /** A world with the same digest. */
+  replay(): World;
+}
+
 /** A module that is ready. After a call that traps it is spent: load it anew. */
 export class Library {
   static load(source: Response | Promise<Response> | ArrayBuffer | ArrayBufferView | Promise<ArrayBuffer>): Promise<Library>;
@@ -189,11 +206,21 @@ export class World implements Commands<Handle, void, bigint> {
   slept(): Handle[];
   woke(): Handle[];
   steps(): bigint;
+  pushTo(body: Handle, its: VecLike): void;
+  twist(body: Handle, by: Whole): void;
+  twistTo(body: Handle, turning: Whole): void;
+  setTarget(body: Handle, place: VecLike, facing?: RotLike, ticks?: Whole): void;
+  setTag(body: Handle, tag: Whole): void;
+  tag(body: Handle): bigint;
+  motion(body: Handle): Course | null;
+  clearEvents(keeps?: boolean): void;
+  events(): StepEvent[];
   body(handle: Handle): View | null;
   gravity(): Vec;
   ray(from: VecLike, along: VecLike): Hit | null;
   region(lo: VecLike, hi: VecLike): ShapeId[];
   rayThrough(from: VecLike, along: VecLike, filter: Filter): Hit | null;
+  rayOn(shape: ShapeId, from: VecLike, along: VecLike): ShapeHit | null;
   allHits(from: VecLike, along: VecLike, filter?: Filter): Hit[];
   regionThrough(lo: VecLike, hi: VecLike, filter: Filter): ShapeId[];
   info(body: Handle): BodyInfo | null;
@@ -207,7 +234,20 @@ export class World implements Commands<Handle, void, bigint> {
   count(): Counts;
   total(cause?: number | null): { x: bigint; y: bigint };
   contacts(): Contact[];
+  frame(): Frame;
   save(): string;
   load(text: string): void;
   digest(): string;
+}
+
+/** What a world shows at one moment, until it is closed. It never changes, and outlives the world. */
+export class Frame {
+  private constructor();
+  close(): void;
+  pose(body: Handle): Pose | null;
+  ray(from: VecLike, along: VecLike): Hit | null;
+  region(lo: VecLike, hi: VecLike): ShapeId[];
+  total(): { x: bigint; y: bigint };
+  /** How many calls the world had accepted. */
+  calledTimes(): bigint;
 }

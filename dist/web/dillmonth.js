@@ -23,6 +23,7 @@ export const RATE = 240; // ticks a second, on all pages: a frame of 60 a second
 export const STATIC = 0, KINEMATIC = 1, DYNAMIC = 2;
 export const CIRCLE = 0, CAPSULE = 1, SEGMENT = 2;
 export const SETS = ["static", "disabled", "awake", "asleep"];
+export const EVENTS = ["begun", "ended", "slept", "woke"];
 export const VERSION = 1; // of the calls
 export const NOBODY = 0n; // names no body and no joint, ever
 
@@ -32,7 +33,7 @@ export const generationOf = (handle) => Number(handle >> 32n);
 
 const ORIGIN = { x: 0n, y: 0n };
 const UPRIGHT = { c: ONE, s: 0n };
-const SHAPE_BYTES = 80, POSE_BYTES = 40, CONTACT_BYTES = 88, PAIR_BYTES = 16, ID_BYTES = 8, HIT_BYTES = 16, COMMAND_BYTES = 200, ANSWER_BYTES = 24;
+const SHAPE_BYTES = 80, POSE_BYTES = 40, CONTACT_BYTES = 120, EVENT_BYTES = 168, VIEW_BYTES = 112, PAIR_BYTES = 16, ID_BYTES = 8, HIT_BYTES = 16, COMMAND_BYTES = 200, ANSWER_BYTES = 24;
 const BODY = 16, AT = 24, FACING = 40, VELOCITY = 72, SPIN = 88, JOINT = 96, ID = 96, BY = 160, OFFSET = 176, TICKS = 192; // places in a command
 const NO_WORLD = 32;
 
@@ -212,15 +213,24 @@ class Reader {
   id() { return [this.u32(), this.u32()]; }
   pair() { return [this.id(), this.id()]; }
   pose() { return { handle: this.u64(), at: this.vec(), facing: this.rot() }; }
-  view104() {
+  bodyView() {
     const pose = this.pose(), p = this.vec(), low = this.u64(), high = this.i64();
-    return { ...pose, p, l: (high << 64n) | low, velocity: this.vec(), spin: this.i64(), set: this.u32(), island: this.u32() };
+    return { ...pose, p, l: (high << 64n) | low, velocity: this.vec(), spin: this.i64(), set: this.u32(), island: this.u32(), tag: this.u64() };
   }
+  course() { return { velocity: this.vec(), spin: this.i64() }; }
+  point() { return { offset: this.vec(), separation: this.i64(), normalImpulse: this.i64(), tangentImpulse: this.i64() }; }
   contact() {
-    const [a, b] = this.pair(), points = this.u32();
+    const [a, b] = this.pair(), count = this.u32();
     this.u32();
-    const normal = this.vec(), offsets = [this.vec(), this.vec()], impulses = [this.i64(), this.i64()];
-    return { a, b, normal, offsets: offsets.slice(0, points), impulses: impulses.slice(0, points) };
+    const normal = this.vec(), points = [this.point(), this.point()].slice(0, count);
+    return { a, b, normal, points };
+  }
+  event() {
+    const step = this.u64(), kind = EVENTS[this.u32()];
+    this.u32();
+    const first = this.u64(), second = this.u64(), firstTag = this.u64(), secondTag = this.u64(), contact = this.contact();
+    const ofShapes = kind === "begun" || kind === "ended";
+    return ofShapes ? { step, kind, first, second, firstTag, secondTag, contact } : { step, kind, body: first, tag: firstTag };
   }
   shape() {
     const form = this.u32(), group = this.view.getInt32(this.at, true);
@@ -313,6 +323,42 @@ export class Batch {
   wake(body) { this.add(11, [[ID, "u64", body]]); }
   sleep(body) { this.add(12, [[ID, "u64", body]]); }
   step(ticks) { this.add(13, [[TICKS, "i64", ticks]]); }
+
+  /** Adds a command of another batch, with its shapes. */
+  take(other, at) {
+    const head = new DataView(other.commands.view.buffer, at * COMMAND_BYTES), from = head.getUint32(4, true), count = head.getUint32(8, true);
+    const list = this.shapes.more(count), command = this.commands.more(1), start = command.at;
+    new Uint8Array(list.view.buffer, list.at, count * SHAPE_BYTES).set(new Uint8Array(other.shapes.view.buffer, from * SHAPE_BYTES, count * SHAPE_BYTES));
+    new Uint8Array(command.view.buffer, start, COMMAND_BYTES).set(new Uint8Array(other.commands.view.buffer, at * COMMAND_BYTES, COMMAND_BYTES));
+    command.at = start + 4;
+    command.u32(this.shapes.count);
+    this.shapes.count += count;
+    this.commands.count += 1;
+  }
+}
+
+/** A world with the calls that it accepted since it was opened, from which it can be made again: each command of `world` goes by `applyAll`. */
+export class Journal {
+  constructor(library, gravity = ORIGIN) {
+    this.library = library;
+    this.gravity = gravity;
+    this.world = library.open(gravity);
+    this.batch = new Batch();
+  }
+
+  /** Does the commands of a batch, as a world does, and keeps those that are accepted. */
+  applyAll(batch) {
+    const answers = this.world.applyAll(batch);
+    answers.forEach(({ status }, at) => { if (status === 0) this.batch.take(batch, at); });
+    return answers;
+  }
+
+  /** A world with the same digest. */
+  replay() {
+    const world = this.library.open(this.gravity);
+    for (const { status } of world.applyAll(this.batch)) done(status);
+    return world;
+  }
 }
 
 /** A module that is ready. After a call that traps it is spent: load it anew. */
@@ -354,6 +400,10 @@ export class Library {
     this.calls.dm_close(BigInt(at));
     this.give(at);
   }
+  dropFrame(at) {
+    this.calls.dm_frame_drop(BigInt(at));
+    this.give(at);
+  }
 
   /** Room number `number` of the page's own, for a call's arguments and answers, with so many bytes at least. */
   room(number, bytes) {
@@ -375,8 +425,69 @@ export class Library {
 
 const done = (status, clause = 0) => { if (status !== 0) throw new Refused(status >>> 0, clause); };
 
-/** Gives back what a world holds that nobody names any more. */
-const dropped = typeof FinalizationRegistry === "undefined" ? null : new FinalizationRegistry(({ library, at }) => library.drop(at));
+/** Gives back what a world or a frame holds that nobody names any more. */
+const dropped = typeof FinalizationRegistry === "undefined" ? null : new FinalizationRegistry(({ drop }) => drop());
+
+/**
+ * What a world shows at one moment: its `frame` takes one. It never changes, and outlives the world. A frame that nobody names any more is dropped at some time by
+ * itself: `close` does it now, and so does `using`.
+ */
+export class Frame {
+  constructor(library) {
+    this.library = library;
+    this.calls = library.calls;
+    this.at = library.take(16);
+    library.view().setBigUint64(this.at, 0n, true);
+    const at = this.at;
+    dropped?.register(this, { drop: () => library.dropFrame(at) }, this);
+  }
+
+  /** What a reading call takes. */
+  get held() { return this.at === 0 ? 0n : this.library.view().getBigUint64(this.at, true); }
+
+  close() {
+    if (this.at === 0) return;
+    dropped?.unregister(this);
+    this.library.dropFrame(this.at);
+    this.at = 0;
+  }
+
+  /** Where an enabled body was; null where the id named none. */
+  pose(body) {
+    const at = this.library.room(0, 96), status = this.calls.dm_frame_pose(this.held, uint64(body), BigInt(at));
+    if (status === STALE_HANDLE) return null;
+    done(status);
+    return new Reader(this.library.view(), at).pose();
+  }
+
+  /** The first shape on the way, or null. */
+  ray(from, along) {
+    const at = this.library.room(0, 96);
+    done(this.calls.dm_frame_ray(this.held, int64(from.x), int64(from.y), int64(along.x), int64(along.y), BigInt(at)));
+    const reader = new Reader(this.library.view(), at), isHit = reader.u32() !== 0, fraction = reader.u32();
+    return isHit ? { fraction, shape: reader.id() } : null;
+  }
+
+  /** The shapes whose boxes met a box. */
+  region(lo, hi, fits = 64) {
+    const { library } = this, at = library.room(0, 96), list = library.room(1, ID_BYTES * fits), writer = new Writer(library.view(), at);
+    writer.vec(lo);
+    writer.vec(hi);
+    done(this.calls.dm_frame_region(this.held, BigInt(at), BigInt(list), BigInt(fits), BigInt(at + 32)));
+    const count = Number(library.view().getBigUint64(at + 32, true)), reader = new Reader(library.view(), list);
+    return count > fits ? this.region(lo, hi, count) : Array.from({ length: count }, () => reader.id());
+  }
+
+  /** What all causes had given the movers, in mass·u/tick. */
+  total() {
+    const at = this.library.room(0, 96);
+    done(this.calls.dm_frame_total(this.held, BigInt(at)));
+    return new Reader(this.library.view(), at).sum();
+  }
+
+  /** How many calls the world had accepted. */
+  calledTimes() { return BigInt.asUintN(64, this.calls.dm_frame_calls(this.held)); }
+}
 
 /** A world, until it is closed. A world that nobody names any more is closed at some time by itself: `close` does it now, and so does `using`. */
 export class World {
@@ -385,7 +496,8 @@ export class World {
     this.calls = library.calls;
     this.at = library.take(16);
     library.view().setBigUint64(this.at, 0n, true);
-    dropped?.register(this, { library, at: this.at }, this);
+    const at = this.at;
+    dropped?.register(this, { drop: () => library.drop(at) }, this);
   }
 
   /** Its address in the module's memory. */
@@ -438,6 +550,22 @@ export class World {
     done(this.calls.dm_set_pose(this.world, uint64(body), int64(place.x), int64(place.y), int64(facing.c), int64(facing.s)));
   }
   setVelocity(body, its, turning = 0n) { done(this.calls.dm_set_velocity(this.world, uint64(body), int64(its.x), int64(its.y), int64(turning))); }
+  /** Gives a dynamic body a velocity, by one push. */
+  pushTo(body, its) { done(this.calls.dm_push_to(this.world, uint64(body), int64(its.x), int64(its.y))); }
+  /**
+   * Gives a dynamic body an angular impulse, in mass·u²/tick: a push beside its centre, and the opposite one at it. Up to 2^40 it is met, up to 2^60 to the nearest
+   * 2^20. 1 and 10 may come between the two, and the first one then stays.
+   */
+  twist(body, by) { done(this.calls.dm_twist(this.world, uint64(body), int64(by))); }
+  /** Gives a dynamic body a spin, by a twist. */
+  twistTo(body, turning) { done(this.calls.dm_twist_to(this.world, uint64(body), int64(turning))); }
+  /** Gives a kinematic body the course that leads it to a pose in a step of so many ticks, which it keeps after that step. */
+  setTarget(body, place, facing = UPRIGHT, ticks = 1) {
+    done(this.calls.dm_set_target(this.world, uint64(body), int64(place.x), int64(place.y), int64(facing.c), int64(facing.s), int64(ticks)));
+  }
+  /** Gives a body a number of the program's own, which its view and its events have. No save and no digest has it. */
+  setTag(body, tag) { done(this.calls.dm_set_tag(this.world, uint64(body), uint64(tag))); }
+  tag(body) { return BigInt.asUintN(64, this.calls.dm_tag(this.world, uint64(body))); }
   setGravity(by) { done(this.calls.dm_set_gravity(this.world, int64(by.x), int64(by.y))); }
   disable(body) { done(this.calls.dm_disable(this.world, uint64(body))); }
   enable(body) { done(this.calls.dm_enable(this.world, uint64(body))); }
@@ -512,10 +640,30 @@ export class World {
 
   /** What is known of a body: its pose, momenta, set and island; null where the id names none. */
   body(handle) {
-    const at = this.library.room(0, 104), status = this.calls.dm_body(this.world, uint64(handle), BigInt(at));
+    const at = this.library.room(0, VIEW_BYTES), status = this.calls.dm_body(this.world, uint64(handle), BigInt(at));
     if (status === STALE_HANDLE) return null;
     done(status);
-    return new Reader(this.library.view(), at).view104();
+    return new Reader(this.library.view(), at).bodyView();
+  }
+
+  /** The velocity and the spin of a body, whatever its kind; null where the id names none. */
+  motion(body) { return this.seen(this.calls.dm_motion, uint64(body), (reader) => reader.course()); }
+
+  /** Drops the events that were kept; from now on those of each step are kept, or none are. */
+  clearEvents(keeps = true) { done(this.calls.dm_events_clear(this.world, keeps ? 1 : 0)); }
+
+  /** The events of all steps since `clearEvents`, step by step. They stay. */
+  events() {
+    const { library } = this, count = library.room(0, 96);
+    const ask = (fits) => {
+      const at = library.room(1, EVENT_BYTES * fits);
+      done(this.calls.dm_events(this.world, BigInt(at), BigInt(fits), BigInt(count)));
+      return { at, count: Number(library.view().getBigUint64(count, true)) };
+    };
+    let asked = ask(64);
+    if (asked.count > 64) asked = ask(asked.count);
+    const reader = new Reader(library.view(), asked.at);
+    return Array.from({ length: asked.count }, () => reader.event());
   }
 
   gravity() {
@@ -549,6 +697,16 @@ export class World {
     done(this.calls.dm_ray_through(this.world, int64(from.x), int64(from.y), int64(along.x), int64(along.y), BigInt(at), BigInt(at + 32)));
     const reader = new Reader(this.library.view(), at + 32), isHit = reader.u32() !== 0, fraction = reader.u32();
     return isHit ? { fraction, shape: reader.id() } : null;
+  }
+
+  /** What a ray hits of one shape, as it lies now: the point and the normal of a hit. null where it misses, or where there is no such shape. */
+  rayOn([slot, index], from, along) {
+    const at = this.library.room(0, 96), shape = BigInt(slot) | (BigInt(index) << 32n);
+    const status = this.calls.dm_ray_on_shape(this.world, int64(from.x), int64(from.y), int64(along.x), int64(along.y), uint64(shape), BigInt(at));
+    if (status === 2) return null;
+    done(status);
+    const reader = new Reader(this.library.view(), at), isHit = reader.u32() !== 0, fraction = reader.u32();
+    return isHit ? { fraction, point: reader.vec(), normal: reader.vec() } : null;
   }
 
   /** All hits on the way, the nearest first. A way of zero hits the shapes that the start lies in. */
@@ -623,6 +781,19 @@ export class World {
     return this.list(this.calls.dm_contacts_listed, CONTACT_BYTES, (reader) => reader.contact());
   }
 
+  /** What it shows now. */
+  frame() {
+    const made = new Frame(this.library);
+    let status = NO_WORLD;
+    try {
+      status = this.calls.dm_frame_take(this.world, BigInt(made.at));
+    } finally {
+      if (status !== 0) made.close();
+    }
+    done(status);
+    return made;
+  }
+
   // ---- keeping ----
 
   /** The world as JSON. Its numbers need 64 bits: keep the text as it is. */
@@ -651,4 +822,4 @@ export class World {
   }
 }
 
-if (Symbol.dispose) World.prototype[Symbol.dispose] = function dispose() { this.close(); };
+if (Symbol.dispose) for (const owner of [World, Frame]) owner.prototype[Symbol.dispose] = function dispose() { this.close(); };

@@ -1,35 +1,32 @@
 // Draws a world on a canvas. Lengths are metres here, with y upward, and doubles: nothing that is drawn goes back into the world.
 
-import { slotOf } from "./dillmonth.js";
-import { contentsOf, solverOf } from "./inside.js";
+import { CIRCLE, slotOf } from "./dillmonth.js";
 
 const METRE = 1 << 20, UNIT = 1 << 30;
 const GOLDEN = 137.508; // degrees between the hues of neighbouring numbers
 const LARGE = 300; // bodies
-const SELDOM = 120; // milliseconds between two readings of the solver's part, for each 300 bodies
+const SELDOM = 120; // milliseconds between two questions for islands and colours, for each 300 bodies
 const DISABLED = 1, ASLEEP = 3; // sets
 export const OVERFLOW = 24; // after the solver's colours
 
+const KINDS = ["static", "kinematic", "dynamic"], FORMS = ["circle", "capsule", "segment"];
+
 const metres = (value) => Number(value) / METRE;
+const inMetres = ({ x, y }) => ({ x: metres(x), y: metres(y) });
 const hue = (number) => (10 + number * GOLDEN) % 360;
 const islandHue = (number) => 60 + ((140 + (number * GOLDEN * 260) / 222.5) % 260); // not the reds, which contacts have
 
 /** What is to be drawn of a world: shapes and joints of when the set of bodies was last changed, and poses, islands and contacts of now. */
 export class Picture {
   constructor(world) {
-    const { bodies, joints } = contentsOf(world);
-    this.bodies = new Map([...bodies].map(([slot, body]) => [slot, new PictureBody(body)]));
-    this.joints = joints.map((joint) => new PictureJoint(joint));
-    for (const { handle } of world.poses()) {
-      const body = this.bodies.get(slotOf(handle));
-      if (body) body.handle = handle;
-    }
+    this.bodies = new Map(world.poses().map((pose) => [slotOf(pose.handle), new PictureBody(world, pose)]));
+    this.joints = world.joints().map((joint) => new PictureJoint(joint, world.joint(joint)));
     this.poses = new Float64Array(4 * this.bodies.size);
     this.slots = new Uint32Array(this.bodies.size);
     this.contacts = [];
-    this.solver = { islands: [], contacts: new Map(), joints: [] };
+    this.colours = 0; // that some constraint has
     this.frames = 0;
-    this.asked = 0; // when the solver's part was read
+    this.asked = 0; // when islands and colours were asked for
   }
 
   /** Takes the poses of now, and contacts where they are shown. In large worlds a picture asks for the sets of some bodies only. */
@@ -38,9 +35,9 @@ export class Picture {
     for (let number = 0; number < count; number++) {
       const body = this.bodies.get(this.slots[number]);
       body?.follow(this.poses, 4 * number);
-      if (body?.handle && (!isRunning || this.frames === 0 || (number + this.frames) % rounds === 0)) body.note(world.body(body.handle));
+      if (body && (!isRunning || this.frames === 0 || (number + this.frames) % rounds === 0)) body.note(world.body(body.handle));
     }
-    this.contacts = contacts ? world.contacts().filter((contact) => contact.offsets.length > 0) : [];
+    this.contacts = contacts ? world.contacts().filter((contact) => contact.points.length > 0) : [];
     const now = performance.now();
     if (!isRunning || now - this.asked > SELDOM * rounds) this.ask(world, now);
     this.frames += 1;
@@ -48,9 +45,10 @@ export class Picture {
 
   /** Takes the islands of those that are awake, and the solver's colours. */
   ask(world, now) {
-    this.solver = solverOf(world);
     this.asked = now;
-    for (const [slot, body] of this.bodies) body.island = this.solver.islands[slot];
+    for (const body of this.bodies.values()) body.island = world.info(body.handle)?.island ?? null;
+    for (const joint of this.joints) joint.colour = world.joint(joint.handle)?.colour ?? null;
+    this.colours = world.count().colours;
   }
 
   /** A box with all bodies that move, and those round them that don't: all of these where they are about as large, or else what is near. */
@@ -92,17 +90,19 @@ function boxOf(bodies) {
 }
 
 class PictureBody {
-  constructor(saved) {
-    this.kind = saved.kind;
-    this.mass = saved.mass;
-    this.inertia = saved.inertia;
-    this.shapes = saved.shapes.map((shape) => new PictureShape(shape));
-    this.at = { x: metres(saved.at[0]), y: metres(saved.at[1]) };
-    this.facing = { c: saved.facing[0] / UNIT, s: saved.facing[1] / UNIT };
-    this.handle = null;
-    this.isEnabled = saved.enabled;
-    this.isAsleep = saved.asleep;
-    this.island = saved.island;
+  constructor(world, { handle, at, facing }) {
+    const info = world.info(handle);
+    this.handle = handle;
+    this.kind = KINDS[info.kind];
+    this.mass = Number(info.mass);
+    this.inertia = Number(info.inertia);
+    this.shapes = world.shapes(handle).map((shape) => new PictureShape(shape));
+    this.at = inMetres(at);
+    this.facing = { c: Number(facing.c) / UNIT, s: Number(facing.s) / UNIT };
+    this.isEnabled = info.isEnabled;
+    this.isAsleep = false;
+    this.island = info.island;
+    this.note(world.body(handle));
   }
 
   /** Takes the set and the island of a view. */
@@ -135,19 +135,21 @@ class PictureBody {
 }
 
 class PictureShape {
-  constructor(saved) {
-    this.form = saved.circle ? "circle" : saved.capsule ? "capsule" : "segment";
-    const ends = saved.circle ? [saved.circle] : saved.capsule ?? saved.segment;
-    this.ends = ends.map(([x, y]) => ({ x: metres(x), y: metres(y) }));
-    this.radius = metres(saved.radius ?? 0);
-    this.saved = saved;
+  constructor({ form, first, second, radius, friction, restitution }) {
+    this.form = FORMS[form];
+    this.ends = (form === CIRCLE ? [first] : [first, second]).map(inMetres);
+    this.radius = metres(radius);
+    this.friction = Number(friction);
+    this.restitution = Number(restitution);
   }
 }
 
 class PictureJoint {
-  constructor(saved) {
-    [this.a, this.b] = [saved.a, saved.b].map((id) => Number(id.split(".")[0]));
-    [this.from, this.to] = [saved.from, saved.to].map(([x, y]) => ({ x: metres(x), y: metres(y) }));
+  constructor(handle, { a, b, from, to, colour }) {
+    this.handle = handle;
+    [this.a, this.b] = [slotOf(a), slotOf(b)];
+    [this.from, this.to] = [inMetres(from), inMetres(to)];
+    this.colour = colour;
   }
 }
 
@@ -214,12 +216,10 @@ function tintOf(colour, theme) {
   return colour >= OVERFLOW ? theme.ink : `hsl(${hue(colour)} 85% ${theme.isDark ? 66 : 30}%)`;
 }
 
-/** How many contacts and joints have each of the solver's colours: the colour, what stands for it, and the count. */
+/** How many joints have each of the solver's colours: the colour, what stands for it, and the count. */
 export function legendOf(picture) {
   const counts = new Map(), theme = colours();
-  for (const colour of [...picture.solver.contacts.values(), ...picture.solver.joints]) {
-    if (colour !== null && colour !== undefined) counts.set(colour, (counts.get(colour) ?? 0) + 1);
-  }
+  for (const { colour } of picture.joints) if (colour !== null) counts.set(colour, (counts.get(colour) ?? 0) + 1);
   return [...counts].sort(([a], [b]) => a - b).map(([colour, count]) => ({ colour, tint: tintOf(colour, theme), count }));
 }
 
@@ -253,8 +253,8 @@ export class Painter {
     for (const body of bodies) if (body.kind === "static") this.body(body, shown);
     for (const body of bodies) if (body.kind !== "static") this.body(body, shown);
     if (told) this.ring(told);
-    if (shown.joints) picture.joints.forEach((joint, number) => this.joint(picture, joint, shown.colours && picture.solver.joints[number]));
-    if (shown.contacts) for (const contact of picture.contacts) this.contact(picture, contact, shown);
+    if (shown.joints) for (const joint of picture.joints) this.joint(picture, joint, shown.colours && joint.colour);
+    if (shown.contacts) for (const contact of picture.contacts) this.contact(picture, contact);
     if (shown.numbers) for (const body of bodies) this.number(body);
     if (hand) this.hand(hand);
   }
@@ -391,22 +391,19 @@ export class Painter {
   }
 
   /** The points of a contact, each with its normal: the longer the line, the larger the impulse. */
-  contact(picture, contact, shown) {
+  contact(picture, contact) {
     const { pen, camera, theme } = this, body = picture.bodies.get(contact.a[0]), other = picture.bodies.get(contact.b[0]);
     if (!body || !other) return;
     const movers = [body, other].filter((each) => each.isMover()), isActing = movers.some((each) => !each.isAsleep);
     const mass = Math.min(...movers.map((each) => each.mass)), normal = { x: Number(contact.normal.x) / UNIT, y: Number(contact.normal.y) / UNIT };
-    const number = shown.colours ? picture.solver.contacts.get(`${contact.a} ${contact.b}`) : null;
-    const colour = shown.colours ? this.ofColour(number) : theme.contact;
-    contact.offsets.forEach((offset, point) => {
+    contact.points.forEach(({ offset, normalImpulse }) => {
       const at = camera.toScreen({ x: body.at.x + metres(offset.x), y: body.at.y + metres(offset.y) });
-      const speed = Number(contact.impulses[point]) / mass / 157; // in ticks of the usual gravity
+      const speed = Number(normalImpulse) / mass / 157; // in ticks of the usual gravity
       const size = Math.max(0.45, Math.min(1, camera.scale / 40)); // smaller where bodies are
       const length = isActing ? size * Math.min(4 + 5 * Math.sqrt(speed), 20) : 0, radius = size * (isActing ? 3 : 1.8);
       const along = { x: normal.x * length, y: -normal.y * length };
       if (isActing) this.needle(at, along, radius + 1.5 * size, 1.75 + 2.75 * size, theme.ground);
-      this.needle(at, along, radius, 1.75, isActing ? colour : theme.faint);
-      if (typeof number === "number" && isActing && camera.scale > 24) this.label({ x: at.x + 9, y: at.y - 8 }, nameOf(number), colour);
+      this.needle(at, along, radius, 1.75, isActing ? theme.contact : theme.faint);
     });
   }
 

@@ -21,26 +21,24 @@ function setOf(body) {
   return `${body.isAsleep ? "asleep" : "awake"}, island ${body.island}`;
 }
 
-/** How fast a body is and turns, by what it weighs; a kinematic one as it was told. */
-function motionOf(body, view) {
-  const speed = METRE / TICKS_A_SECOND;
+/** How fast a body is and turns. */
+function motionOf(body, { velocity, spin }) {
   if (body.kind === "static") return { velocity: "none", spin: 0 };
-  if (body.kind === "kinematic") return { velocity: pair(view.velocity, speed, "m/s"), spin: (Number(view.spin) / UNIT) * TICKS_A_SECOND };
-  return { velocity: pair(view.p, speed * body.mass, "m/s"), spin: body.inertia ? (Number(view.l) / body.inertia) * TICKS_A_SECOND : 0 };
+  return { velocity: pair(velocity, METRE / TICKS_A_SECOND, "m/s"), spin: (Number(spin) / UNIT) * TICKS_A_SECOND };
 }
 
-function shapeText({ form, radius, ends, saved }) {
+function shapeText({ form, radius, ends, friction, restitution }) {
   const length = Math.hypot(ends[0].x - ends.at(-1).x, ends[0].y - ends.at(-1).y);
   const size = [form === "circle" ? "" : `${number(length)} m long`, radius ? `radius ${number(radius)} m` : ""].filter(Boolean).join(", ");
-  return `${form}, ${size}\nfriction ${number((saved.friction ?? 0) / SHARE)}, restitution ${number((saved.restitution ?? 0) / SHARE)}`;
+  return `${form}, ${size}\nfriction ${number(friction / SHARE)}, restitution ${number(restitution / SHARE)}`;
 }
 
 /** Of each contact of a body its other body, its points and its impulse; the largest first. */
 function contactTexts(picture, contacts, slot) {
-  const own = contacts.filter((contact) => contact.offsets.length > 0 && (contact.a[0] === slot || contact.b[0] === slot));
+  const own = contacts.filter((contact) => contact.points.length > 0 && (contact.a[0] === slot || contact.b[0] === slot));
   const found = own.map((contact) => {
     const other = picture.bodies.get(contact.a[0] === slot ? contact.b[0] : contact.a[0]);
-    return { other, points: contact.offsets.length, by: contact.impulses.reduce((sum, each) => sum + impulse(each), 0) };
+    return { other, points: contact.points.length, by: contact.points.reduce((sum, each) => sum + impulse(each.normalImpulse), 0) };
   }).sort((a, b) => b.by - a.by);
   const texts = found.slice(0, TOLD).map(({ other, points, by }) => `${other?.handle ? textOf(other.handle) : "?"}: ${points} point${points > 1 ? "s" : ""}, ${number(by)} N s`);
   return found.length > TOLD ? [...texts, `and ${found.length - TOLD} more`] : texts;
@@ -50,7 +48,7 @@ function contactTexts(picture, contacts, slot) {
 export function toldOf(world, picture, slot, contacts) {
   const body = picture.bodies.get(slot), view = body?.handle && world.body(body.handle);
   if (!view) return null;
-  const { velocity, spin } = motionOf(body, view), isDynamic = body.kind === "dynamic";
+  const { velocity, spin } = motionOf(body, world.motion(body.handle)), isDynamic = body.kind === "dynamic";
   const texts = [
     setOf(body),
     `${number(body.at.x, 3)}, ${number(body.at.y, 3)} m`,

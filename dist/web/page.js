@@ -1,12 +1,12 @@
 // The page: scenes that are run, paused, stepped, pulled at, gone back in, saved and loaded, in one world or by two peers.
 
-import { Library, circleMass, metres } from "./dillmonth.js";
+import { Library, Refused, circleMass, metres } from "./dillmonth.js";
 import { Camera, OVERFLOW, Painter, Picture, legendOf, paintStrip } from "./draw.js";
 import { Hands, listenToKeys } from "./hands.js";
 import { LINES, toldOf } from "./inspect.js";
 import { Peers } from "./peers.js";
 import { Run, TICKS_A_SECOND } from "./play.js";
-import { readExact, requestsOf, textOf } from "./script.js";
+import { loadOf, requestsOf, textOf } from "./script.js";
 
 const METRE = 1 << 20;
 const METRES_A_TICK = TICKS_A_SECOND / 16; // gravity in u/tick² is so many 16ths of m/s²
@@ -114,12 +114,17 @@ export class Page {
     this.play("own", text, requests, []);
   }
 
-  /** Loads a saved world in place of the one that is there; its numbers stay exact. */
+  /** Loads a saved world in place of the one that is there. What is refused doesn't come into the script. */
   openWorld(text) {
-    const value = readExact(text), world = value.world ?? value;
+    const line = loadOf(text), trial = this.library.open();
+    try {
+      trial.load(line.world.text);
+    } finally {
+      trial.close();
+    }
     if (this.peers) this.setPeers(false);
-    const answer = this.run.interfere({ do: "load", world });
-    if (answer.refused) throw new Error(`refused ${answer.refused}: the file breaks clause ${answer.clause} of saved worlds`);
+    const answer = this.run.interfere(line);
+    if (answer.refused) throw new Refused(answer.refused, answer.clause);
     this.box = null;
     this.refresh();
     this.fit();
@@ -297,7 +302,7 @@ export class Page {
     write("ticks-shown", `${run.ownTicks ?? ticks} a step`);
     for (const [id, value] of [["gravity", gravity], ["ticks", run.ownTicks ?? ticks]]) if (at(id) !== document.activeElement) at(id).value = value;
     at("legend").hidden = !this.shown.colours;
-    if (this.shown.colours) at("legend").innerHTML = legendOf(picture).map(({ colour, tint, count }) => legendItem(colour, tint, count)).join("");
+    if (this.shown.colours) at("legend").innerHTML = [`<li>in all: ${picture.colours}</li>`, ...legendOf(picture).map(legendItem)].join("");
   }
 
   /** What the canvases are called, for whoever can't see them. */
@@ -437,7 +442,7 @@ export class Page {
   }
 }
 
-function legendItem(colour, tint, count) {
+function legendItem({ colour, tint, count }) {
   return `<li><i style="background:${tint}"></i>${colour >= OVERFLOW ? "overflow" : colour}: ${count}</li>`;
 }
 

@@ -6,6 +6,7 @@ export const TICKS_A_SECOND = 256;
 const KEPT = 10 * TICKS_A_SECOND; // ticks that one can go back
 const BETWEEN = TICKS_A_SECOND / 4, BETWEEN_LARGE = TICKS_A_SECOND; // ticks from one kept world to the next
 const LARGE = 500; // bodies
+const NO_FLOATS = new Float64Array(0); // for how many bodies there are
 const METRE = 1 << 20, UNIT = 1 << 30;
 
 /** Where a run stands. */
@@ -142,7 +143,7 @@ export class Run {
 
   /** Keeps a copy of the world where the last one is old, and lets go of those that are older than can be gone back. */
   keep() {
-    const { kept, now } = this, between = this.player.kinds.size > LARGE ? BETWEEN_LARGE : BETWEEN;
+    const { kept, now } = this, between = this.world.posesInto(NO_FLOATS) > LARGE ? BETWEEN_LARGE : BETWEEN;
     if (kept.length > 0 && now.time - kept.at(-1).now.time < between) return;
     const old = kept.findIndex((each) => each.now.time > now.time - KEPT);
     this.forget(Math.max(0, old - 1));
@@ -189,7 +190,6 @@ export class Run {
   loadFrom(other) {
     this.world.load(other.world.save());
     this.forget(this.kept.length);
-    this.player.kinds = new Map(other.player.kinds);
     this.journal = other.journal.slice(0, other.now.entries);
     this.digests = other.digests.slice(0, other.now.steps);
     this.headTime = other.now.time;

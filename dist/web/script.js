@@ -23,7 +23,7 @@ const WHOLE = /^(?:0|-?[1-9]\d*)$/;
 const NUMBER = /^-?(?:0|[1-9]\d*)(?:\.\d+)?(?:[eE][+-]?\d+)?$/;
 
 /** JSON whose whole numbers become BigInt, since doubles don't hold them. */
-export function readExact(text) {
+function readExact(text) {
   const marked = text.replace(TOKEN, (found) => {
     if (found.startsWith('"')) return found.startsWith('"#') ? `"#${found.slice(1)}` : found;
     return NUMBER.test(found) ? `"#${found}"` : found;
@@ -49,6 +49,12 @@ export function writeExact(value) {
 export function handleOfText(text) {
   const [slot, generation] = text.split(".");
   return handleOf(slot, generation);
+}
+
+/** The request that loads a saved world, or the answer that has one: its text stays as it is, on one line. */
+export function loadOf(text) {
+  const [, world] = /^\s*\{\s*"world"\s*:([^]*)\}\s*$/.exec(text) ?? [null, text];
+  return { do: "load", world: new Verbatim(world.replace(/\s*[\r\n]\s*/g, "").trim()) };
 }
 
 export const textOf = (handle) => `${slotOf(handle)}.${generationOf(handle)}`;
@@ -118,10 +124,11 @@ function events(world, step) {
   return { begin: world.begun(), end: world.ended(), slept: texts(world.slept()), step, woke: texts(world.woke()) };
 }
 
+const CAUSES = ["command", "gravity", "immovable", "clamp", "rest", "departed"];
+
 function ledger(world) {
-  const causes = readExact(world.save()).ledger;
-  const total = [0, 1].map((axis) => Object.values(causes).reduce((sum, pair) => sum + BigInt(pair[axis]), 0n).toString());
-  return { causes, total };
+  const texts = ({ x, y }) => [x.toString(), y.toString()];
+  return { causes: Object.fromEntries(CAUSES.map((name, cause) => [name, texts(world.total(cause))])), total: texts(world.total()) };
 }
 
 /** The keys that a request can't do without. */
@@ -148,17 +155,16 @@ function placeOf(line) {
 export class Player {
   constructor(library) {
     this.world = library.open();
-    this.kinds = new Map(); // of a body's id, which a view doesn't tell
   }
 
   close() { this.world.close(); }
 
   show(line) {
-    const view = this.world.body(handleOfText(line.body));
+    const body = handleOfText(line.body), view = this.world.body(body);
     if (!view) throw new Refused(2);
     const set = view.set < 3 ? SETS[view.set] : `sleeping ${view.island}`;
     const answer = { at: pair(view.at), facing: [view.facing.c, view.facing.s], l: view.l.toString(), p: pair(view.p), set };
-    if (this.kinds.get(line.body) === "kinematic") Object.assign(answer, { velocity: pair(view.velocity), spin: view.spin });
+    if (this.world.info(body).kind === KINEMATIC) Object.assign(answer, { velocity: pair(view.velocity), spin: view.spin });
     return answer;
   }
 
@@ -189,18 +195,10 @@ export class Player {
     }
   }
 
-  note(line, answer) {
-    if (line.do === "create" && answer.body) this.kinds.set(answer.body, line.kind);
-    if (line.do !== "load" || !answer.done) return;
-    this.kinds = new Map(line.world.bodies.flatMap((slot, number) => (slot.body ? [[`${number}.${slot.generation}`, slot.body.kind]] : [])));
-  }
-
   /** The answer to a request, as an object. */
   ask(line) {
     try {
-      const answer = this.does(line);
-      this.note(line, answer);
-      return answer;
+      return this.does(line);
     } catch (error) {
       if (!(error instanceof Refused)) throw badLine(line, error);
       return error.clause ? { clause: error.clause, refused: error.status } : { refused: error.status };
@@ -217,9 +215,8 @@ export class Player {
       bad = badLine(lines[batch.length], error);
     }
     for (const [number, { status, made, step }] of this.world.applyAll(batch).entries()) {
-      const line = lines[number], answer = status ? { refused: status } : this.answerTo(line, line.do === "step" ? step : made);
-      this.note(line, answer);
-      yield [line, answer];
+      const line = lines[number];
+      yield [line, status ? { refused: status } : this.answerTo(line, line.do === "step" ? step : made)];
     }
     if (bad) throw bad;
   }
