@@ -81,7 +81,7 @@ PARTS = {
             "manifolds",
             "Where two shapes touch",
             "The points of a contact: their places, their normal and their separation.",
-            "shapes/src/points.rt shapes/src/spots.rt shapes/src/choice.rt shapes/Manifolds shapes/Spots",
+            "shapes/src/points.rt shapes/src/spots.rt shapes/src/choice.rt shapes/Manifolds shapes/Spots fixed_geom/Options",
         ),
         Chapter(
             "ticks",

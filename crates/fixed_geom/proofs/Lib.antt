@@ -6,5 +6,6 @@ pub mod RootLemmas
 pub mod Shifts
 pub mod Sizes
 pub mod TurnLemmas
+pub mod UnbeatenLemmas
 pub mod VectorLemmas
 pub mod Multiples

@@ -1,5 +1,5 @@
 -- How far from the bodies' centres their contact points are.
-use Rattle.std.proofs.Common.{◌≡◌, ℕ, zero, suc, ◌+◌, ◌*◌, ◌^◌, ◌<◌, ◌≤◌, ◌/◌, Bool, true, false, cond, ◌&&◌, ℤ, pos, negsuc, neg_ℤ, ◌+ℤ◌, ◌-ℤ◌, ◌*ℤ◌, ◌≤ℤ◌, unsigned_abs, List, [], ◌∷◌, All, map, IfSome, option_map, ◌⊎◌, inl, inr, arith, refl, sym}
+use Rattle.std.proofs.Common.{◌≡◌, ℕ, zero, suc, ◌+◌, ◌*◌, ◌^◌, ◌<◌, ◌≤◌, ◌/◌, Bool, true, false, cond, ◌&&◌, ℤ, pos, negsuc, neg_ℤ, ◌+ℤ◌, ◌-ℤ◌, ◌*ℤ◌, ◌≤ℤ◌, unsigned_abs, List, [], ◌∷◌, Option, None, Some, All, map, IfSome, option_map, ◌⊎◌, inl, inr, arith, refl, sym}
 use Rattle.std.specs.Ordering.{int_eq}
 use Rattle.std.proofs.lemmas.Int.{ints}
 use Rattle.std.proofs.lemmas.Bool.{cases_Bool}
@@ -24,9 +24,9 @@ use Rattle.shapes.specs.Poses.{IsPose, transformed}
 use Rattle.shapes.specs.Cores.{is_point, way_of, part_clamped, share_of, closest}
 use Rattle.shapes.specs.Spots.{of_a, of_b, others, square_to, across, up, flat_normal, normal_of, flipped, separation_of, position_of, spot_of}
 use Rattle.shapes.specs.declared.points.Manifold.{Manifold}
-use Rattle.shapes.specs.Manifolds.{soonest, least_of, is_second, nearest_spot, chosen_spots, spots, first_spot, other_spots, allowed_spots, point_of, posed_pair, manifold_of}
+use Rattle.shapes.specs.Manifolds.{least_of, is_second, nearest_spot, chosen_spots, spots, first_spot, other_spots, allowed_spots, point_of, posed_pair, manifold_of}
 use Rattle.shapes.specs.PointsWithin.{IsPointWithin}
-use Rattle.shapes.proofs.SpotLists.{soonest_all, filter_all}
+use Rattle.shapes.proofs.SpotLists.{least_all, nearest_all, filter_all}
 use Rattle.shapes.proofs.CoreLemmas.{rdiv_low, rdiv_nonnegative}
 
 -- v is within k of c in each coordinate
@@ -302,8 +302,11 @@ map_near s k x y (c ∷ cs) ra rb w h =
     (map_near s k x y cs ra rb w (All-tail (λ c. IsNearCandidate k x y c) c cs h))
 
 second_near : (k : ℕ) (x y : Vec2) (ts : List Spot) → All (λ t. IsNearSpot k x y t) ts → IfSome (option_map (point_of x y) (least_of ts)) (λ p. IsPointWithin (4 * k + 2 ^ 28) p)
-second_near k x y [] h = tt
-second_near k x y (t ∷ ts) h = soonest_all (λ t. IsNearSpot k x y t) t ts (All-head (λ t. IsNearSpot k x y t) t ts h) (All-tail (λ t. IsNearSpot k x y t) t ts h)
+second_near k x y ts h = by (least_of ts) (least_all (λ t. IsNearSpot k x y t) ts h)
+  where
+    by : (o : Option Spot) → IfSome o (λ t. IsNearSpot k x y t) → IfSome (option_map (point_of x y) o) (λ p. IsPointWithin (4 * k + 2 ^ 28) p)
+    by None near = tt
+    by (Some t) near = near
 
 pub record HasNear (k : ℕ) (m : Manifold) : Type 0 where
   pub first : IsPointWithin (4 * k + 2 ^ 28) m.first
@@ -318,7 +321,7 @@ around a o b p ha ho hb hp = record {
 }
 
 has_near : (a : Shape) (o : Pose) (b : Shape) (p : Pose) (k : ℕ) → IsShape a → IsPose o → IsShape b → IsPose p → IsWithin k (minus p.x o.x) → HasNear k (manifold_of a o b p)
-unfolding chosen_spots nearest_spot
+unfolding chosen_spots
 has_near a o b p k ha ho hb hp w =
     let s = posed_pair a o b p in
     let h = around a o b p ha ho hb hp in
@@ -326,8 +329,8 @@ has_near a o b p k ha ho hb hp w =
     let head = spot_near s k o.x p.x (of_a s 0 s.a.p) ha.radius hb.radius w (a_near s k 0 o.x p.x s.a.p (omega arith) h h.a_first) in
     let rest = map_near s k o.x p.x (others s) ha.radius hb.radius w (others_near s k o.x p.x h) in
     record {
-      first = soonest_all P (first_spot s) (other_spots s) head rest;
-      second = second_near k o.x p.x (allowed_spots s) (filter_all P (is_second (soonest (first_spot s) (other_spots s))) (spots s) (All-cons P (first_spot s) (other_spots s) head rest));
+      first = nearest_all P s head rest;
+      second = second_near k o.x p.x (allowed_spots s) (filter_all P (is_second (nearest_spot s)) (spots s) (All-cons P (first_spot s) (other_spots s) head rest));
     }
 
 pub manifold_has_near : (a : Shape) (o : Pose) (b : Shape) (p : Pose) (m : Manifold) → m ≡ manifold_of a o b p → IsShape a → IsPose o → IsShape b → IsPose p → (k : ℕ) → IsWithin k (minus p.x o.x) → HasNear k m

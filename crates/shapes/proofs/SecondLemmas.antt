@@ -1,18 +1,18 @@
 -- The second point of a contact.
-use Rattle.std.proofs.Common.{◌≡◌, ◌==◌, int_lt, int_le, Bool, true, false, cond, ℤ, pos, ◌+ℤ◌, ◌≤ℤ◌, List, [], ◌∷◌, All, IfSome, option_map, inl, inr, arith, refl}
+use Rattle.std.proofs.Common.{◌≡◌, ◌==◌, int_lt, int_le, Bool, true, false, cond, ℤ, pos, ◌+ℤ◌, ◌≤ℤ◌, List, [], ◌∷◌, All, Option, Some, None, IfSome, option_map, inl, inr, arith, refl}
 use Rattle.std.specs.List.{filter}
 use Rattle.std.proofs.lemmas.Int.{ints}
 use Rattle.std.proofs.lemmas.Bool.{cases_Bool, false≢true}
 use Rattle.std.proofs.lemmas.Bool.Decides.{nat_tests}
-use Rattle.std.proofs.lemmas.List.Elements.{All-nil, All-cons, All-head, All-tail}
+use Rattle.std.proofs.lemmas.List.Elements.{All-nil, All-cons}
 use Rattle.fixed_geom.specs.declared.vectors.Vec2.{Vec2}
 use Rattle.shapes.specs.declared.pose.Pose.{Pose}
 use Rattle.shapes.specs.declared.shape.Shape.{Shape}
 use Rattle.shapes.specs.declared.spots.Spot.{Spot}
 use Rattle.shapes.specs.declared.points.Manifold.{Manifold}
-use Rattle.shapes.specs.Manifolds.{soonest, least_of, is_second, nearest_spot, chosen_spots, spots, first_spot, other_spots, allowed_spots, point_of, posed_pair, manifold_of, is_rival, is_far}
+use Rattle.shapes.specs.Manifolds.{least_of, is_second, nearest_spot, chosen_spots, spots, allowed_spots, point_of, posed_pair, manifold_of, is_rival, is_far}
 use Rattle.shapes.specs.PointsWithin.{IsSecond}
-use Rattle.shapes.proofs.SpotLists.{soonest_all}
+use Rattle.shapes.proofs.SpotLists.{least_all}
 
 allowed_other : (first t : Spot) → is_second first t ≡ true → (t.candidate == first.candidate) ≡ false
 unfolding is_second is_rival
@@ -44,18 +44,17 @@ filter_passes ok [] = All-nil (λ u. ok u ≡ true)
 filter_passes ok (t ∷ ts) = kept_passes ok (ok t) t (filter ok ts) refl (filter_passes ok ts)
 
 second_is : (x y : Vec2) (first : Spot) (ts : List Spot) → All (λ u. is_second first u ≡ true) ts → IfSome (option_map (point_of x y) (least_of ts)) (λ p. IsSecond (point_of x y first) p)
-second_is x y first [] h = tt
-second_is x y first (t ∷ ts) h =
-    let P : Spot → Type 0 = λ u. is_second first u ≡ true in
-    let allowed = soonest_all P t ts (All-head P t ts h) (All-tail P t ts h) in
-    record { other = allowed_other first (soonest t ts) allowed; overlap = allowed_overlap first (soonest t ts) allowed }
+second_is x y first ts h = by (least_of ts) (least_all (λ u. is_second first u ≡ true) ts h)
+  where
+    by : (o : Option Spot) → IfSome o (λ u. is_second first u ≡ true) → IfSome (option_map (point_of x y) o) (λ p. IsSecond (point_of x y first) p)
+    by None allowed = tt
+    by (Some t) allowed = record { other = allowed_other first t allowed; overlap = allowed_overlap first t allowed }
 
 has_second : (a : Shape) (o : Pose) (b : Shape) (p : Pose) → IfSome (manifold_of a o b p).second (λ q. IsSecond (manifold_of a o b p).first q)
-unfolding chosen_spots nearest_spot
+unfolding chosen_spots
 has_second a o b p =
     let s = posed_pair a o b p in
-    let first = soonest (first_spot s) (other_spots s) in
-    second_is o.x p.x first (allowed_spots s) (filter_passes (is_second first) (spots s))
+    second_is o.x p.x (nearest_spot s) (allowed_spots s) (filter_passes (is_second (nearest_spot s)) (spots s))
 
 pub manifold_has_second : (a : Shape) (o : Pose) (b : Shape) (p : Pose) (m : Manifold) → m ≡ manifold_of a o b p → IfSome m.second (λ q. IsSecond m.first q)
 manifold_has_second a o b p m e = rw e (has_second a o b p)

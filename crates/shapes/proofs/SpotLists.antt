@@ -1,18 +1,23 @@
 -- What holds of all spots of a list holds of the least, and of all that are kept.
-use Rattle.std.proofs.Common.{Bool, true, false, cond, List, [], ◌∷◌, All}
+use Rattle.std.proofs.Common.{Bool, true, false, cond, List, [], ◌∷◌, All, Option, Some, None, IfSome}
 use Rattle.std.specs.List.{filter}
+use Rattle.std.specs.Prelude.{unwrap_or}
 use Rattle.std.proofs.lemmas.List.Elements.{All-nil, All-cons, All-head, All-tail}
+use Rattle.fixed_geom.proofs.UnbeatenLemmas.{found_is}
+use Rattle.shapes.specs.declared.spots.Pair.{Pair}
 use Rattle.shapes.specs.declared.spots.Spot.{Spot}
-use Rattle.shapes.specs.Manifolds.{is_sooner, sooner, soonest}
+use Rattle.shapes.specs.Manifolds.{least_of, nearest_spot, spots, first_spot, other_spots}
 
-either_spot : (P : Spot → Type 0) (b : Bool) (t u : Spot) → P t → P u → P (cond b t u)
-either_spot P true t u h l = h
-either_spot P false t u h l = l
+pub least_all : (P : Spot → Type 0) (ts : List Spot) → All P ts → IfSome (least_of ts) P
+least_all P ts h = found_is P _ ts h
 
-pub soonest_all : (P : Spot → Type 0) (t : Spot) (ts : List Spot) → P t → All P ts → P (soonest t ts)
-unfolding sooner
-soonest_all P t [] h l = h
-soonest_all P t (u ∷ us) h l = soonest_all P (sooner t u) us (either_spot P (is_sooner u t) u t (All-head P u us l) h) (All-tail P u us l)
+or_this : (P : Spot → Type 0) (o : Option Spot) (t : Spot) → IfSome o P → P t → P (unwrap_or o t)
+or_this P None t h l = l
+or_this P (Some u) t h l = h
+
+pub nearest_all : (P : Spot → Type 0) (s : Pair) → P (first_spot s) → All P (other_spots s) → P (nearest_spot s)
+unfolding nearest_spot
+nearest_all P s h l = or_this P (least_of (spots s)) (first_spot s) (least_all P (spots s) (All-cons P (first_spot s) (other_spots s) h l)) h
 
 kept : (P : Spot → Type 0) (b : Bool) (t : Spot) (ts : List Spot) → P t → All P ts → All P (cond b (t ∷ ts) ts)
 kept P true t ts h l = All-cons P t ts h l

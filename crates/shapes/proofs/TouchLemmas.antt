@@ -2,7 +2,7 @@
 use Rattle.std.proofs.Common.{◌≡◌, ℕ, ◌+◌, ◌*◌, ◌^◌, ◌≤◌, Bool, true, false, cond, ℤ, pos, negsuc, neg_ℤ, ◌+ℤ◌, ◌-ℤ◌, ◌*ℤ◌, ◌≤ℤ◌, unsigned_abs, List, [], ◌∷◌, Option, None, Some, All, map, IfSome, option_map, inl, inr, arith, refl, sym, ◌∙◌}
 use Rattle.std.proofs.lemmas.Int.{ints}
 use Rattle.std.proofs.lemmas.Bool.{cases_Bool}
-use Rattle.std.proofs.lemmas.List.Elements.{All-nil, All-cons, All-head, All-tail}
+use Rattle.std.proofs.lemmas.List.Elements.{All-nil, All-cons}
 use borrow.Author.Differences.{up, down}
 use Rattle.fixed_geom.specs.Numbers.{rdiv, fdiv, IsFloor, root}
 use Rattle.fixed_geom.specs.Vectors.{IsWithin, unit_length, minus, span}
@@ -23,13 +23,13 @@ use Rattle.shapes.specs.Shapes.{IsShape, first_end, second_end}
 use Rattle.shapes.specs.Poses.{IsPose}
 use Rattle.shapes.specs.Cores.{is_point, share_of, closest, cores_cross}
 use Rattle.shapes.specs.Spots.{of_a, of_b, others, normal_of, separation_of, position_of, spot_of}
-use Rattle.shapes.specs.Manifolds.{soonest, least_of, is_second, nearest_spot, chosen_spots, spots, first_spot, other_spots, allowed_spots, point_of, posed_pair, manifold_of}
+use Rattle.shapes.specs.Manifolds.{least_of, is_second, nearest_spot, chosen_spots, spots, first_spot, other_spots, allowed_spots, point_of, posed_pair, manifold_of}
 use Rattle.shapes.specs.PointsWithin.{IsPointWithin, IsSecond}
 use Rattle.shapes.proofs.CrossLemmas.{IsMet, AreMet, are_met}
 use Rattle.shapes.proofs.DiscLemmas.{disc, IsInDisc, disc_across, disc_along, posed_in_disc}
 use Rattle.shapes.proofs.NearLemmas.{IsPart, part_is, share_is, normal_within, scaled_le}
 use Rattle.shapes.proofs.SecondLemmas.{manifold_has_second}
-use Rattle.shapes.proofs.SpotLists.{soonest_all, filter_all}
+use Rattle.shapes.proofs.SpotLists.{least_all, nearest_all, filter_all}
 
 -- ---- places on a core
 
@@ -295,8 +295,11 @@ others_touching s x y h =
     (a_touching s 1 x y s.a.q (omega arith) h (second_on s.a)) (b_touching s 2 x y s.b.p (omega arith) h (first_on s.b)) (b_touching s 3 x y s.b.q (omega arith) h (second_on s.b))
 
 least_touching : (x y : Vec2) (ts : List Spot) → All (λ t. IsTouchingSpot x y t) ts → IfSome (option_map (point_of x y) (least_of ts)) (λ p. p.separation ≤ℤ pos 0 → IsPointWithin (2 ^ 27) p)
-least_touching x y [] h = tt
-least_touching x y (t ∷ ts) h = soonest_all (λ t. IsTouchingSpot x y t) t ts (All-head (λ t. IsTouchingSpot x y t) t ts h) (All-tail (λ t. IsTouchingSpot x y t) t ts h)
+least_touching x y ts h = by (least_of ts) (least_all (λ t. IsTouchingSpot x y t) ts h)
+  where
+    by : (o : Option Spot) → IfSome o (λ t. IsTouchingSpot x y t) → IfSome (option_map (point_of x y) o) (λ p. p.separation ≤ℤ pos 0 → IsPointWithin (2 ^ 27) p)
+    by None touching = tt
+    by (Some t) touching = touching
 
 overlapping : (first : Point) (second : Option Point) → IfSome second (λ p. p.separation ≤ℤ pos 0 → IsPointWithin (2 ^ 27) p) → IfSome second (λ p. IsSecond first p) → IfSome second (λ p. IsPointWithin (2 ^ 27) p)
 overlapping first None h l = tt
@@ -323,16 +326,16 @@ pub record HasTouching (m : Manifold) : Type 0 where
   pub second : IfSome m.second (λ p. IsPointWithin (2 ^ 27) p)
 
 pub has_touching : (a : Shape) (o : Pose) (b : Shape) (p : Pose) → IsShape a → IsPose o → IsShape b → IsPose p → HasTouching (manifold_of a o b p)
-unfolding chosen_spots nearest_spot
+unfolding chosen_spots
 has_touching a o b p ha ho hb hp =
     let s = posed_pair a o b p in
     let h = around a o b p ha ho hb hp in
     let P : Spot → Type 0 = λ t. IsTouchingSpot o.x p.x t in
     let head = a_touching s 0 o.x p.x s.a.p (omega arith) h (first_on s.a) in
     let rest = others_touching s o.x p.x h in
-    let second = least_touching o.x p.x (allowed_spots s) (filter_all P (is_second (soonest (first_spot s) (other_spots s))) (spots s) (All-cons P (first_spot s) (other_spots s) head rest)) in
+    let second = least_touching o.x p.x (allowed_spots s) (filter_all P (is_second (nearest_spot s)) (spots s) (All-cons P (first_spot s) (other_spots s) head rest)) in
     record {
-      first = soonest_all P (first_spot s) (other_spots s) head rest;
+      first = nearest_all P s head rest;
       second = overlapping (manifold_of a o b p).first (manifold_of a o b p).second second (manifold_has_second a o b p (manifold_of a o b p) refl);
     }
 

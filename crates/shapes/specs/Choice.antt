@@ -5,7 +5,7 @@ use Rattle.shapes.specs.declared.spots.Pair.{Pair}
 use Rattle.shapes.specs.declared.spots.Candidate.{Candidate}
 use Rattle.shapes.specs.declared.spots.Spot.{Spot}
 use Rattle.shapes.specs.Spots.{spot_of}
-use Rattle.shapes.specs.Manifolds.{is_before, sooner, is_second}
+use Rattle.shapes.specs.Manifolds.{is_before, is_sooner, is_second}
 
 unfoldable pub nearer : Candidate → Candidate → Candidate
 nearer best c = cond (is_before c.dist c.number best.dist best.number) c best
@@ -14,6 +14,9 @@ nearer best c = cond (is_before c.dist c.number best.dist best.number) c best
 abbrev pub nearest : Candidate → List Candidate → Candidate
 nearest best [] = best
 nearest best (c ∷ cs) = nearest (nearer best c) cs
+
+unfoldable pub sooner : Spot → Spot → Spot
+sooner best t = cond (is_sooner t best) t best
 
 abbrev pub sooner_of : Option Spot → Spot → Option Spot
 sooner_of None t = Some t

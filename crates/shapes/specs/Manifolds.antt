@@ -1,6 +1,7 @@
 -- Trusted: The first and the second point of a contact.
-use Rattle.std.specs.Prelude.{ℕ, ◌==◌, nat_lt, Bool, false, ◌&&◌, ◌||◌, cond, ℤ, pos, int_lt, int_le, ◌+ℤ◌, ◌*ℤ◌, List, [], ◌∷◌, Option, None, Some, option_map, map, filter}
+use Rattle.std.specs.Prelude.{ℕ, ◌==◌, nat_lt, Bool, false, ◌&&◌, ◌||◌, cond, ℤ, pos, int_lt, int_le, ◌+ℤ◌, ◌*ℤ◌, List, ◌∷◌, Option, option_map, unwrap_or, map, filter}
 use Rattle.std.specs.Ordering.{int_eq}
+use Rattle.fixed_geom.specs.Options.{unbeaten}
 use Rattle.fixed_geom.specs.Vectors.{dot, minus}
 use Rattle.fixed_geom.specs.declared.vectors.Vec2.{Vec2}
 use Rattle.shapes.specs.declared.limits.TheConstants.{TOLERANCE}
@@ -35,17 +36,9 @@ is_before d n e m = int_lt d e || (int_eq d e && nat_lt n m)
 abbrev pub is_sooner : Spot → Spot → Bool
 is_sooner t u = is_before t.dist t.candidate u.dist u.candidate
 
-unfoldable pub sooner : Spot → Spot → Spot
-sooner best t = cond (is_sooner t best) t best
-
--- the least of a spot and a list
-abbrev pub soonest : Spot → List Spot → Spot
-soonest best [] = best
-soonest best (t ∷ ts) = soonest (sooner best t) ts
-
+-- none of the list is sooner, and of equal ones it is the first
 abbrev pub least_of : List Spot → Option Spot
-least_of [] = None
-least_of (t ∷ ts) = Some (soonest t ts)
+least_of ts = unbeaten is_sooner ts
 
 -- ---- the second point
 
@@ -68,7 +61,7 @@ abbrev pub point_of : Vec2 → Vec2 → Spot → Point
 point_of center_a center_b t = record { normal = t.normal; separation = t.separation; ra = minus t.at center_a; rb = minus t.at center_b; candidate = t.candidate }
 
 unfoldable pub nearest_spot : Pair → Spot
-nearest_spot s = soonest (first_spot s) (other_spots s)
+nearest_spot s = unwrap_or (least_of (spots s)) (first_spot s)
 
 -- the spots that may be the second point
 abbrev pub allowed_spots : Pair → List Spot

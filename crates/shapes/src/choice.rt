@@ -6,8 +6,8 @@ ghost use Rattle.shapes.specs.Poses.{IsPosed};
 ghost use Rattle.shapes.specs.Cores.{is_point};
 ghost use Rattle.shapes.specs.Spots.{separation_of, spot_of, of_a, of_b, others};
 ghost use Rattle.shapes.specs.PointsWithin.{IsPair, IsCandidate, IsSpot};
-ghost use Rattle.shapes.specs.Manifolds.{is_before, sooner, is_far, is_rival, chosen_spots};
-ghost use Rattle.shapes.specs.Choice.{nearer, nearest, sooner_of, tried, second_from, chosen_from, alone};
+ghost use Rattle.shapes.specs.Manifolds.{is_before, is_far, is_rival, chosen_spots};
+ghost use Rattle.shapes.specs.Choice.{nearer, nearest, sooner, sooner_of, tried, second_from, chosen_from, alone};
 
 use crate::cores::{closest, is_point};
 use crate::spots::{Candidate, Pair, Spot, measured, separation_of, spot_of};
@@ -60,7 +60,7 @@ fn nearest(head: Candidate, rest: &[Candidate]) -> Candidate
     best
 }
 
-#[tactic(auto, unfolding(crate::specs::Manifolds::sooner))]
+#[tactic(auto, unfolding(crate::specs::Choice::sooner))]
 fn sooner(best: Spot, spot: Spot) -> Spot
     requires best { IsSpot best }
     requires other { IsSpot spot }

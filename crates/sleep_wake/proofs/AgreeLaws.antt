@@ -1,17 +1,21 @@
 -- A sleep phase reads the timers of the awake movers alone.
 use Rattle.std.proofs.Common.{◌≡◌, ℕ, suc, ◌+◌, ◌&&◌, ◌||◌, Bool, true, false, not, cond, List, [], ◌∷◌, get_or, length, Option, None, Some, inl, inr, refl, sym, ap, ◌∙◌, subst, arith}
+use Rattle.std.proofs.lemmas.Bool.{false≢true}
+use Rattle.std.proofs.lemmas.Bool.Decides.{nat_tests}
+use Rattle.fixed_geom.specs.Options.{unbeaten}
+use Rattle.fixed_geom.proofs.UnbeatenLemmas.{best_of, IsStrict, unbeaten_is_best}
 use Rattle.islands.specs.declared.label.Label.{Label}
 use Rattle.islands.specs.Labels.{Labels, label_at, is_in, is_loose, is_asleep}
 use Rattle.islands.specs.Partition.{IsPartition}
 use Rattle.islands.proofs.LabelLemmas.{in_case}
 use Rattle.islands.proofs.SplitLemmas.{split_is}
 use Rattle.sleep_wake.specs.Acting.{Acting, IsConsistent, awake_label, is_mover_awake}
-use Rattle.sleep_wake.specs.SleepPhase.{lesser, least_timer, is_time_to_sleep, is_island, longer_at_rest, longest_at_rest, ready, picked_to_split, split_at, edges_of, split_picked, all_put_to_rest, ready_put_to_rest, sleep_phase}
+use Rattle.sleep_wake.specs.SleepPhase.{lesser, least_timer, is_time_to_sleep, is_island, is_less, ready, picked_to_split, split_at, edges_of, split_picked, all_put_to_rest, ready_put_to_rest, sleep_phase}
 use Rattle.sleep_wake.specs.AwakeSlots.{AreAwakeSlots, AgreeAwake}
-use Rattle.sleep_wake.specs.Resting.{least_at, AreLeast, is_ready_island, ready_after, ready_names, longest_ready, rests_by, second_rests, is_to_rest}
+use Rattle.sleep_wake.specs.Resting.{least_at, AreLeast, is_ready_island, ready_after, ready_names, longer_at_rest, longest_at_rest, longest_ready, rests_by, second_rests, is_to_rest}
 use Rattle.sleep_wake.proofs.AwakeLemmas.{awake_as}
 use Rattle.sleep_wake.proofs.EdgeLemmas.{edges_inside}
-use Rattle.sleep_wake.proofs.PhaseLemmas.{AreAll, IsNamedIsland, names, all_if, all_on, and_is, longer_is, picked_is, split_keeps}
+use Rattle.sleep_wake.proofs.PhaseLemmas.{AreAll, IsNamedIsland, names, all_if, all_on, as_all, and_is, picked_is, split_keeps}
 use Rattle.sleep_wake.proofs.LeastLemmas.{timer_in, ready_names_are}
 
 -- ---- two that tell the least timers of the awake islands
@@ -56,6 +60,14 @@ all_ready loose labels f slot (o ∷ rest) at =
 
 -- ---- the same one is split
 
+next_best : (P : ℕ → Type 0) (t : Bool) (b m : ℕ) → P b → P m → (k : ℕ) → cond t (Some m) (Some b) ≡ Some k → P k
+next_best P true b m h i k q = let same : m ≡ k = cc in subst P same i
+next_best P false b m h i k q = let same : b ≡ k = cc in subst P same h
+
+longer_is : (P : ℕ → Type 0) (timer : ℕ → Option ℕ) (best : Option ℕ) (m : ℕ) → ((n : ℕ) → best ≡ Some n → P n) → P m → (k : ℕ) → longer_at_rest timer best m ≡ Some k → P k
+longer_is P timer None m f h k q = let same : m ≡ k = cc in subst P same h
+longer_is P timer (Some b) m f h k q = next_best P (is_less (timer b) (timer m)) b m (f b refl) h k q
+
 longer_by : (f g : ℕ → Option ℕ) (best : Option ℕ) (name : ℕ) → ((k : ℕ) → best ≡ Some k → f k ≡ g k) → f name ≡ g name → longer_at_rest f best name ≡ longer_at_rest g best name
 longer_by f g None name h e = refl
 longer_by f g (Some best) name h e = rw (h best refl, e) refl
@@ -72,9 +84,57 @@ same_longest labels f g w =
     (all_on (IsNamedIsland true labels) (λ k. f k ≡ g k) (ready_names true f labels) (λ k h. agree_there true labels f g k w h) (all_ready true labels f 0 labels (starts labels)))
     ∙ ap (λ (ns : List ℕ). longest_at_rest g None ns) (alike_ready true labels f g w)
 
+-- ---- the best of those looked at one after another is the one that none beats
+
+abbrev IsDue : (ℕ → Option ℕ) → ℕ → Type 0
+IsDue timer name = is_time_to_sleep (timer name) ≡ true
+
+abbrev is_longer : (ℕ → Option ℕ) → ℕ → ℕ → Bool
+is_longer timer a b = is_less (timer b) (timer a)
+
+less_one_way : (a b : Option ℕ) → is_less a b ≡ true → is_less b a ≡ false
+less_one_way None b h = absurd (false≢true h)
+less_one_way (Some a) None h = absurd (false≢true h)
+less_one_way (Some a) (Some b) h = grind (arith, nat_tests)
+
+less_through : (a b c : Option ℕ) → is_time_to_sleep b ≡ true → is_less b a ≡ false → is_less c b ≡ false → is_less c a ≡ false
+less_through a None c due h k = absurd (false≢true due)
+less_through a (Some b) None due h k = refl
+less_through None (Some b) (Some c) due h k = refl
+less_through (Some a) (Some b) (Some c) due h k = grind (arith, nat_tests)
+
+longer_is_strict : (timer : ℕ → Option ℕ) → IsStrict (IsDue timer) (is_longer timer)
+longer_is_strict timer = record {
+  one_way = λ x y hx hy h. less_one_way (timer y) (timer x) h;
+  through = λ x y z hx hy hz h k. less_through (timer x) (timer y) (timer z) hy h k;
+}
+
+some_of_either : (t : Bool) (a b : ℕ) → cond t (Some a) (Some b) ≡ Some (cond t a b)
+some_of_either true a b = refl
+some_of_either false a b = refl
+
+longest_is_best : (timer : ℕ → Option ℕ) (best : ℕ) (names : List ℕ) → longest_at_rest timer (Some best) names ≡ Some (best_of (is_longer timer) best names)
+longest_is_best timer best [] = refl
+longest_is_best timer best (name ∷ names) =
+    ap (λ (o : Option ℕ). longest_at_rest timer o names) (some_of_either (is_longer timer name best) name best)
+    ∙ longest_is_best timer (cond (is_longer timer name best) name best) names
+
+longest_is_unbeaten : (timer : ℕ → Option ℕ) (names : List ℕ) → AreAll (IsDue timer) names → longest_at_rest timer None names ≡ unbeaten (is_longer timer) names
+longest_is_unbeaten timer [] h = refl
+longest_is_unbeaten timer (name ∷ names) h =
+    longest_is_best timer name names ∙ sym (unbeaten_is_best (IsDue timer) (is_longer timer) name names (longer_is_strict timer) h.0 (as_all (IsDue timer) names h.1))
+
+all_due : (timer : ℕ → Option ℕ) (slot : ℕ) (rest : Labels) → AreAll (IsDue timer) (ready_after true timer slot rest)
+all_due timer slot [] = tt
+all_due timer slot (o ∷ rest) =
+    all_if (IsDue timer) (is_ready_island true timer slot o) slot (ready_after true timer (suc slot) rest)
+    (λ h. (and_is (is_island true slot o) (is_time_to_sleep (timer slot)) h).1) (all_due timer (suc slot) rest)
+
 -- by the least timers of the definition it is the definition's
 longest_picked : (labels : Labels) (timers : List ℕ) → longest_ready (timer_in labels timers) labels ≡ picked_to_split labels timers
-longest_picked labels timers = ap (λ (ns : List ℕ). longest_at_rest (timer_in labels timers) None ns) (ready_names_are true labels timers)
+longest_picked labels timers =
+    longest_is_unbeaten (timer_in labels timers) (ready_names true (timer_in labels timers) labels) (all_due (timer_in labels timers) 0 labels)
+    ∙ ap (unbeaten (is_longer (timer_in labels timers))) (ready_names_are true labels timers)
 
 pub picked_by_least : (labels : Labels) (timers : List ℕ) (leasts : List (Option ℕ)) → AreLeast labels timers leasts → longest_ready (least_at leasts) labels ≡ picked_to_split labels timers
 picked_by_least labels timers leasts w = same_longest labels (least_at leasts) (timer_in labels timers) w.each ∙ longest_picked labels timers

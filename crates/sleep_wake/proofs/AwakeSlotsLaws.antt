@@ -15,9 +15,9 @@ use Rattle.islands.specs.Partition.{IsPartition}
 use Rattle.islands.proofs.JoinLemmas.{contains_cases, contains_head, contains_tail}
 use Rattle.islands.proofs.LabelLemmas.{relabel_at, some_short}
 use Rattle.sleep_wake.specs.Acting.{awake_label, is_mover_awake}
-use Rattle.sleep_wake.specs.SleepPhase.{lesser, least_timer, is_time_to_sleep, is_island, longer_at_rest, longest_at_rest}
+use Rattle.sleep_wake.specs.SleepPhase.{lesser, least_timer, is_time_to_sleep, is_island}
 use Rattle.sleep_wake.specs.AwakeSlots.{AreAwakeSlots}
-use Rattle.sleep_wake.specs.Resting.{least_at, noted, forgotten, AreLeast, is_ready_island, ready_after, ready_names, weighed_by, longest_ready, all_rested}
+use Rattle.sleep_wake.specs.Resting.{least_at, noted, forgotten, AreLeast, is_ready_island, ready_after, ready_names, longer_at_rest, longest_at_rest, weighed_by, longest_ready, all_rested}
 use Rattle.sleep_wake.proofs.ListLemmas.{none_in}
 use Rattle.sleep_wake.proofs.AwakeLemmas.{awake_as}
 use Rattle.sleep_wake.proofs.LeastLemmas.{with_timer, noted_at, forgotten_at}

@@ -1,8 +1,10 @@
 -- What keeps the sets as bodies come and go, and in the sleep phase.
 use Rattle.std.proofs.Common.{◌≡◌, ◌≢◌, ℕ, suc, ◌<◌, ◌+◌, ◌⊎◌, Bool, true, false, not, cond, ◌&&◌, ◌||◌, ◌==◌, List, [], ◌∷◌, Option, Some, None, inl, inr, refl, sym, ap, ◌∙◌, subst, arith, length}
 use Rattle.graph_colours.proofs.ListLemmas.{pairs_none}
-use Rattle.std.specs.Prelude.{Contains, filter}
+use Rattle.std.specs.Prelude.{Contains, filter, All, IfSome}
 use Rattle.std.proofs.lemmas.Bool.{false≢true, cases_lt, eqb-true, eq-eqb, lt-ltb, le-ltb}
+use Rattle.std.proofs.lemmas.List.Elements.{All-nil, All-cons}
+use Rattle.fixed_geom.proofs.UnbeatenLemmas.{found_is}
 use Rattle.graph_colours.specs.declared.member.Movers.{Movers}
 use Rattle.graph_colours.specs.declared.member.Member.{Member}
 use Rattle.graph_colours.specs.Movers.{has_mover, is_slot}
@@ -19,7 +21,7 @@ use Rattle.islands.proofs.SplitLemmas.{IsLabelled, splitting_keeps as splits_kee
 use Rattle.sleep_wake.specs.Acting.{Acting, AreMovers, IsConsistent, links_of, awake_label, is_mover_awake, are_awake}
 use Rattle.sleep_wake.specs.Waking.{released_all, put_to_rest}
 use Rattle.sleep_wake.specs.Bodies.{dropped, mover_gone, mover_made}
-use Rattle.sleep_wake.specs.SleepPhase.{split_at, edges_of, is_island, is_time_to_sleep, least_timer, ready_from, ready, longest_at_rest, longer_at_rest, is_less, picked_to_split, split_picked, all_put_to_rest, ready_put_to_rest}
+use Rattle.sleep_wake.specs.SleepPhase.{split_at, edges_of, is_island, is_time_to_sleep, least_timer, ready_from, ready, picked_to_split, split_picked, all_put_to_rest, ready_put_to_rest}
 use Rattle.sleep_wake.specs.Laws.{DroppingKeeps, GoingKeeps, MakingKeeps, SplittingKeeps, SleepPhaseKeeps, EmptyIsConsistent}
 use Rattle.sleep_wake.proofs.ListLemmas.{none_in, filter_in, in_filter, one_of, releases, Releases, rising_filter, link_in, in_links, links_more}
 use Rattle.sleep_wake.proofs.AwakeLemmas.{same_awake, awake_as}
@@ -284,22 +286,16 @@ names_by labels name false (Some l) e h = let o = and_is (l.name == name) (not (
 pub names : (labels : Labels) (name : ℕ) (loose : Bool) → IsNamedIsland loose labels name → Names labels name loose
 names labels name loose h = names_by labels name loose (label_at labels name) refl h
 
--- one of the list is picked, or none
-next_best : (P : ℕ → Type 0) (t : Bool) (b m : ℕ) → P b → P m → (k : ℕ) → cond t (Some m) (Some b) ≡ Some k → P k
-next_best P true b m h i k q = let same : m ≡ k = cc in subst P same i
-next_best P false b m h i k q = let same : b ≡ k = cc in subst P same h
-
-pub longer_is : (P : ℕ → Type 0) (timer : ℕ → Option ℕ) (best : Option ℕ) (m : ℕ) → ((n : ℕ) → best ≡ Some n → P n) → P m → (k : ℕ) → longer_at_rest timer best m ≡ Some k → P k
-longer_is P timer None m f h k q = let same : m ≡ k = cc in subst P same h
-longer_is P timer (Some b) m f h k q = next_best P (is_less (timer b) (timer m)) b m (f b refl) h k q
-
-longest_of : (P : ℕ → Type 0) (timer : ℕ → Option ℕ) (best : Option ℕ) (ns : List ℕ) → ((n : ℕ) → best ≡ Some n → P n) → AreAll P ns → (n : ℕ) → longest_at_rest timer best ns ≡ Some n → P n
-longest_of P timer best [] f h n e = f n e
-longest_of P timer best (m ∷ ns) f h n e = longest_of P timer (longer_at_rest timer best m) ns (longer_is P timer best m f h.0) h.1 n e
+pub as_all : (P : ℕ → Type 0) (ns : List ℕ) → AreAll P ns → All P ns
+as_all P [] h = All-nil P
+as_all P (n ∷ ns) h = All-cons P n ns h.0 (as_all P ns h.1)
 
 -- one that is picked is a loose island
 pub picked_is : (labels : Labels) (timers : List ℕ) (n : ℕ) → picked_to_split labels timers ≡ Some n → is_island true n (label_at labels n) ≡ true
-picked_is labels timers n e = longest_of (IsNamedIsland true labels) (λ name. least_timer name labels timers) None (ready true labels timers) (λ k q. absurd (let no : None ≡ Some k = q in cc)) (ready_all true labels timers) n e
+picked_is labels timers n e =
+    let P : ℕ → Type 0 = IsNamedIsland true labels in
+    let loose : List ℕ = ready true labels timers in
+    subst (λ (o : Option ℕ). IfSome o P) e (found_is P _ loose (as_all P loose (ready_all true labels timers)))
 
 pub split_keeps : {C : Type 0} (number : C → ℕ) (s : Acting C) (o : Option ℕ) → IsConsistent number s → ((n : ℕ) → o ≡ Some n → IsNamedIsland true s.labels n) → IsConsistent number (split_picked o s)
 split_keeps number s None w f = w

@@ -5,7 +5,7 @@ use Rattle.graph_colours.specs.declared.member.Movers.{Movers}
 use Rattle.graph_colours.specs.declared.member.Member.{Member}
 use Rattle.islands.specs.declared.label.Label.{Label}
 use Rattle.islands.specs.Labels.{Labels, label_at, is_loose, is_asleep, rested}
-use Rattle.sleep_wake.specs.SleepPhase.{lesser, least_timer, is_time_to_sleep, is_island, longer_at_rest, longest_at_rest, ticks_to_sleep}
+use Rattle.sleep_wake.specs.SleepPhase.{lesser, least_timer, is_time_to_sleep, is_island, is_less, ticks_to_sleep}
 
 -- ---- the least timer of each island
 
@@ -51,6 +51,16 @@ abbrev pub ready_names : Bool → (ℕ → Option ℕ) → Labels → List ℕ
 ready_names loose timer labels = ready_after loose timer 0 labels
 
 -- ---- the island to split
+
+-- of two names the one with the greater timer, the best so far where they are equal
+abbrev pub longer_at_rest : (ℕ → Option ℕ) → Option ℕ → ℕ → Option ℕ
+longer_at_rest timer None name = Some name
+longer_at_rest timer (Some best) name = cond (is_less (timer best) (timer name)) (Some name) (Some best)
+
+-- the name with the greatest timer, the first of those that have it
+abbrev pub longest_at_rest : (ℕ → Option ℕ) → Option ℕ → List ℕ → Option ℕ
+longest_at_rest timer best [] = best
+longest_at_rest timer best (name ∷ names) = longest_at_rest timer (longer_at_rest timer best name) names
 
 -- the best so far, once the label in a slot was looked at too
 abbrev pub weighed_by : (ℕ → Option ℕ) → Option ℕ → ℕ → Option Label → Option ℕ

@@ -1,5 +1,6 @@
 -- Trusted: The sleep phase: which islands are ready to sleep, by the timers of their movers, and what becomes of them.
 use Rattle.std.specs.Prelude.{ℕ, suc, ◌&&◌, ◌==◌, Bool, true, false, not, cond, nat_lt, nat_le, min, List, [], ◌∷◌, Option, Some, None, filter}
+use Rattle.fixed_geom.specs.Options.{unbeaten}
 use Rattle.graph_colours.specs.declared.member.Member.{Member}
 use Rattle.islands.specs.declared.label.Label.{Label}
 use Rattle.islands.specs.Links.{Edges}
@@ -65,19 +66,9 @@ abbrev pub is_less : Option ℕ → Option ℕ → Bool
 is_less (Some a) (Some b) = nat_lt a b
 is_less a b = false
 
--- of two names the one with the greater timer, the best so far where they are equal
-abbrev pub longer_at_rest : (ℕ → Option ℕ) → Option ℕ → ℕ → Option ℕ
-longer_at_rest timer None name = Some name
-longer_at_rest timer (Some best) name = cond (is_less (timer best) (timer name)) (Some name) (Some best)
-
--- the name with the greatest timer, the first of those that have it
-abbrev pub longest_at_rest : (ℕ → Option ℕ) → Option ℕ → List ℕ → Option ℕ
-longest_at_rest timer best [] = best
-longest_at_rest timer best (name ∷ names) = longest_at_rest timer (longer_at_rest timer best name) names
-
 -- of the loose islands that are ready, the one with the greatest least timer, the lowest of those
 abbrev pub picked_to_split : Labels → List ℕ → Option ℕ
-picked_to_split labels timers = longest_at_rest (λ name. least_timer name labels timers) None (ready true labels timers)
+picked_to_split labels timers = unbeaten (λ a b. is_less (least_timer b labels timers) (least_timer a labels timers)) (ready true labels timers)
 
 abbrev pub split_picked : {C : Type 0} → Option ℕ → Acting C → Acting C
 split_picked None s = s

@@ -3,9 +3,9 @@
 ghost use Rattle.std.specs.Prelude.{◌≡◌, ℕ, ◌≤◌, ◌<◌, ◌&&◌, true, false, cond, length, slice_set, vec_capacity, None, Some, Contains};
 ghost use Rattle.islands.specs.Labels.{label_at};
 ghost use Rattle.islands.specs.Partition.{IsPartition};
-ghost use Rattle.sleep_wake.specs.SleepPhase.{lesser, is_time_to_sleep, is_island, is_less, longer_at_rest, picked_to_split};
+ghost use Rattle.sleep_wake.specs.SleepPhase.{lesser, is_time_to_sleep, is_island, is_less, picked_to_split};
 ghost use Rattle.sleep_wake.specs.AwakeSlots.{AreAwakeSlots};
-ghost use Rattle.sleep_wake.specs.Resting.{AreLeast, least_at, lowered, forgotten, noted, is_ready_island, weighed_by, longest_ready, rests_by, second_rests, movers_rest, ready_names, all_rested};
+ghost use Rattle.sleep_wake.specs.Resting.{AreLeast, least_at, lowered, forgotten, noted, is_ready_island, longer_at_rest, weighed_by, longest_ready, rests_by, second_rests, movers_rest, ready_names, all_rested};
 
 use graph_colours::Movers;
 use islands::Islands;

@@ -11,6 +11,7 @@ use Rattle.colour_solver.specs.States.{places_from}
 use Rattle.contacts.specs.Constraints.{constraint_number}
 use Rattle.contacts.specs.declared.constraint.Constraint.{Constraint}
 use Rattle.contacts_base.specs.declared.contact.ContactEntry.{ContactEntry}
+use Rattle.fixed_geom.specs.Options.{unbeaten}
 use Rattle.islands.specs.declared.label.IslandState.{IslandState}
 use Rattle.islands.specs.declared.label.IslandState.TheVariants.{Whole, Loose, Asleep}
 use Rattle.islands.specs.declared.label.Label.{Label}
@@ -24,7 +25,7 @@ use Rattle.plain_world.specs.Sleep.{timed_bodies, told}
 use Rattle.plain_world.specs.Slots.{body_at}
 use Rattle.sleep_wake.specs.Acting.{Acting, awake_label}
 use Rattle.sleep_wake.specs.Acting as acting
-use Rattle.sleep_wake.specs.SleepPhase.{all_put_to_rest, is_time_to_sleep, is_island, is_ready, least_timer, lesser, longest_at_rest, picked_to_split, ready, ready_from, ready_put_to_rest, sleep_phase, split_picked, ticks_to_sleep}
+use Rattle.sleep_wake.specs.SleepPhase.{all_put_to_rest, is_time_to_sleep, is_island, is_less, is_ready, least_timer, lesser, picked_to_split, ready, ready_from, ready_put_to_rest, sleep_phase, split_picked, ticks_to_sleep}
 use Rattle.sleep_wake.specs.Resting.{may_be_ready}
 use Rattle.sleep_wake.specs.Sleeping.{rested_at, slept_at, slept_by, split_if_loose}
 use Rattle.sleep_wake.proofs.AwakeLemmas.{and_is}
@@ -195,7 +196,7 @@ none_ready loose labels timers up =
 
 quiet_phase : (s : Acting Constraint) (timers : List ℕ) → ready true s.labels timers ≡ [] → ready false s.labels timers ≡ [] → sleep_phase constraint_number timers s ≡ s
 quiet_phase s timers loose whole =
-    let none : picked_to_split s.labels timers ≡ None = ap (λ (names : List ℕ). longest_at_rest (λ name. least_timer name s.labels timers) None names) loose in
+    let none : picked_to_split s.labels timers ≡ None = ap (unbeaten (λ a b. is_less (least_timer b s.labels timers) (least_timer a s.labels timers))) loose in
     ap (λ (o : Option ℕ). ready_put_to_rest constraint_number timers (split_picked o s)) none ∙ ap (λ (names : List ℕ). all_put_to_rest constraint_number names s) whole
 
 -- ---- the awake movers, by their slots
