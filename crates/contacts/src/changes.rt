@@ -12,8 +12,8 @@ ghost use Rattle.contacts.specs.ByCodes.{contacts_of};
 ghost use Rattle.contacts.specs.ChangedKeys.{key_unless, keys_not_in, AreRising};
 
 use contacts_base::{
-    ContactEntry, ContactKey, Contacts, PackedContact, PackedSurface, Proxy, contact_at,
-    contact_of, one_stirs, seek_next,
+    ContactEntry, ContactKey, Contacts, PackedContact, PackedSurface, Proxy, contact_of, find_next,
+    one_stirs,
 };
 use fixed_geom::Refusal;
 use std::alloc::Global;
@@ -192,8 +192,7 @@ fn contacts_of_pairs(
     let mut place = 0;
     for code in near {
         let key = key_at(proxies, *code);
-        place = seek_next(old, place, key);
-        let before = contact_at(old, place, key);
+        let before = find_next(old, &mut place, key);
         let entry = pair_entry(before, proxies, *code);
         push_key(&mut made, key_unless(before, &entry))?;
         push_key(&mut begin, key_if_new(before, &entry))?;
@@ -214,8 +213,7 @@ fn lost_keys(alloc: Global, now: &[ContactEntry], old: &[ContactEntry]) -> Resul
     let mut end = Vec::new(alloc);
     let mut place = 0;
     for entry in old {
-        place = seek_next(now, place, entry.key);
-        let after = contact_at(now, place, entry.key);
+        let after = find_next(now, &mut place, entry.key);
         push_key(&mut gone, key_unless(after, entry))?;
         push_key(&mut end, key_if_new(after, entry))?;
     }

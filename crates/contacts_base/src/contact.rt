@@ -1,7 +1,7 @@
 //! Contacts, and how one is found by its key.
 
-ghost use Rattle.std.specs.Prelude.{◌≡◌, ◌==◌, ◌≤◌, ◌+◌, IsTrue, true};
-ghost use Rattle.std.specs.Option.{option_copied};
+ghost use Rattle.std.specs.Prelude.{◌≡◌, ◌==◌, ◌≤◌, ◌+◌, IsTrue, Some, true};
+ghost use Rattle.std.specs.Option.{ForSome, option_copied};
 ghost use Rattle.contacts_base.specs.Keys.{key_number};
 ghost use Rattle.contacts_base.specs.Contacts.{lookup, AreKeysRising};
 ghost use Rattle.contacts_base.specs.ContactLists.{IsAllBelow, IsNoneBelow, IsFirstFrom};
@@ -207,5 +207,55 @@ pub fn contact_at(entries: &[ContactEntry], place: usize, key: ContactKey) -> Op
         Some(entry)
     } else {
         None
+    }
+}
+
+/// The contact at a place, if it has this key.
+#[inline(always)]
+fn found_at(entries: &[ContactEntry], place: usize, key: ContactKey) -> Option<&ContactEntry>
+    requires { AreKeysRising entries.now }
+    ensures { ForSome (option_copied result) (λ entry. lookup entries.now key ≡ Some entry) }
+{
+    let entry = entries.get(place)?;
+    if is_same(entry.key, key) {
+        Some(entry)
+    } else {
+        None
+    }
+}
+
+/// `find_next` where the contact wanted isn't at the hint.
+#[inline(never)]
+fn find_further<'a>(
+    entries: &'a [ContactEntry],
+    hint: &mut usize,
+    key: ContactKey,
+) -> Option<&'a ContactEntry>
+    requires { AreKeysRising entries.now }
+    ensures { option_copied result ≡ lookup entries.now key }
+{
+    let place = seek(entries, *hint, key);
+    let found = contact_at(entries, place, key);
+    *hint = place.saturating_add(found.is_some() as usize);
+    found
+}
+
+/// The contact with this key, for one key after another of a list that has mostly the same. It is looked for at the hint, before it is searched for. The
+/// hint becomes the place where the next contact is.
+#[inline(always)]
+pub fn find_next<'a>(
+    entries: &'a [ContactEntry],
+    hint: &mut usize,
+    key: ContactKey,
+) -> Option<&'a ContactEntry>
+    requires { AreKeysRising entries.now }
+    ensures { option_copied result ≡ lookup entries.now key }
+{
+    match found_at(entries, *hint, key) {
+        Some(entry) => {
+            *hint = hint.saturating_add(1);
+            Some(entry)
+        }
+        None => find_further(entries, hint, key),
     }
 }

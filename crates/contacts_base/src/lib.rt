@@ -19,7 +19,7 @@ mod split;
 mod surface;
 
 pub use ascending::{Numbered, merge, push_below};
-pub use contact::{Contact, ContactEntry, ContactPoint, contact_at, seek_next};
+pub use contact::{Contact, ContactEntry, ContactPoint, contact_at, find_next, seek_next};
 pub use contacts::{Contacts, put_contact};
 pub use evaluation::{Impulses, contact_of, evaluate};
 pub use key::{ContactKey, ShapeId};

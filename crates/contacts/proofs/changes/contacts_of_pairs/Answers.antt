@@ -11,11 +11,11 @@ pub loop-code-preserved : goal.loop-code-preserved
 loop-code-preserved c =
     let old = c.args.old.now in
     let ps = c.args.proxies.now in
-    let before = option_copied c.contact_at-before.result in
+    let before = option_copied c.find_next-before.result in
     let e = c.pair_entry-entry.result in
     let code = get_or c.args.near.now c.loop-code.code-index 0 in
     let key : e.key ≡ pair_key ps code = ap (λ x. x.key) c.pair_entry-entry.ensures ∙ pair_entry_key ps code before in
-    let there : before ≡ lookup old (pair_key ps code) = rw c.key_at-key.ensures at c.contact_at-before.ensures in
+    let there : before ≡ lookup old (pair_key ps code) = rw c.key_at-key.ensures at c.find_next-before.ensures in
     let same : before ≡ lookup old e.key = there ∙ ap (lookup old) (sym key) in
     let now = rw c.pair_entry-entry.ensures at c.in_ok-push.ensures.items in
     let pushed = rw c.key_unless.ensures at c.in_ok-push_key.ensures.pushed in

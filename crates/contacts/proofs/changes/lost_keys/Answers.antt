@@ -7,11 +7,11 @@ use Rattle.contacts.proofs.changes.lost_keys.Goals as goal
 
 pub loop-entry-preserved : goal.loop-entry-preserved
 loop-entry-preserved c =
-    let after = option_copied c.contact_at-after.result in
+    let after = option_copied c.find_next-after.result in
     let more = take_more c.args.old.now c.loop-entry.entry-index _ c.loop-entry-test.true ∙ ap (λ (e : ContactEntry). take c.loop-entry.entry-index c.args.old.now ++ e ∷ []) (sym c.entry-item.is) in
     let pushed = rw c.key_unless.ensures at c.in_ok-push_key.ensures.pushed in
     let ended = rw c.key_if_new.ensures at c.in_ok-push_key-2.ensures.pushed in
     record {
-      gone = not_in_step c.args.now.now (take c.loop-entry.entry-index c.args.old.now) _ c.entry-item.result after _ _ more c.contact_at-after.ensures c.loop-entry.invariant.gone pushed;
-      end = touching_step c.args.now.now (take c.loop-entry.entry-index c.args.old.now) _ c.entry-item.result after _ _ more c.contact_at-after.ensures c.loop-entry.invariant.end ended;
+      gone = not_in_step c.args.now.now (take c.loop-entry.entry-index c.args.old.now) _ c.entry-item.result after _ _ more c.find_next-after.ensures c.loop-entry.invariant.gone pushed;
+      end = touching_step c.args.now.now (take c.loop-entry.entry-index c.args.old.now) _ c.entry-item.result after _ _ more c.find_next-after.ensures c.loop-entry.invariant.end ended;
     }
