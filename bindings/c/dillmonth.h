@@ -54,7 +54,7 @@ enum {
   DM_STALE_HANDLE = 2,     /* the id names nothing that lives */
   DM_TOO_MANY = 3,         /* no slot can be given out */
   DM_BAD_SHAPE = 4,        /* no shape or more than eight, or one that isn't allowed */
-  DM_OUT_OF_RANGE = 5,     /* a number outside its limit */
+  DM_OUT_OF_RANGE = 5,     /* a number outside its limit; an `unused` that isn't 0 */
   DM_NOT_A_MOVER = 6,      /* the body isn't dynamic */
   DM_SAME_BODY = 7,        /* both ends of a joint are one body */
   DM_BODY_DISABLED = 8,
@@ -70,7 +70,7 @@ enum {
 };
 typedef uint32_t dm_status;
 
-/* ---- values ---- */
+/* ---- values. `unused` is 0 in what a call answers. In what a call is given it has to be 0: else the call answers 5, also where there is no world ---- */
 typedef struct { void *at; } dm_world;
 #define DM_NONE { 0 }
 
@@ -211,8 +211,8 @@ DM_KEEP dm_status dm_copy(const dm_world *from, dm_world *to); /* a world of its
 dm_status dm_settle(dm_world *world);                          /* sums up what was booked. 32. See dm_step */
 
 /* ---- commands: one call of the world each. What a pointer names is written only where the status is 0. Each may answer 32 (no world),
- * 10 before all else, and 1 after all else. A body to be made is read first: so 33 and 34, and 1 where memory is wanting for its shapes, come
- * before these; and so does 1 where memory is wanting for the events of the last step (dm_events_clear). ---- */
+ * 10 before all else, and 1 after all else. A body or a joint to be made is read first: so 34, 5 for its `unused` and 33, and 1 where memory is
+ * wanting for its shapes, come before these; and so does 1 where memory is wanting for the events of the last step (dm_events_clear). ---- */
 DM_KEEP dm_status dm_create_body(dm_world *world, const dm_body_def *def, const dm_shape *shapes, size_t shapes_len, dm_handle *made); /* 33, 4, 5, 3 */
 dm_status dm_destroy_body(dm_world *world, dm_handle body);                                   /* with its joints and, untold, its contacts. 2 */
 DM_KEEP dm_status dm_create_joint(dm_world *world, const dm_joint_def *def, dm_handle *made); /* 2, 7, 8, 5, 3 */

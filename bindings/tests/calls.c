@@ -62,6 +62,9 @@ static void without_a_world(void) {
   WANT(dm_region_through(&world, &box, &all, &count) == DM_NO_WORLD && count == 9);
   dm_shape_hit on_shape = {7, 7, {7, 7}, {7, 7}};
   WANT(dm_ray_on_shape(&world, (dm_vec){0, 0}, (dm_vec){1, 1}, id, &on_shape) == DM_NO_WORLD && on_shape.is_hit == 7);
+  def.unused = joint.unused = all.unused = 1;
+  WANT(dm_create_body(&world, &def, &shape, 1, &made) == DM_OUT_OF_RANGE && dm_create_joint(&world, &joint, &made) == DM_OUT_OF_RANGE && made.slot == 7);
+  WANT(dm_ray_through(&world, (dm_vec){0, 0}, (dm_vec){1, 1}, &all, &hit) == DM_OUT_OF_RANGE);
   dm_frame frame = DM_NO_FRAME;
   WANT(dm_frame_take(&world, &frame) == DM_NO_WORLD && frame.at == 0);
   WANT(dm_frame_pose(frame, made, &pose) == DM_NO_WORLD && dm_frame_total(frame, &sum) == DM_NO_WORLD && dm_frame_calls(frame) == 0);

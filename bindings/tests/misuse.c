@@ -43,11 +43,13 @@ static void wrong_definitions(void) {
   def.kind = DM_DYNAMIC;
   shape.form = 3;
   REFUSED(dm_add_body(&world, def, shape, &made), DM_BAD_KIND);
+  def.unused = 1;
+  REFUSED(dm_add_body(&world, def, shape, &made), DM_OUT_OF_RANGE); /* before the form, which is none */
   WANT(made.slot == 77 && made.generation == 7);
 }
 
 static void wrong_bodies(dm_handle ball, dm_handle floor, dm_handle lift, dm_handle gone) {
-  dm_joint_def same_ends = dm_joint_def_of(ball, ball, DM_METRE), to_none = dm_joint_def_of(ball, gone, DM_METRE);
+  dm_joint_def same_ends = dm_joint_def_of(ball, ball, DM_METRE), to_none = dm_joint_def_of(ball, gone, DM_METRE), used = to_none;
   dm_handle made = DM_NOBODY;
   dm_vec by = {1000, 1000}, far = {INT64_MAX, INT64_MIN};
   dm_view view;
@@ -68,6 +70,8 @@ static void wrong_bodies(dm_handle ball, dm_handle floor, dm_handle lift, dm_han
   REFUSED(dm_set_pose(&world, ball, by, dm_degrees(1e12)), DM_OUT_OF_RANGE);
   REFUSED(dm_create_joint(&world, &same_ends, &made), DM_SAME_BODY);
   REFUSED(dm_create_joint(&world, &to_none, &made), DM_STALE_HANDLE);
+  used.unused = UINT32_MAX;
+  REFUSED(dm_create_joint(&world, &used, &made), DM_OUT_OF_RANGE); /* before its ends, of which one is gone */
   REFUSED(dm_step(&world, 0, &step), DM_OUT_OF_RANGE);
   REFUSED(dm_step(&world, 9, &step), DM_OUT_OF_RANGE);
   REFUSED(dm_step(&world, -1, &step), DM_OUT_OF_RANGE);
@@ -75,8 +79,8 @@ static void wrong_bodies(dm_handle ball, dm_handle floor, dm_handle lift, dm_han
 }
 
 static void wrong_batches(dm_handle ball) {
-  dm_command commands[4];
-  dm_answer answers[4];
+  dm_command commands[7];
+  dm_answer answers[7];
   dm_shape shape = dm_circle_shape(DM_METRE);
   memset(commands, 0, sizeof commands);
   commands[0].body = commands[1].body = dm_static_def(dm_at(0, 50));
@@ -84,12 +88,27 @@ static void wrong_batches(dm_handle ball) {
   commands[1].shapes_from = UINT32_MAX, commands[1].shapes_count = 2;
   commands[2].kind = 14;
   commands[3].kind = DM_DO_PUSH_AT, commands[3].joint.a = ball, commands[3].by = (dm_vec){INT64_MIN, 0};
-  WANT(dm_apply_all(&world, commands, 4, &shape, 1, answers, 4) == 4);
+  commands[4].kind = DM_DO_WAKE, commands[4].joint.a = ball, commands[4].unused = 1;
+  commands[5].body = commands[0].body, commands[5].body.unused = 1, commands[5].shapes_count = 1;
+  commands[6].kind = DM_DO_CREATE_JOINT, commands[6].joint = dm_joint_def_of(ball, ball, DM_METRE), commands[6].joint.unused = 1;
+  WANT(dm_apply_all(&world, commands, 7, &shape, 1, answers, 7) == 7);
   REFUSED(answers[0].status, DM_BAD_SPAN);
   REFUSED(answers[1].status, DM_BAD_SPAN);
   REFUSED(answers[2].status, DM_BAD_KIND);
-  REFUSED(answers[3].status, DM_OUT_OF_RANGE);
+  for (int i = 3; i < 7; i++) REFUSED(answers[i].status, DM_OUT_OF_RANGE);
   WANT(dm_apply_all(&world, commands, 4, &shape, 1, answers, 0) == 0);
+}
+
+static void wrong_filters(void) {
+  dm_filter filter = {{0, 0}, 0, 0, 1};
+  dm_vec from = {0, 0}, along = {DM_METRE, 0};
+  dm_box box = {{0, 0}, {DM_METRE, DM_METRE}};
+  dm_hit hit = {7, 7, {7, 7}};
+  size_t count = 77;
+  REFUSED(dm_ray_through(&world, from, along, &filter, &hit), DM_OUT_OF_RANGE);
+  REFUSED(dm_ray_all(&world, from, along, &filter, &count), DM_OUT_OF_RANGE);
+  REFUSED(dm_region_through(&world, &box, &filter, &count), DM_OUT_OF_RANGE);
+  WANT(count == 77 && hit.is_hit == 7);
 }
 
 static void wrong_texts(void) {
@@ -134,6 +153,7 @@ static void *run(void *nothing) {
   wrong_definitions();
   wrong_bodies(ball, floor, lift, gone);
   wrong_batches(ball);
+  wrong_filters();
   wrong_texts();
   foreign_ids(floor);
   a_closed_world();

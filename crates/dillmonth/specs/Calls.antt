@@ -1,21 +1,22 @@
 -- Trusted: What a call does to the desk that a caller holds.
-use Rattle.std.specs.Prelude.{◌≡◌, ℕ, ◌==◌, ◌⊎◌, cond, Option, Some, None, option_map, Result}
+use Rattle.std.specs.Prelude.{◌≡◌, ℕ, ◌==◌, ◌⊎◌, cond, Option, Some, None, option_map, Result, Ok, Err}
 use Rattle.fixed_geom.specs.declared.refusal.Refusal.{Refusal}
 use Rattle.plain_world.specs.Bodies.{view_of}
 use Rattle.plain_world.specs.declared.body.BodyDef.{BodyDef}
 use Rattle.plain_world.specs.declared.body.BodyView.{BodyView}
+use Rattle.plain_world.specs.declared.joint.JointDef.{JointDef}
 use Rattle.dillmonth.specs.Forms.{answer_said, bare, handle_said}
 use Rattle.dillmonth.specs.Lists.{view_shown}
 use Rattle.dillmonth.specs.declared.forms.CAnswer.{CAnswer}
 use Rattle.dillmonth.specs.declared.forms.CHandle.{CHandle}
 use Rattle.dillmonth.specs.declared.forms.CView.{CView}
-use Rattle.dillmonth.specs.declared.statuses.TheConstants.{BAD_KIND, NO_WORLD}
+use Rattle.dillmonth.specs.declared.statuses.TheConstants.{NO_WORLD}
 use Rattle.world_desk.specs.Logs.{Applies}
 use Rattle.world_desk.specs.Tags.{tag_of}
 use Rattle.world_desk.specs.declared.desk.Desk.{Desk}
 use Rattle.world_rules.specs.World.{body_named}
 use Rattle.world_rules.specs.declared.command.Command.{Command}
-use Rattle.world_rules.specs.declared.command.Command.TheVariants.{CreateBody}
+use Rattle.world_rules.specs.declared.command.Command.TheVariants.{CreateBody, CreateJoint}
 use Rattle.world_rules.specs.declared.command.Reply.{Reply}
 
 -- one command, by the rules of the world, and the events that it adds: what is answered is the outcome in numbers
@@ -41,10 +42,15 @@ Makes c old status before after new = (answer : CAnswer) × (status ≡ answer.s
 abbrev pub Steps : Command → Option Desk → ℕ → ℕ → ℕ → Option Desk → Type 0
 Steps c old status before after new = (answer : CAnswer) × (status ≡ answer.status) × (after ≡ cond (answer.status == 0) answer.step before) × Does c old answer new
 
--- a body is made of what was said; or its kind or the form of a shape is none, or memory is wanting for its shapes, and nothing has changed
-abbrev pub Creates : Option BodyDef → Option Desk → ℕ → CHandle → CHandle → Option Desk → Type 0
-Creates None old status before after new = ((status ≡ BAD_KIND) ⊎ (status ≡ 1)) × (after ≡ before) × (new ≡ old)
-Creates (Some def) old status before after new = Makes (CreateBody def) old status before after new ⊎ ((status ≡ 1) × (after ≡ before) × (new ≡ old))
+-- a joint is made of what was said; or it is said why there is none, and nothing has changed
+abbrev pub Joins : Result JointDef ℕ → Option Desk → ℕ → CHandle → CHandle → Option Desk → Type 0
+Joins (Err due) old status before after new = (status ≡ due) × (after ≡ before) × (new ≡ old)
+Joins (Ok def) old status before after new = Makes (CreateJoint def) old status before after new
+
+-- a body is made of what was said; or it is said why there is none, or memory is wanting for its shapes, and nothing has changed
+abbrev pub Creates : Result BodyDef ℕ → Option Desk → ℕ → CHandle → CHandle → Option Desk → Type 0
+Creates (Err due) old status before after new = ((status ≡ due) ⊎ (status ≡ 1)) × (after ≡ before) × (new ≡ old)
+Creates (Ok def) old status before after new = Makes (CreateBody def) old status before after new ⊎ ((status ≡ 1) × (after ≡ before) × (new ≡ old))
 
 -- ---- one body
 

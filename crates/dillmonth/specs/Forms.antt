@@ -19,7 +19,7 @@ use Rattle.dillmonth.specs.declared.forms.CPose.{CPose}
 use Rattle.dillmonth.specs.declared.forms.CShape.{CShape}
 use Rattle.dillmonth.specs.declared.forms.CShapeId.{CShapeId}
 use Rattle.dillmonth.specs.declared.forms.CVector.{CVector}
-use Rattle.dillmonth.specs.declared.statuses.TheConstants.{BAD_KIND}
+use Rattle.dillmonth.specs.declared.statuses.TheConstants.{BAD_KIND, OUT_OF_RANGE}
 use Rattle.momenta.specs.declared.mass.MassData.{MassData}
 use Rattle.plain_world.specs.declared.body.BodyDef.{BodyDef}
 use Rattle.plain_world.specs.declared.joint.JointDef.{JointDef}
@@ -68,8 +68,14 @@ course_said velocity spin = record { velocity = vector_said velocity; spin = spi
 abbrev pub box_said : CBox → Box2
 box_said b = record { lo = vector_said b.lo; hi = vector_said b.hi }
 
-abbrev pub joint_said : CJointDef → JointDef
-joint_said d = record { a = handle_said d.a; b = handle_said d.b; from = vector_said d.from; to = vector_said d.to; length = d.length; collide = not (d.collide == 0) }
+-- what a kind or a form says, where there is one of this number
+abbrev pub known : {T : Type 0} → Option T → Result T ℕ
+known None = Err BAD_KIND
+known (Some said) = Ok said
+
+-- the joint to be made, where the field without a meaning is 0
+abbrev pub joint_said : CJointDef → Result JointDef ℕ
+joint_said d = if d.unused == 0 then Ok (record { a = handle_said d.a; b = handle_said d.b; from = vector_said d.from; to = vector_said d.to; length = d.length; collide = not (d.collide == 0) }) else Err OUT_OF_RANGE
 
 -- ---- bodies to be made
 
@@ -107,14 +113,14 @@ body_said d None shapes = None
 body_said d (Some kind) None = None
 body_said d (Some kind) (Some shapes) = Some (record { kind = kind; mass = mass_said d; x = vector_said d.at; rot = facing_said d.facing; shapes = shapes })
 
--- the body to be made, where its kind and the form of each shape is one
-abbrev pub def_said : CBodyDef → List CShape → Option BodyDef
-def_said d shapes = body_said d (kind_said d) (shapes_said shapes)
+-- the body to be made, where the field without a meaning is 0, and its kind and the form of each shape is one
+abbrev pub def_said : CBodyDef → List CShape → Result BodyDef ℕ
+def_said d shapes = if d.unused == 0 then known (body_said d (kind_said d) (shapes_said shapes)) else Err OUT_OF_RANGE
 
--- why nothing is made: want of memory, or a kind or a form that is none
-abbrev pub IsUnmade : {T : Type 0} → Option T → ℕ → Type 0
-IsUnmade None status = (status ≡ BAD_KIND) ⊎ (status ≡ 1)
-IsUnmade (Some made) status = status ≡ 1
+-- why nothing is made: want of memory, or what is wrong with what was said
+abbrev pub IsUnmade : {T : Type 0} → Result T ℕ → ℕ → Type 0
+IsUnmade (Err due) status = (status ≡ due) ⊎ (status ≡ 1)
+IsUnmade (Ok made) status = status ≡ 1
 
 -- ---- answers
 

@@ -9,7 +9,7 @@ use Rattle.dillmonth.specs.Statuses.{status_of}
 use Rattle.dillmonth.specs.declared.forms.CHandle.{CHandle}
 use Rattle.dillmonth.specs.declared.questions.CFilter.{CFilter}
 use Rattle.dillmonth.specs.declared.questions.CHit.{CHit}
-use Rattle.dillmonth.specs.declared.statuses.TheConstants.{NO_WORLD}
+use Rattle.dillmonth.specs.declared.statuses.TheConstants.{NO_WORLD, OUT_OF_RANGE}
 use Rattle.shape_rays.specs.Hits.{first_hit, region}
 use Rattle.shape_rays.specs.declared.hits.Hit.{Hit}
 use Rattle.shapes.specs.Rays.{IsBeam, beam_of}
@@ -73,8 +73,9 @@ without_said h = if (h.slot == 0) && (h.generation == 0) then None else Some (ha
 abbrev pub mask_said : CFilter → Option ℕ
 mask_said f = if f.by_mask == 0 then None else Some f.mask
 
-abbrev pub filter_said : CFilter → QueryFilter
-filter_said f = record { without = without_said f.without; mask = mask_said f }
+-- the filter, where the field without a meaning is 0
+abbrev pub filter_said : CFilter → Option QueryFilter
+filter_said f = if f.unused == 0 then Some (record { without = without_said f.without; mask = mask_said f }) else None
 
 -- the ray's first hit on the shapes that the filter lets through is written; or the ray is beyond its limits, or the filter leaves out a body that
 -- doesn't live, and nothing is written
@@ -83,9 +84,11 @@ HitsThrough w from along f status before after =
     (IsBeam (beam_of from along) × (filter_refusal w.plain f ≡ None) × (status ≡ 0) × (after ≡ hit_shown (first_hit (beam_of from along) (shapes_through f w.plain.bodies))))
     ⊎ ((((¬ IsBeam (beam_of from along)) × (status ≡ 5)) ⊎ (IsBeam (beam_of from along) × IsDueAs (filter_refusal w.plain f) status)) × (after ≡ before))
 
-abbrev pub HitsThroughIn : Option Desk → Vec2 → Vec2 → QueryFilter → ℕ → CHit → CHit → Type 0
-HitsThroughIn None from along f status before after = (status ≡ NO_WORLD) × (after ≡ before)
-HitsThroughIn (Some desk) from along f status before after = HitsThrough desk.world from along f status before after
+-- the same where the filter may be none, and where there may be no world
+abbrev pub HitsThroughIn : Option QueryFilter → Option Desk → Vec2 → Vec2 → ℕ → CHit → CHit → Type 0
+HitsThroughIn None desk from along status before after = (status ≡ OUT_OF_RANGE) × (after ≡ before)
+HitsThroughIn (Some f) None from along status before after = (status ≡ NO_WORLD) × (after ≡ before)
+HitsThroughIn (Some f) (Some desk) from along status before after = HitsThrough desk.world from along f status before after
 
 -- the shapes over the region that the filter lets through are kept and counted, and all else is as it was; or nothing has changed, and it is said why
 abbrev pub FindsThroughAt : Box2 → QueryFilter → Desk → ℕ → ℕ → ℕ → Desk → Type 0
@@ -93,10 +96,11 @@ FindsThroughAt bounds f old status before after new =
     ((status ≡ 0) × ((is_region bounds ≡ true) × (filter_refusal old.world.plain f ≡ None)) × (new ≡ record old { found = new.found }) × (new.found.items ≡ region bounds (shapes_through f old.world.plain.bodies)) × (after ≡ length new.found.items))
     ⊎ (((e : Refusal) × filtered_refusal bounds (filter_refusal old.world.plain f) e × (status ≡ status_of e)) × (after ≡ before) × (new ≡ old))
 
-abbrev pub FindsThrough : Box2 → QueryFilter → Option Desk → ℕ → ℕ → ℕ → Option Desk → Type 0
-FindsThrough bounds f None status before after new = (status ≡ NO_WORLD) × (after ≡ before) × (new ≡ None)
-FindsThrough bounds f (Some old) status before after None = ⊥
-FindsThrough bounds f (Some old) status before after (Some new) = FindsThroughAt bounds f old status before after new
+abbrev pub FindsThrough : Box2 → Option QueryFilter → Option Desk → ℕ → ℕ → ℕ → Option Desk → Type 0
+FindsThrough bounds None old status before after new = (status ≡ OUT_OF_RANGE) × (after ≡ before) × (new ≡ old)
+FindsThrough bounds (Some f) None status before after new = (status ≡ NO_WORLD) × (after ≡ before) × (new ≡ None)
+FindsThrough bounds (Some f) (Some old) status before after None = ⊥
+FindsThrough bounds (Some f) (Some old) status before after (Some new) = FindsThroughAt bounds f old status before after new
 
 -- all hits of the ray on the shapes that the filter lets through are kept in order and counted, and all else is as it was; or nothing has changed, and it is said why
 abbrev pub HitsAllAt : Vec2 → Vec2 → QueryFilter → Desk → ℕ → ℕ → ℕ → Desk → Type 0
@@ -104,10 +108,11 @@ HitsAllAt from along f old status before after new =
     ((status ≡ 0) × (IsBeam (beam_of from along) × (filter_refusal old.world.plain f ≡ None)) × (new ≡ record old { hits = new.hits }) × AreAllHits (beam_of from along) (shapes_through f old.world.plain.bodies) new.hits.items × (after ≡ length new.hits.items))
     ⊎ (((e : Refusal) × ray_refusal from along (filter_refusal old.world.plain f) e × (status ≡ status_of e)) × (after ≡ before) × (new ≡ old))
 
-abbrev pub HitsAll : Vec2 → Vec2 → QueryFilter → Option Desk → ℕ → ℕ → ℕ → Option Desk → Type 0
-HitsAll from along f None status before after new = (status ≡ NO_WORLD) × (after ≡ before) × (new ≡ None)
-HitsAll from along f (Some old) status before after None = ⊥
-HitsAll from along f (Some old) status before after (Some new) = HitsAllAt from along f old status before after new
+abbrev pub HitsAll : Vec2 → Vec2 → Option QueryFilter → Option Desk → ℕ → ℕ → ℕ → Option Desk → Type 0
+HitsAll from along None old status before after new = (status ≡ OUT_OF_RANGE) × (after ≡ before) × (new ≡ old)
+HitsAll from along (Some f) None status before after new = (status ≡ NO_WORLD) × (after ≡ before) × (new ≡ None)
+HitsAll from along (Some f) (Some old) status before after None = ⊥
+HitsAll from along (Some f) (Some old) status before after (Some new) = HitsAllAt from along f old status before after new
 
 abbrev pub hits_in : Option Desk → List Hit
 hits_in None = []

@@ -1,14 +1,15 @@
 //! Many commands in one call.
 
 ghost use Rattle.std.specs.Prelude.{◌≡◌, IfErr, IfOk, IfSome, None, Ok, drop, length, min, option_map, take};
-ghost use Rattle.dillmonth.specs.Batch.{IsAnsweredAs, IsUnsaid, Ran, RanAll, command_said, creation_said, plain_said, span_of};
+ghost use Rattle.dillmonth.specs.Batch.{IsAnsweredAs, Ran, RanAll, command_said, creation_said, joined, plain_said, span_of};
+ghost use Rattle.dillmonth.specs.Forms.{IsUnmade, joint_said};
 
 use crate::commands::{answer_to, bare};
 use crate::forms::{
     CAnswer, CCommand, CShape, course_of, def_of, handle_of, joint_of, pose_of, vector_of,
 };
 use crate::held::{CWorld, put, take};
-use crate::statuses::{BAD_KIND, BAD_SPAN};
+use crate::statuses::{BAD_KIND, BAD_SPAN, OUT_OF_RANGE};
 use std::alloc::Global;
 use world_core::Command;
 use world_desk::Desk;
@@ -28,7 +29,7 @@ fn shapes_in<'a>(command: &CCommand, shapes: &'a [CShape]) -> Option<&'a [CShape
 /// A body to be made.
 fn creation_of(alloc: Global, command: &CCommand, shapes: &[CShape]) -> Result<Command, u32>
     ensures said { IfOk result (λ said. creation_said command.now (span_of command.now shapes.now) ≡ Ok said) }
-    ensures refused { IfErr result (λ status. IsUnsaid (creation_said command.now (span_of command.now shapes.now)) status) }
+    ensures refused { IfErr result (λ status. IsUnmade (creation_said command.now (span_of command.now shapes.now)) status) }
 {
     let Some(part) = shapes_in(command, shapes) else {
         return Err(BAD_SPAN);
@@ -37,14 +38,23 @@ fn creation_of(alloc: Global, command: &CCommand, shapes: &[CShape]) -> Result<C
     Ok(Command::CreateBody(def))
 }
 
-/// A command that makes no body, if there is one of this kind.
+/// A joint to be made.
+fn joining_of(command: &CCommand) -> Result<Command, u32>
+    ensures { result ≡ joined (joint_said command.now.joint) }
+{
+    match joint_of(&command.joint) {
+        Err(status) => Err(status),
+        Ok(def) => Ok(Command::CreateJoint(def)),
+    }
+}
+
+/// A command that makes nothing, if there is one of this kind.
 fn plain_command(command: &CCommand) -> Option<Command>
     ensures { result ≡ plain_said command.now }
 {
     let body = handle_of(command.joint.a);
     match command.kind {
         1 => Some(Command::DestroyBody(body)),
-        2 => Some(Command::CreateJoint(joint_of(&command.joint))),
         3 => Some(Command::DestroyJoint(body)),
         4 => Some(Command::Push(body, vector_of(command.by))),
         5 => Some(Command::PushAt(body, vector_of(command.by), vector_of(command.offset))),
@@ -63,10 +73,16 @@ fn plain_command(command: &CCommand) -> Option<Command>
 /// What a command says; a status where it says none, or where memory is wanting.
 fn command_of(alloc: Global, command: &CCommand, shapes: &[CShape]) -> Result<Command, u32>
     ensures said { IfOk result (λ said. command_said shapes.now command.now ≡ Ok said) }
-    ensures refused { IfErr result (λ status. IsUnsaid (command_said shapes.now command.now) status) }
+    ensures refused { IfErr result (λ status. IsUnmade (command_said shapes.now command.now) status) }
 {
+    if command.unused != 0 {
+        return Err(OUT_OF_RANGE);
+    }
     if command.kind == 0 {
         return creation_of(alloc, command, shapes);
+    }
+    if command.kind == 2 {
+        return joining_of(command);
     }
     match plain_command(command) {
         Some(command) => Ok(command),

@@ -1,7 +1,7 @@
 //! The commands, one call each.
 
 ghost use Rattle.std.specs.Prelude.{◌≡◌, ◌==◌, cond};
-ghost use Rattle.dillmonth.specs.Calls.{Creates, Does, DoesAs, IsAnswered, Makes, Steps};
+ghost use Rattle.dillmonth.specs.Calls.{Creates, Does, DoesAs, IsAnswered, Joins, Steps};
 ghost use Rattle.dillmonth.specs.Forms.{answer_said, bare, course_said, def_said, handle_said, joint_said, pose_said, vector_said};
 
 use crate::forms::{
@@ -106,7 +106,7 @@ fn write_step(answer: &CAnswer, step: &mut u64)
     }
 }
 
-/// Makes a body at rest; `made` is written where it is done. Refused 33 for a kind or a form that is none, and as
+/// Makes a body at rest; `made` is written where it is done. Refused 5 where `unused` isn't 0, 33 for a kind or a form that is none, and as
 /// `Command::CreateBody`.
 #[unsafe(no_mangle)]
 pub extern "C" fn dm_create_body(
@@ -136,7 +136,7 @@ pub extern "C" fn dm_destroy_body(alloc: Global, world: &mut CWorld, body: CHand
     do_one(alloc, world, Command::DestroyBody(handle_of(body))).status
 }
 
-/// Joins two bodies; `made` is written where it is done.
+/// Joins two bodies; `made` is written where it is done. Refused 5 where `unused` isn't 0, and as `Command::CreateJoint`.
 #[unsafe(no_mangle)]
 pub extern "C" fn dm_create_joint(
     alloc: Global,
@@ -144,11 +144,16 @@ pub extern "C" fn dm_create_joint(
     def: &CJointDef,
     made: &mut CHandle,
 ) -> u32
-    ensures { Makes (Command.CreateJoint (joint_said def.now)) world.old.desk result made.old made.new world.new.desk }
+    ensures { Joins (joint_said def.now) world.old.desk result made.old made.new world.new.desk }
 {
-    let answer = do_one(alloc, world, Command::CreateJoint(joint_of(def)));
-    write_made(&answer, made);
-    answer.status
+    match joint_of(def) {
+        Err(status) => status,
+        Ok(def) => {
+            let answer = do_one(alloc, world, Command::CreateJoint(def));
+            write_made(&answer, made);
+            answer.status
+        }
+    }
 }
 
 /// Takes a joint away.

@@ -1,9 +1,9 @@
 //! Values as C has them, and what they are for a world.
 
-ghost use Rattle.std.specs.Prelude.{◌≡◌, ◌∷◌, ◌++◌, [], IfErr, IfOk, Some};
-ghost use Rattle.dillmonth.specs.Forms.{IsUnmade, box_said, course_said, def_said, facing_said, form_said, handle_said, handle_shown, id_shown, joint_said, kind_said, mass_said, pair_shown, pose_said, shape_said, shapes_said, vector_said, vector_shown};
+ghost use Rattle.std.specs.Prelude.{◌≡◌, ◌∷◌, ◌++◌, [], IfErr, IfOk, Ok, Some};
+ghost use Rattle.dillmonth.specs.Forms.{IsUnmade, body_said, box_said, course_said, def_said, facing_said, form_said, handle_said, handle_shown, id_shown, joint_said, kind_said, known, mass_said, pair_shown, pose_said, shape_said, shapes_said, vector_said, vector_shown};
 
-use crate::statuses::BAD_KIND;
+use crate::statuses::{BAD_KIND, OUT_OF_RANGE};
 use contacts_base::{ContactKey, ShapeId};
 use fixed_geom::{Box2, Rot, Vec2};
 use momenta::MassData;
@@ -282,16 +282,21 @@ pub(crate) fn box_of(bounds: &CBox) -> Box2
     }
 }
 
-pub(crate) fn joint_of(def: &CJointDef) -> JointDef
+/// The joint to be made; a status where the field without a meaning isn't 0.
+pub(crate) fn joint_of(def: &CJointDef) -> Result<JointDef, u32>
     ensures { result ≡ joint_said def.now }
 {
-    JointDef {
-        a: handle_of(def.a),
-        b: handle_of(def.b),
-        from: vector_of(def.from),
-        to: vector_of(def.to),
-        length: def.length,
-        collide: def.collide != 0,
+    if def.unused == 0 {
+        Ok(JointDef {
+            a: handle_of(def.a),
+            b: handle_of(def.b),
+            from: vector_of(def.from),
+            to: vector_of(def.to),
+            length: def.length,
+            collide: def.collide != 0,
+        })
+    } else {
+        Err(OUT_OF_RANGE)
     }
 }
 
@@ -338,7 +343,7 @@ fn shape_of(shape: &CShape) -> Option<ShapeDef>
 /// The shapes; a status where a form is none, or where memory is wanting.
 fn shapes_of(alloc: Global, shapes: &[CShape]) -> Result<Shapes, u32>
     ensures made { IfOk result (λ made. shapes_said shapes.now ≡ Some made) }
-    ensures refused { IfErr result (λ status. IsUnmade (shapes_said shapes.now) status) }
+    ensures refused { IfErr result (λ status. IsUnmade (known (shapes_said shapes.now)) status) }
 {
     let mut made = Shapes::new(alloc);
     for shape in shapes {
@@ -383,10 +388,10 @@ fn mass_of(def: &CBodyDef) -> MassData
     }
 }
 
-/// The body to be made; a status where a kind or a form is none, or where memory is wanting.
-pub(crate) fn def_of(alloc: Global, def: &CBodyDef, shapes: &[CShape]) -> Result<BodyDef, u32>
-    ensures made { IfOk result (λ made. def_said def.now shapes.now ≡ Some made) }
-    ensures refused { IfErr result (λ status. IsUnmade (def_said def.now shapes.now) status) }
+/// The body to be made, whatever its field without a meaning has; a status where a kind or a form is none, or where memory is wanting.
+fn body_of(alloc: Global, def: &CBodyDef, shapes: &[CShape]) -> Result<BodyDef, u32>
+    ensures made { IfOk result (λ made. body_said def.now (kind_said def.now) (shapes_said shapes.now) ≡ Some made) }
+    ensures refused { IfErr result (λ status. IsUnmade (known (body_said def.now (kind_said def.now) (shapes_said shapes.now))) status) }
 {
     let Some(kind) = kind_of(def) else {
         return Err(BAD_KIND);
@@ -399,4 +404,15 @@ pub(crate) fn def_of(alloc: Global, def: &CBodyDef, shapes: &[CShape]) -> Result
         rot: facing_of(def.facing),
         shapes,
     })
+}
+
+/// The body to be made; a status where the field without a meaning isn't 0, where a kind or a form is none, or where memory is wanting.
+pub(crate) fn def_of(alloc: Global, def: &CBodyDef, shapes: &[CShape]) -> Result<BodyDef, u32>
+    ensures made { IfOk result (λ made. def_said def.now shapes.now ≡ Ok made) }
+    ensures refused { IfErr result (λ status. IsUnmade (def_said def.now shapes.now) status) }
+{
+    if def.unused != 0 {
+        return Err(OUT_OF_RANGE);
+    }
+    body_of(alloc, def, shapes)
 }

@@ -10,7 +10,7 @@ use crate::forms::{
 };
 use crate::held::{CWorld, put, take};
 use crate::shown::{Shown, write_all};
-use crate::statuses::{DONE, NO_WORLD, status_of};
+use crate::statuses::{DONE, NO_WORLD, OUT_OF_RANGE, status_of};
 use fixed_geom::Vec2;
 use std::alloc::Global;
 use world_core::{Handle, WorldCore};
@@ -90,12 +90,17 @@ fn mask_of(filter: &CFilter) -> Option<u64>
     }
 }
 
-fn filter_of(filter: &CFilter) -> QueryFilter
+/// The filter, if the field without a meaning is 0.
+fn filter_of(filter: &CFilter) -> Option<QueryFilter>
     ensures { result ≡ filter_said filter.now }
 {
-    QueryFilter {
-        without: without_of(filter.without),
-        mask: mask_of(filter),
+    if filter.unused == 0 {
+        Some(QueryFilter {
+            without: without_of(filter.without),
+            mask: mask_of(filter),
+        })
+    } else {
+        None
     }
 }
 
@@ -106,7 +111,7 @@ fn write_hit(world: &WorldCore, from: CVector, along: CVector, out: &mut CHit) -
     let from = vector_of(from);
     let along = vector_of(along);
     if !is_ray(from, along) {
-        return 5;
+        return OUT_OF_RANGE;
     }
     *out = show_hit(ray(world, from, along));
     DONE
@@ -146,7 +151,7 @@ fn write_hit_through(
     ensures { HitsThrough world.now from along filter result out.old out.new }
 {
     if !is_ray(from, along) {
-        return 5;
+        return OUT_OF_RANGE;
     }
     match filtered_ray(world, from, along, filter) {
         Ok(hit) => {
@@ -169,12 +174,14 @@ pub extern "C" fn dm_ray_through(
     out: &mut CHit,
 ) -> u32
     ensures kept { world.new.desk ≡ world.old.desk }
-    ensures hit { HitsThroughIn world.old.desk (vector_said from) (vector_said along) (filter_said filter.now) result out.old out.new }
+    ensures hit { HitsThroughIn (filter_said filter.now) world.old.desk (vector_said from) (vector_said along) result out.old out.new }
 {
+    let Some(filter) = filter_of(filter) else {
+        return OUT_OF_RANGE;
+    };
     match take(alloc, world) {
         None => NO_WORLD,
         Some(desk) => {
-            let filter = filter_of(filter);
             let status = write_hit_through(
                 &desk.world,
                 vector_of(from),
@@ -222,10 +229,12 @@ pub extern "C" fn dm_ray_all(
 ) -> u32
     ensures { HitsAll (vector_said from) (vector_said along) (filter_said filter.now) world.old.desk result count.old count.new world.new.desk }
 {
+    let Some(filter) = filter_of(filter) else {
+        return OUT_OF_RANGE;
+    };
     match take(alloc, world) {
         None => NO_WORLD,
         Some(mut desk) => {
-            let filter = filter_of(filter);
             let status = find_hits(
                 alloc,
                 &mut desk,
@@ -289,10 +298,12 @@ pub extern "C" fn dm_region_through(
 ) -> u32
     ensures { FindsThrough (box_said bounds.now) (filter_said filter.now) world.old.desk result count.old count.new world.new.desk }
 {
+    let Some(filter) = filter_of(filter) else {
+        return OUT_OF_RANGE;
+    };
     match take(alloc, world) {
         None => NO_WORLD,
         Some(mut desk) => {
-            let filter = filter_of(filter);
             let status = find_through(alloc, &mut desk, bounds, filter, count);
             put(world, desk);
             status

@@ -10,6 +10,9 @@ use world_desk::Unread;
 /// The call did what it says. Refusals have the numbers 1 to 15.
 pub(crate) const DONE: u32 = 0;
 
+/// The refusal of a number outside its limit: also of a field without a meaning that isn't 0.
+pub(crate) const OUT_OF_RANGE: u32 = 5;
+
 /// There is no world.
 pub(crate) const NO_WORLD: u32 = 32;
 
@@ -25,6 +28,7 @@ pub(crate) const BAD_TEXT: u32 = 35;
 /// The law of the statuses: the numbers that definitions take from the code, in digits. The function does nothing; its contract is the law.
 pub fn statuses_in_digits()
     ensures done { DONE ≡ 0 }
+    ensures out_of_range { OUT_OF_RANGE ≡ 5 }
     ensures no_world { NO_WORLD ≡ 32 }
     ensures bad_kind { BAD_KIND ≡ 33 }
     ensures bad_span { BAD_SPAN ≡ 34 }
