@@ -166,6 +166,12 @@ def pile():
     return ["gravity 0 -157", f"floor 0 0 {4 * METRE}", *circles, *["step 4"] * 10]
 
 
+def pairs():
+    """Forty islands of two circles each: the one falls on the other, which lies on a floor."""
+    circles = [f"circle 16 8589934592 {n // 2 * 200_000} {32_768 + n % 2 * 65_000} 32768 128" for n in range(80)]
+    return ["gravity 0 -157", f"floor 0 0 {16 * METRE}", *circles, *["step 4"] * 4]
+
+
 class World:
     """A world, and the calls that are made in it."""
 
@@ -241,6 +247,13 @@ def all_worlds():
             ["push 1 5 6", "step 8", NEW_BODY],
             ["set_velocity 0 3 4 5", "set_pose 0 50 60", "destroy 0", "destroy 1", "disable 0", "disable 1", "wake 1"],
             refusals(1, 0) + ["push 0 1 1", "wake 0", "sleep 0"],
+        ),
+        "pairs": World(
+            pairs(),
+            ["step 4", "push 7 5 6", NEW_BODY],
+            ["destroy 0", "destroy 7", "disable 8", "set_pose 7 70000000 0", "sleep 7"],
+            refusals(1, 2, still=0),
+            {"save": 29, "load": 29},
         ),
         "pile": World(
             pile(),

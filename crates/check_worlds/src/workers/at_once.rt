@@ -2,7 +2,7 @@
 
 use crate::whole_world::WholeWorld;
 use crate::workers::gates::Meeting;
-use crate::workers::steps::{step_by_kept_workers, step_by_workers};
+use crate::workers::steps::{WorkerStep, step_by_kept_workers, step_by_workers};
 use check_scenes::{Piles, Stop, World, Worlds, text_of};
 use crew::{Gate, OpenGate};
 use std::alloc::Global;
@@ -62,8 +62,12 @@ fn are_steps_with<R: AllocGlobal + Threads + Wait + Sync, G: Gate + Sync, W: Who
     workers: u64,
     after: &[String],
 ) -> Result<bool, Refusal> {
+    let step = WorkerStep {
+        workers,
+        ticks: TICKS,
+    };
     for text in after {
-        let _ = step_by_workers(rt, gate, world.core(), workers, TICKS)?;
+        let _ = step_by_workers(rt, gate, world.core(), step)?;
         if !is_text(rt.alloc(), world, text.as_str())? {
             return Ok(false);
         }

@@ -1,7 +1,7 @@
 //! Steps by workers to which memory or threads may be refused.
 
 use crate::whole_world::WholeWorld;
-use crate::workers::steps::step_by_workers;
+use crate::workers::steps::{WorkerStep, step_by_parts, step_by_workers};
 use check_scenes::{CallMark, World, Worlds, text_of, word_of_untried};
 use crew::OpenGate;
 use std::alloc::Global;
@@ -12,32 +12,36 @@ use world_core::{Refusal, Reply, WorldCore};
 /// How many ticks the step has.
 const TICKS: i64 = 8;
 
-/// A step of so many ticks by so many workers.
+/// A step by workers.
 #[derive(Clone, Copy)]
 pub struct Call {
-    workers: u64,
-    ticks: i64,
+    step: WorkerStep,
+    /// Whether a crew solves it by parts, however small it is. Else the calling thread solves a small one alone.
+    is_by_parts: bool,
 }
 
 impl Call {
     /// The call that a word of the program names.
     pub fn of_word(word: &str) -> Option<Call> {
         let (workers, ticks) = match word {
-            "step_with" => (3, TICKS),
+            "step_with" | "step_by_parts" => (3, TICKS),
             "no_workers" => (0, TICKS),
             "too_many_workers" => (65, TICKS),
             "too_many_ticks" => (3, TICKS + 1),
             _ => return None,
         };
-        Some(Call { workers, ticks })
+        Some(Call {
+            step: WorkerStep { workers, ticks },
+            is_by_parts: word == "step_by_parts",
+        })
     }
 
     /// What it is due in this world, by one thread.
     fn due<W: WholeWorld>(self, world: &mut W) -> Result<Reply, Refusal> {
-        if self.workers < 1 || self.workers > 64 {
+        if self.step.workers < 1 || self.step.workers > 64 {
             return Err(Refusal::OutOfRange);
         }
-        world.step(self.ticks)
+        world.step(self.step.ticks)
     }
 }
 
@@ -94,6 +98,19 @@ fn judge<W: WholeWorld>(
     Ok(verdict_by(are_same, Verdict::AsDue, "differs: the world"))
 }
 
+/// Makes the step.
+fn make<R: AllocGlobal + Threads + Wait + Sync>(
+    rt: &R,
+    call: Call,
+    world: &mut WorldCore,
+) -> Result<Reply, Refusal> {
+    if call.is_by_parts {
+        step_by_parts(rt, &OpenGate, world, call.step)
+    } else {
+        step_by_workers(rt, &OpenGate, world, call.step)
+    }
+}
+
 /// Makes the call between the marks of what may refuse memory or threads.
 fn attempt<R: AllocGlobal + Threads + Wait + Sync>(
     rt: &R,
@@ -101,7 +118,7 @@ fn attempt<R: AllocGlobal + Threads + Wait + Sync>(
     world: &mut WorldCore,
 ) -> Result<Reply, Refusal> {
     let mark = CallMark::begin(rt.alloc());
-    let answer = step_by_workers(rt, &OpenGate, world, call.workers, call.ticks);
+    let answer = make(rt, call, world);
     let _was_there = mark.end();
     answer
 }
