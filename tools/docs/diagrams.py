@@ -4,8 +4,7 @@
     tools/docs/diagrams.py            writes them
     tools/docs/diagrams.py --check    writes nothing, and fails where one isn't what this script makes
 
-- `storeys`: the crates in their storeys, from crates.txt. A crate stands on crates of its own storey and of lower ones; each dashed arrow is an
-  exception.
+- `storeys`: the crates in their storeys, from crates.txt. A crate stands on crates of its own storey and of lower ones (`storeys.py`).
 - `step_path`: the stages of a step. docs/ARCHITECTURE.md has the functions.
 - `steps`: the first table of docs/BENCH.md with other programs beside this one. A row of it has the scene and its bodies, then the nanoseconds of this
   world, of Box2D and of Chipmunk, each of the two with its ratio. What stands further right isn't drawn.
@@ -45,32 +44,10 @@ LEFT, GAP = 218, 8
 BOX, LETTER, PADDING = 26, 7.3, 18
 STOREYS_LIGHT = {
     "ground": "#ffffff", "bands": ("#f3f6fa", "#e9eef5"), "name": "#44546a", "box": "#ffffff", "edge": "#9db2cc", "text": "#1f2a38",
-    "arrow": "#b4552d",
 }
 STOREYS_DARK = {
     "ground": "#0d1117", "bands": ("#161c25", "#1c2430"), "name": "#a9b8cc", "box": "#0d1117", "edge": "#4a5f7c", "text": "#dbe4f0",
-    "arrow": "#e58f5f",
 }
-
-
-def direct_edges(stands_on):
-    """The pairs of a crate and one that it stands on, without those that follow from others."""
-    def reached(crate, seen):
-        for below in stands_on.get(crate, []):
-            if below in stands_on and below not in seen:
-                seen.add(below)
-                reached(below, seen)
-        return seen
-
-    for crate, below in stands_on.items():
-        own = [name for name in below if name in stands_on]
-        implied = set().union(*(reached(name, set()) for name in own))
-        yield from ((crate, name) for name in own if name not in implied)
-
-
-def upward_edges(storeys, stands_on):
-    height = {crate: number for number, (_, crates) in enumerate(storeys) for crate in crates}
-    return [(crate, below) for crate, below in direct_edges(stands_on) if height[below] > height[crate]]
 
 
 def rows_of(crates):
@@ -118,32 +95,14 @@ def draw_box(crate, box, colours):
     )
 
 
-def draw_line(source, target, colours):
-    """From the top of the crate that stands on another up to that one, which is above it."""
-    x, y = source[0] + source[2] / 2, source[1]
-    to_x, to_y = target[0] + target[2] / 2, target[1] + BOX + 2
-    return f'<path d="M{x:g} {y} L{to_x:g} {to_y}" fill="none" stroke="{colours["arrow"]}" stroke-width="1.6" stroke-dasharray="5 3"/>'
-
-
-def draw_tip(source, target, colours):
-    """The end of that line."""
-    x, y = source[0] + source[2] / 2, source[1]
-    to_x, to_y = target[0] + target[2] / 2, target[1] + BOX + 2
-    from_x = to_x + (x - to_x) / (y - to_y)
-    return f'<path d="M{from_x:g} {to_y + 1} L{to_x:g} {to_y}" stroke="{colours["arrow"]}" stroke-width="1.6" marker-end="url(#tip)"/>'
-
-
 def storeys(colours):
-    layers, stands_on = read_storeys(read_lines(TOP / "crates.txt"))
+    layers, _ = read_storeys(read_lines(TOP / "crates.txt"))
     bands, boxes, height = lay_out(layers)
-    arrows = [(boxes[crate], boxes[below]) for crate, below in upward_edges(layers, stands_on)]
     parts = [draw_band(band, number, colours) for number, band in enumerate(bands)]
-    parts += [draw_line(*arrow, colours) for arrow in arrows]
     parts += [draw_box(crate, box, colours) for crate, box in boxes.items()]
-    parts += [draw_tip(*arrow, colours) for arrow in arrows]
-    legend = "A crate stands on crates of its own storey and of lower ones. A dashed arrow points to one of a higher storey."
+    legend = "A crate stands on crates of its own storey and of lower ones."
     parts.append(words(GAP + 12, height + 10, legend, colours["name"], size=12, anchor="start"))
-    return drawn(height + 24, colours, parts, arrow_tip(5, colours["arrow"]))
+    return drawn(height + 24, colours, parts)
 
 
 # ---- the stages of a step
