@@ -9,9 +9,9 @@ use std::fmt;
 
 /// An id as a script writes it: the slot, a point and the generation, as `0.1`.
 #[derive(Clone, Copy)]
-pub struct Id(pub Handle);
+pub struct IdText(pub Handle);
 
-impl fmt::Display for Id {
+impl fmt::Display for IdText {
     ghost output = { λ id. Some (id_text id.0) };
 
     fn fmt<W: fmt::Write>(&self, f: &mut fmt::Formatter<W>) -> fmt::Result {
@@ -38,7 +38,7 @@ fn part_of(digits: &str) -> Option<u32>
     digits.parse::<u32>().ok()
 }
 
-/// Reads an id. What it reads is just what `Id` writes: no handle has two texts.
+/// Reads an id. What it reads is just what `IdText` writes: no handle has two texts.
 pub fn handle_of(text: &str) -> Option<Handle>
     ensures read { IfSome result (λ handle. text.now ≡ id_text handle) }
     ensures all { (handle : Handle) → handle.slot < 2 ^ 32 → handle.generation < 2 ^ 32

@@ -8,7 +8,7 @@
 //! The scheme is that of Box2D's ids; to take always the lowest free slot is this project's own rule, which
 //! makes the answers of a world a function of its calls.
 //!
-//! An [`Id`] is written as a text of slot and generation, `0.1`, and [`handle_of`] reads just such texts.
+//! An [`IdText`] is written as a text of slot and generation, `0.1`, and [`handle_of`] reads just such texts.
 #![tactic(auto)]
 
 ghost use Rattle.body_handles.specs.Calls.{RemovedStaysGone};
@@ -20,7 +20,7 @@ mod slot_table;
 
 pub use handle::{Handle, NO_HANDLE};
 pub use handles::Handles;
-pub use ids::{Id, handle_of};
+pub use ids::{IdText, handle_of};
 pub use slot_table::{MAX_SLOTS, SlotEntry, WORN_OUT, limits_in_digits};
 
 /// The law of generations: a handle that was taken back is never live again, whatever is given out and taken

@@ -1,11 +1,11 @@
 //! A constraint that is a number alone.
 
-use graph_colours::{Id, Movers};
+use graph_colours::{ConstraintId, Movers};
 
 #[derive(Clone, Copy, Debug, PartialEq, Eq)]
 pub(crate) struct Joint(pub(crate) u32);
 
-impl Id for Joint {
+impl ConstraintId for Joint {
     ghost number = { λ joint. joint.0 };
 
     fn number(&self) -> u128 {

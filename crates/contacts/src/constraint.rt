@@ -5,7 +5,7 @@ ghost use Rattle.contacts.specs.Constraints.{constraint_number, joint_number};
 
 use body_handles::Handle;
 use contacts_base::ContactKey;
-use graph_colours::Id;
+use graph_colours::ConstraintId;
 
 /// Names a constraint: a joint by its handle, a contact by its key. Joints come first in the solve order, by slot, and
 /// then contacts, by key.
@@ -22,7 +22,7 @@ fn joint_number(handle: Handle) -> u128
     u128::from(handle.slot) * (1 << 32) + u128::from(handle.generation)
 }
 
-impl Id for Constraint {
+impl ConstraintId for Constraint {
     ghost number = { λ c. constraint_number c };
 
     fn number(&self) -> u128 {

@@ -17,7 +17,7 @@ use crate::edited::EditedList;
 use crate::limits::OVERFLOW;
 use crate::lists::{copies, first_with, flush_all, no_lists, remove_from_first, reserve_all};
 use crate::taken_colours::{first_free, grow, set_colour_bits};
-use crate::{Id, Member, Movers};
+use crate::{ConstraintId, Member, Movers};
 use fixed_geom::Refusal;
 use std::alloc::Global;
 use std::marker::Model;
@@ -27,7 +27,7 @@ use std::marker::Model;
 /// (`lists`), how many more constraints may be placed with no memory (`room`), the bound below which their movers' slots must be (`slots`),
 /// and whether edits may be put off (`pending`): if it is 0, none is.
 #[derive(Drop)]
-pub struct Colours<C: Id> {
+pub struct Colours<C: ConstraintId> {
     // The members of each colour and, last, those in the overflow.
     lists: Vec<EditedList<C>>,
     // For each slot the bits of the colours that have the mover there.
@@ -47,7 +47,7 @@ struct Size {
     slots: usize,
 }
 
-impl<C: Id> Model for Colours<C> {
+impl<C: ConstraintId> Model for Colours<C> {
     ghost use Rattle.std.specs.Prelude.{◌-◌, cond};
     ghost use Rattle.graph_colours.specs.Colours.{Coloured};
     ghost use Rattle.graph_colours.specs.Graph.{lists_of, IsKeptGraph};
@@ -60,7 +60,7 @@ impl<C: Id> Model for Colours<C> {
 }
 
 /// The constraint takes the least colour that is free, and answers its place.
-fn place_in<C: Id>(
+fn place_in<C: ConstraintId>(
     lists: &mut Vec<EditedList<C>>,
     words: &mut Vec<u32>,
     size: Size,
@@ -83,7 +83,7 @@ fn place_in<C: Id>(
 }
 
 /// The constraint gives up its colour. Answers the numbers then.
-fn release_in<C: Id>(
+fn release_in<C: ConstraintId>(
     lists: &mut Vec<EditedList<C>>,
     words: &mut Vec<u32>,
     size: Size,
@@ -105,7 +105,7 @@ fn release_in<C: Id>(
     }
 }
 
-impl<C: Id> Colours<C> {
+impl<C: ConstraintId> Colours<C> {
     /// No constraints. Refused 1 where memory is wanting.
     pub fn new(alloc: Global) -> Result<Colours<C>, Refusal>
         ensures lists { IfOk result (λ made. made.lists ≡ replicate (COLOURS + 1) []) }

@@ -9,7 +9,7 @@ ghost use Rattle.graph_colours.specs.Edits.{edit_number, edited, all_edited, not
 
 use crate::edits::{Edit, edit_all, edit_one, pass};
 use crate::removals::{are_removals, remove_all};
-use crate::{Id, Member, Movers, member};
+use crate::{ConstraintId, Member, Movers, member};
 use fixed_geom::Refusal;
 use std::alloc::Global;
 use std::marker::Model;
@@ -22,7 +22,7 @@ const MEMBERS_PER_EDIT: usize = 16;
 /// Members that ascend by id, with edits that are put off and made together, in one pass. Contracts see the members once all edits are made
 /// (`items`), for how many there is room (`capacity`), and how many edits are put off (`pending`).
 #[derive(Drop)]
-pub struct EditedList<C: Id> {
+pub struct EditedList<C: ConstraintId> {
     list: Vec<Member<C>>,
     // Ascending, at most one for each number.
     edits: Vec<Edit<C>>,
@@ -30,7 +30,7 @@ pub struct EditedList<C: Id> {
     count: usize,
 }
 
-impl<C: Id> Model for EditedList<C> {
+impl<C: ConstraintId> Model for EditedList<C> {
     ghost use Rattle.std.specs.Prelude.{length, vec_capacity};
     ghost use Rattle.graph_colours.specs.Edits.{Pended, all_edited, IsEditedList};
 
@@ -44,7 +44,7 @@ impl<C: Id> Model for EditedList<C> {
 // ---- edits that are put off
 
 /// The place of the first edit whose number is at least `wanted`, or their number.
-fn edit_place<C: Id>(edits: &[Edit<C>], wanted: u128) -> usize
+fn edit_place<C: ConstraintId>(edits: &[Edit<C>], wanted: u128) -> usize
     requires { AreInOrder C.number edits.now }
     ensures within { result ≤ length edits.now }
     ensures before { AllWithin (λ e. edit_number C.number e < wanted) edits.now 0 result }
@@ -59,7 +59,7 @@ fn edit_place<C: Id>(edits: &[Edit<C>], wanted: u128) -> usize
 }
 
 /// The edit of this number, if one is put off.
-fn edit_of<C: Id>(edits: &[Edit<C>], wanted: u128) -> Option<Edit<C>>
+fn edit_of<C: ConstraintId>(edits: &[Edit<C>], wanted: u128) -> Option<Edit<C>>
     requires { AreInOrder C.number edits.now }
     ensures { result ≡ edit_with C.number wanted edits.now }
 {
@@ -71,7 +71,7 @@ fn edit_of<C: Id>(edits: &[Edit<C>], wanted: u128) -> Option<Edit<C>>
 }
 
 /// Whether one more edit in this place may be put off: there is room, and few stand behind it, for these move up.
-fn can_wait<C: Id>(list: &Vec<Member<C>>, edits: &Vec<Edit<C>>, place: usize) -> bool
+fn can_wait<C: ConstraintId>(list: &Vec<Member<C>>, edits: &Vec<Edit<C>>, place: usize) -> bool
     requires { place ≤ length edits.now.items }
     ensures room { result ≡ true → length list.now.items + length edits.now.items < vec_capacity list.now }
     ensures space { result ≡ true → vec_len edits.now < vec_capacity edits.now }
@@ -84,7 +84,7 @@ fn can_wait<C: Id>(list: &Vec<Member<C>>, edits: &Vec<Edit<C>>, place: usize) ->
 }
 
 /// Whether the edit in this place is of the number.
-fn is_edit_at<C: Id>(edits: &[Edit<C>], place: usize, number: u128) -> bool
+fn is_edit_at<C: ConstraintId>(edits: &[Edit<C>], place: usize, number: u128) -> bool
     ensures { result ≡ is_edit_at C.number number (drop place edits.now) }
 {
     match edits.get(place) {
@@ -94,7 +94,7 @@ fn is_edit_at<C: Id>(edits: &[Edit<C>], place: usize, number: u128) -> bool
 }
 
 /// Puts an edit off. It takes the place of one of the same number.
-fn note<C: Id>(edits: &mut Vec<Edit<C>>, place: usize, edit: Edit<C>)
+fn note<C: ConstraintId>(edits: &mut Vec<Edit<C>>, place: usize, edit: Edit<C>)
     requires in_order { AreInOrder C.number edits.old.items }
     requires place { place ≤ length edits.old.items }
     requires before { AllWithin (λ e. edit_number C.number e < edit_number C.number edit) edits.old.items 0 place }
@@ -112,7 +112,11 @@ fn note<C: Id>(edits: &mut Vec<Edit<C>>, place: usize, edit: Edit<C>)
 // ---- edits that are made
 
 /// Makes all edits of a list: where it stands, if none of them adds a member, else by way of `spare`.
-fn make_all<C: Id>(list: &mut Vec<Member<C>>, edits: &[Edit<C>], spare: &mut Vec<Member<C>>)
+fn make_all<C: ConstraintId>(
+    list: &mut Vec<Member<C>>,
+    edits: &[Edit<C>],
+    spare: &mut Vec<Member<C>>,
+)
     requires edited { IsEdited C.number list.old.items edits.now (vec_capacity list.old) }
     ensures items { list.new.items ≡ all_edited C.number edits.now list.old.items }
     ensures capacity { vec_capacity list.old ≤ vec_capacity list.new }
@@ -125,7 +129,7 @@ fn make_all<C: Id>(list: &mut Vec<Member<C>>, edits: &[Edit<C>], spare: &mut Vec
 }
 
 /// Puts an edit off, or makes it and those before it where it can't be put off.
-fn take_in<C: Id>(
+fn take_in<C: ConstraintId>(
     list: &mut Vec<Member<C>>,
     edits: &mut Vec<Edit<C>>,
     edit: Edit<C>,
@@ -147,7 +151,7 @@ fn take_in<C: Id>(
     }
 }
 
-impl<C: Id> EditedList<C> {
+impl<C: ConstraintId> EditedList<C> {
     /// No members.
     pub fn new(alloc: Global) -> EditedList<C>
         ensures items { result.items ≡ [] }

@@ -8,7 +8,7 @@ ghost use Rattle.graph_colours.specs.FoundMembers.{is_at};
 ghost use Rattle.graph_colours.specs.Edits.{edit_number, added, edited, all_edited, AreInOrder, IsEdited};
 
 use crate::member::{insert, place_from, remove};
-use crate::{Id, Member};
+use crate::{ConstraintId, Member};
 
 /// A member that a list gets (`adds`), in place of one of the same number, or loses.
 #[derive(Clone, Copy, Debug, PartialEq, Eq)]
@@ -18,7 +18,7 @@ pub(crate) struct Edit<C> {
 }
 
 /// Whether the member in this place has the number.
-pub(crate) fn is_at<C: Id>(members: &[Member<C>], place: usize, number: u128) -> bool
+pub(crate) fn is_at<C: ConstraintId>(members: &[Member<C>], place: usize, number: u128) -> bool
     ensures { result ≡ is_at C.number number (drop place members.now) }
 {
     match members.get(place) {
@@ -28,7 +28,7 @@ pub(crate) fn is_at<C: Id>(members: &[Member<C>], place: usize, number: u128) ->
 }
 
 /// Adds the member that an edit brings, if it does, to the end of the list. There is room.
-fn push_added<C: Id>(list: &mut Vec<Member<C>>, edit: Edit<C>)
+fn push_added<C: ConstraintId>(list: &mut Vec<Member<C>>, edit: Edit<C>)
     requires { vec_len list.old < vec_capacity list.old }
     ensures items { list.new.items ≡ list.old.items ++ added edit }
     ensures len { vec_len list.new ≤ vec_len list.old + 1 }
@@ -40,7 +40,11 @@ fn push_added<C: Id>(list: &mut Vec<Member<C>>, edit: Edit<C>)
 }
 
 /// Adds the members below an edit's to the list, and makes the edit there. Answers how many of the members are done then.
-fn pass_edit<C: Id>(list: &mut Vec<Member<C>>, members: &[Member<C>], edit: Edit<C>) -> usize
+fn pass_edit<C: ConstraintId>(
+    list: &mut Vec<Member<C>>,
+    members: &[Member<C>],
+    edit: Edit<C>,
+) -> usize
     requires rising { AreRising C.number members.now }
     requires room { vec_len list.old + length members.now < vec_capacity list.old }
     ensures within { result ≤ length members.now }
@@ -60,7 +64,11 @@ fn pass_edit<C: Id>(list: &mut Vec<Member<C>>, members: &[Member<C>], edit: Edit
 }
 
 /// Adds the members to the list, with all edits made.
-pub(crate) fn pass<C: Id>(list: &mut Vec<Member<C>>, members: &[Member<C>], edits: &[Edit<C>])
+pub(crate) fn pass<C: ConstraintId>(
+    list: &mut Vec<Member<C>>,
+    members: &[Member<C>],
+    edits: &[Edit<C>],
+)
     requires rising { AreRising C.number members.now }
     requires in_order { AreInOrder C.number edits.now }
     requires room { vec_len list.old + length members.now + length edits.now ≤ vec_capacity list.old }
@@ -75,7 +83,7 @@ pub(crate) fn pass<C: Id>(list: &mut Vec<Member<C>>, members: &[Member<C>], edit
 }
 
 /// Makes one edit of a list.
-pub(crate) fn edit_one<C: Id>(list: &mut Vec<Member<C>>, edit: Edit<C>)
+pub(crate) fn edit_one<C: ConstraintId>(list: &mut Vec<Member<C>>, edit: Edit<C>)
     requires rising { AreRising C.number list.old.items }
     requires room { edit.adds ≡ true → length list.old.items < vec_capacity list.old }
     ensures items { list.new.items ≡ edited C.number edit list.old.items }
@@ -89,7 +97,7 @@ pub(crate) fn edit_one<C: Id>(list: &mut Vec<Member<C>>, edit: Edit<C>)
 }
 
 /// Makes the edits of a list one after the other.
-fn edit_each<C: Id>(list: &mut Vec<Member<C>>, edits: &[Edit<C>])
+fn edit_each<C: ConstraintId>(list: &mut Vec<Member<C>>, edits: &[Edit<C>])
     requires edited { IsEdited C.number list.old.items edits.now (vec_capacity list.old) }
     ensures items { list.new.items ≡ all_edited C.number edits.now list.old.items }
     ensures capacity { vec_capacity list.old ≤ vec_capacity list.new }
@@ -101,7 +109,7 @@ fn edit_each<C: Id>(list: &mut Vec<Member<C>>, edits: &[Edit<C>])
 
 /// Makes all edits of a list, which ascend, in one pass over the members from the place `start` on, below which there is no edit. These lie in
 /// `spare` meanwhile, which has room for them.
-fn edit_from<C: Id>(
+fn edit_from<C: ConstraintId>(
     list: &mut Vec<Member<C>>,
     start: usize,
     edits: &[Edit<C>],
@@ -122,7 +130,7 @@ fn edit_from<C: Id>(
 
 /// Makes all edits of a list, which ascend, in one pass over the members that stand after the first edit's place. These lie in `spare`
 /// meanwhile; where it has no room for them the edits are made one after the other.
-pub(crate) fn edit_all<C: Id>(
+pub(crate) fn edit_all<C: ConstraintId>(
     list: &mut Vec<Member<C>>,
     edits: &[Edit<C>],
     spare: &mut Vec<Member<C>>,

@@ -18,4 +18,4 @@ mod taken_colours;
 pub use colours::Colours;
 pub use edited::EditedList;
 pub use limits::{COLOURS, OVERFLOW, limits_in_digits};
-pub use member::{Id, Member, Movers};
+pub use member::{ConstraintId, Member, Movers};

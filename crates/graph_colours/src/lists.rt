@@ -14,12 +14,12 @@ ghost use Rattle.graph_colours.specs.Colours.{list_at, all_members, released, Is
 use crate::edited::EditedList;
 use crate::limits::LISTS;
 use crate::taken_colours::{candidates, next_candidate, set_colour_bits};
-use crate::{Id, Member, Movers};
+use crate::{ConstraintId, Member, Movers};
 use fixed_geom::Refusal;
 use std::alloc::Global;
 
 /// As many lists as there are, with no members. Refused 1 where memory is wanting.
-pub(crate) fn no_lists<C: Id>(alloc: Global) -> Result<Vec<EditedList<C>>, Refusal>
+pub(crate) fn no_lists<C: ConstraintId>(alloc: Global) -> Result<Vec<EditedList<C>>, Refusal>
     ensures lists { IfOk result (λ lists. lists_of lists.items ≡ replicate (COLOURS + 1) []) }
     ensures rest { IfOk result (λ lists. AreAtRest lists.items) }
     ensures memory_only { IsOkUnless result Refusal.NoMemory }
@@ -32,7 +32,7 @@ pub(crate) fn no_lists<C: Id>(alloc: Global) -> Result<Vec<EditedList<C>>, Refus
 }
 
 /// Copies of the lists. Refused 1 where memory is wanting.
-pub(crate) fn copies<C: Id>(
+pub(crate) fn copies<C: ConstraintId>(
     alloc: Global,
     lists: &[EditedList<C>],
 ) -> Result<Vec<EditedList<C>>, Refusal>
@@ -48,7 +48,7 @@ pub(crate) fn copies<C: Id>(
 }
 
 /// Makes room in each list for that many members in all. Refused 1 where memory is wanting.
-pub(crate) fn reserve_all<C: Id>(
+pub(crate) fn reserve_all<C: ConstraintId>(
     lists: &mut Vec<EditedList<C>>,
     constraints: usize,
 ) -> Result<(), Refusal>
@@ -65,7 +65,7 @@ pub(crate) fn reserve_all<C: Id>(
 }
 
 /// Makes the edits of all lists that were put off.
-pub(crate) fn flush_all<C: Id>(lists: &mut Vec<EditedList<C>>, spare: &mut Vec<Member<C>>)
+pub(crate) fn flush_all<C: ConstraintId>(lists: &mut Vec<EditedList<C>>, spare: &mut Vec<Member<C>>)
     ensures lists { lists_of lists.new.items ≡ lists_of lists.old.items }
     ensures kept { (room : ℕ) → HaveRoom room lists.old.items → HaveRoom room lists.new.items }
     ensures rest { AreAtRest lists.new.items }
@@ -76,7 +76,7 @@ pub(crate) fn flush_all<C: Id>(lists: &mut Vec<EditedList<C>>, spare: &mut Vec<M
 }
 
 /// The place of the first list that has the id, or their number.
-pub(crate) fn first_with<C: Id>(lists: &[EditedList<C>], id: C) -> usize
+pub(crate) fn first_with<C: ConstraintId>(lists: &[EditedList<C>], id: C) -> usize
     ensures { result ≡ position_or_len (λ list. has_id C.number id list.items) lists.now }
 {
     for (place, list) in lists.iter().enumerate() {
@@ -88,7 +88,7 @@ pub(crate) fn first_with<C: Id>(lists: &[EditedList<C>], id: C) -> usize
 }
 
 /// Takes the id, and the bits of its movers, out of the list at a place. Answers whether the id was there.
-fn remove_at<C: Id>(
+fn remove_at<C: ConstraintId>(
     lists: &mut Vec<EditedList<C>>,
     words: &mut Vec<u32>,
     place: usize,
@@ -113,7 +113,7 @@ fn remove_at<C: Id>(
 
 /// Takes the id, and the bits of its movers, out of the first list that has it, and touches no other: an id stands in one at most. Where its
 /// movers are told, only the overflow and the colours that all of them have are looked at. Answers how many members went.
-pub(crate) fn remove_from_first<C: Id>(
+pub(crate) fn remove_from_first<C: ConstraintId>(
     lists: &mut Vec<EditedList<C>>,
     words: &mut Vec<u32>,
     id: C,

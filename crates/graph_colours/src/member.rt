@@ -7,7 +7,7 @@ ghost use Rattle.graph_colours.specs.FoundMembers.{movers_of, with_number};
 
 /// The name of a constraint. Constraints are solved in the order of these numbers, and two names
 /// with one number are one constraint.
-pub trait Id: Copy {
+pub trait ConstraintId: Copy {
     ghost number: { Self → ℕ };
 
     /// The number that names the constraint.
@@ -30,7 +30,7 @@ pub struct Member<C> {
 }
 
 /// The place of the first member whose id's number is at least `wanted`, or the list's length.
-pub(crate) fn place_from<C: Id>(members: &[Member<C>], wanted: u128) -> usize
+pub(crate) fn place_from<C: ConstraintId>(members: &[Member<C>], wanted: u128) -> usize
     requires { AreRising C.number members.now }
     ensures within { result ≤ length members.now }
     ensures before { AllWithin (λ m. C.number m.id < wanted) members.now 0 result }
@@ -40,7 +40,7 @@ pub(crate) fn place_from<C: Id>(members: &[Member<C>], wanted: u128) -> usize
 }
 
 /// The member whose id has this number.
-pub(crate) fn with_number<C: Id>(members: &[Member<C>], wanted: u128) -> Option<Member<C>>
+pub(crate) fn with_number<C: ConstraintId>(members: &[Member<C>], wanted: u128) -> Option<Member<C>>
     requires { AreRising C.number members.now }
     ensures { result ≡ with_number C.number wanted members.now }
 {
@@ -52,7 +52,7 @@ pub(crate) fn with_number<C: Id>(members: &[Member<C>], wanted: u128) -> Option<
 }
 
 /// Adds a member, for which there is room.
-pub(crate) fn insert<C: Id>(members: &mut Vec<Member<C>>, member: Member<C>)
+pub(crate) fn insert<C: ConstraintId>(members: &mut Vec<Member<C>>, member: Member<C>)
     requires rising { AreRising C.number members.old.items }
     requires room { vec_len members.old < vec_capacity members.old }
     ensures items { members.new.items ≡ inserted C.number member members.old.items }
@@ -64,7 +64,7 @@ pub(crate) fn insert<C: Id>(members: &mut Vec<Member<C>>, member: Member<C>)
 }
 
 /// Takes out the member that has the id, and answers its movers.
-pub(crate) fn remove<C: Id>(members: &mut Vec<Member<C>>, id: C) -> Option<Movers>
+pub(crate) fn remove<C: ConstraintId>(members: &mut Vec<Member<C>>, id: C) -> Option<Movers>
     requires { AreRising C.number members.old.items }
     ensures value { result ≡ movers_of C.number id members.old.items }
     ensures items { members.new.items ≡ without_member C.number id members.old.items }

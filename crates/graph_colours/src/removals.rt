@@ -9,7 +9,7 @@ ghost use Rattle.graph_colours.specs.Gaps.{IsGap, closed};
 
 use crate::edits::{Edit, is_at};
 use crate::member::place_from;
-use crate::{Id, Member};
+use crate::{ConstraintId, Member};
 
 /// The places from `start` up to `end`, which members have left: those before them are final, and those after them are still to be passed.
 #[derive(Clone, Copy)]
@@ -19,7 +19,7 @@ struct Gap {
 }
 
 /// Whether no edit adds a member.
-pub(crate) fn are_removals<C: Id>(edits: &[Edit<C>]) -> bool
+pub(crate) fn are_removals<C: ConstraintId>(edits: &[Edit<C>]) -> bool
     ensures { result ≡ true → All (λ e. e.adds ≡ false) edits.now }
 {
     for edit in edits.iter() {
@@ -31,7 +31,7 @@ pub(crate) fn are_removals<C: Id>(edits: &[Edit<C>]) -> bool
 }
 
 /// Moves the next so many members down, over the gap.
-fn move_down<C: Id>(list: &mut Vec<Member<C>>, gap: Gap, count: usize)
+fn move_down<C: ConstraintId>(list: &mut Vec<Member<C>>, gap: Gap, count: usize)
     requires ordered { gap.start ≤ gap.end }
     requires within { gap.end + count ≤ length list.old.items }
     ensures done { take (gap.start + count) list.new.items ≡ take gap.start list.old.items ++ take count (drop gap.end list.old.items) }
@@ -43,7 +43,7 @@ fn move_down<C: Id>(list: &mut Vec<Member<C>>, gap: Gap, count: usize)
 }
 
 /// Moves the members below an edit's down, and leaves out the one that it takes away. Answers the gap that is behind them then.
-fn pass_removal<C: Id>(list: &mut Vec<Member<C>>, gap: Gap, edit: Edit<C>) -> Gap
+fn pass_removal<C: ConstraintId>(list: &mut Vec<Member<C>>, gap: Gap, edit: Edit<C>) -> Gap
     requires rising { AreRising C.number (drop gap.end list.old.items) }
     requires gap { IsGap gap (length list.old.items) }
     requires removes { edit.adds ≡ false }
@@ -71,7 +71,7 @@ fn pass_removal<C: Id>(list: &mut Vec<Member<C>>, gap: Gap, edit: Edit<C>) -> Ga
 }
 
 /// Closes the gap.
-fn close<C: Id>(list: &mut Vec<Member<C>>, gap: Gap)
+fn close<C: ConstraintId>(list: &mut Vec<Member<C>>, gap: Gap)
     requires gap { IsGap gap (length list.old.items) }
     ensures items { list.new.items ≡ take gap.start list.old.items ++ drop gap.end list.old.items }
     ensures capacity { vec_capacity list.new ≡ vec_capacity list.old }
@@ -82,7 +82,7 @@ fn close<C: Id>(list: &mut Vec<Member<C>>, gap: Gap)
 }
 
 /// Makes the edits, none of which adds a member, in one pass over the members from the place `start` on, below which there is no edit.
-fn remove_from<C: Id>(list: &mut Vec<Member<C>>, start: usize, edits: &[Edit<C>])
+fn remove_from<C: ConstraintId>(list: &mut Vec<Member<C>>, start: usize, edits: &[Edit<C>])
     requires rising { AreRising C.number list.old.items }
     requires in_order { AreInOrder C.number edits.now }
     requires removes { All (λ e. e.adds ≡ false) edits.now }
@@ -100,7 +100,7 @@ fn remove_from<C: Id>(list: &mut Vec<Member<C>>, start: usize, edits: &[Edit<C>]
 
 /// Makes all edits of a list, which ascend and none of which adds a member, in one pass over the members that stand after the first edit's place. It
 /// takes no memory.
-pub(crate) fn remove_all<C: Id>(list: &mut Vec<Member<C>>, edits: &[Edit<C>])
+pub(crate) fn remove_all<C: ConstraintId>(list: &mut Vec<Member<C>>, edits: &[Edit<C>])
     requires rising { AreRising C.number list.old.items }
     requires in_order { AreInOrder C.number edits.now }
     requires removes { All (λ e. e.adds ≡ false) edits.now }

@@ -3,7 +3,7 @@
 ghost use Rattle.std.specs.Prelude.{◌≡◌, ℕ};
 
 /// The name of what is in a set. It is known by its number, by which the place where it stands is noted: so numbers are best small.
-pub trait Id: Copy {
+pub trait ItemId: Copy {
     ghost number: { Self → ℕ };
 
     /// The number of the name.
@@ -14,7 +14,7 @@ pub trait Id: Copy {
 }
 
 /// A number is its own name.
-impl Id for u32 {
+impl ItemId for u32 {
     ghost number = { λ n. n };
 
     ghost known = { λ a b same. same };

@@ -1,5 +1,5 @@
 //! Numbered sets of ids, each id in one set at most, packed as the solver sets of Box2D are (`solver_set.c`). An id is any type with
-//! small numbers ([`Id`]).
+//! small numbers ([`ItemId`]).
 //!
 //! The ids of a set stand side by side in a list of its own, so that what goes over one set costs by that set's size,
 //! whatever else there is. A removal moves the last id of the list to the place that gets free. By an id's number a note
@@ -16,7 +16,7 @@
 //!
 //! They see a list for each set ([`PackedSets::members`]), of which no order is promised: a call tells that a list is a
 //! permutation of the old one with one id more, or less, and that all others are what they were. No id stands twice in
-//! all of them (the clause `once` of `members`). Two ids with one number are the same id, by a law of [`Id`].
+//! all of them (the clause `once` of `members`). Two ids with one number are the same id, by a law of [`ItemId`].
 //!
 //! # Solver sets
 //!
@@ -50,7 +50,7 @@ mod solver_sets;
 mod spots;
 mod stands;
 
-pub use ids::Id;
+pub use ids::ItemId;
 pub use linked_sets::LinkedSets;
 pub use marks::{MAX_MARKS, Marks, limits_in_digits};
 pub use set_items::items_stand_there;

@@ -6,7 +6,7 @@ ghost use Rattle.std.specs.List.{swap_remove};
 ghost use Rattle.packed_sets.specs.Packs.{list_at, capacity_at, HaveAtLeast, IsAbsent, IsPut, IsTaken, IsShifted};
 ghost use Rattle.packed_sets.specs.Notes.{numbers_of, IsKept, IsSwappedOut, IsOut, renoted};
 
-use crate::Id;
+use crate::ItemId;
 use crate::sets::MAX_SETS;
 use crate::spots::{Spot, note_all, note_moved, number_at, spot_of};
 use fixed_geom::Refusal;
@@ -15,7 +15,7 @@ use std::alloc::Global;
 // ---- lists
 
 /// Adds a list, with no ids, for which there is room.
-fn push_list<I: Id>(lists: &mut Vec<Vec<I>>, alloc: Global)
+fn push_list<I: ItemId>(lists: &mut Vec<Vec<I>>, alloc: Global)
     requires { vec_len lists.old < vec_capacity lists.old }
     ensures lists { map (λ v. v.items) lists.new.items ≡ map (λ v. v.items) lists.old.items ++ [] ∷ [] }
     ensures len { vec_len lists.new ≡ vec_len lists.old + 1 }
@@ -26,7 +26,7 @@ fn push_list<I: Id>(lists: &mut Vec<Vec<I>>, alloc: Global)
 }
 
 /// Adds lists, with no ids, until there are so many, for which there is room.
-pub(crate) fn push_lists<I: Id>(lists: &mut Vec<Vec<I>>, alloc: Global, sets: usize)
+pub(crate) fn push_lists<I: ItemId>(lists: &mut Vec<Vec<I>>, alloc: Global, sets: usize)
     requires { sets ≤ vec_capacity lists.old }
     ensures made { sets ≤ length lists.new.items }
     ensures more { length lists.old.items ≤ length lists.new.items }
@@ -39,7 +39,7 @@ pub(crate) fn push_lists<I: Id>(lists: &mut Vec<Vec<I>>, alloc: Global, sets: us
 }
 
 /// Adds a list, with no ids, and answers the number of its set. Refused 1 where memory is wanting, or there are [`MAX_SETS`].
-pub(crate) fn add_list<I: Id>(lists: &mut Vec<Vec<I>>) -> Result<u32, Refusal>
+pub(crate) fn add_list<I: ItemId>(lists: &mut Vec<Vec<I>>) -> Result<u32, Refusal>
     ensures number { IfOk result (λ set. set ≡ length lists.old.items) }
     ensures lists { OnOk result (map (λ v. v.items) lists.new.items ≡ map (λ v. v.items) lists.old.items ++ [] ∷ []) }
     ensures same { (set : ℕ) → list_at (map (λ v. v.items) lists.new.items) set ≡ list_at (map (λ v. v.items) lists.old.items) set }
@@ -58,7 +58,7 @@ pub(crate) fn add_list<I: Id>(lists: &mut Vec<Vec<I>>) -> Result<u32, Refusal>
 }
 
 /// Makes room for that many more ids in a list. Refused 1 where memory is wanting.
-pub(crate) fn reserve_list<I: Id>(
+pub(crate) fn reserve_list<I: ItemId>(
     lists: &mut Vec<Vec<I>>,
     set: usize,
     more: usize,
@@ -74,7 +74,7 @@ pub(crate) fn reserve_list<I: Id>(
 }
 
 /// Takes a list out. The last one moves to its place.
-fn swap_list<I: Id>(lists: &mut Vec<Vec<I>>, place: usize)
+fn swap_list<I: ItemId>(lists: &mut Vec<Vec<I>>, place: usize)
     requires { place < length lists.old.items }
     ensures lists { map (λ v. v.items) lists.new.items ≡ swap_remove (map (λ v. v.items) lists.old.items) place [] }
     ensures capacities { map vec_capacity lists.new.items ≡ swap_remove (map vec_capacity lists.old.items) place 0 }
@@ -83,7 +83,7 @@ fn swap_list<I: Id>(lists: &mut Vec<Vec<I>>, place: usize)
 }
 
 /// Takes the list of a set out, which has no ids. The last set takes its number, and the notes of its ids follow.
-pub(crate) fn drop_list<I: Id>(lists: &mut Vec<Vec<I>>, spots: &mut Vec<Option<Spot>>, set: u32)
+pub(crate) fn drop_list<I: ItemId>(lists: &mut Vec<Vec<I>>, spots: &mut Vec<Option<Spot>>, set: u32)
     requires set { set < length lists.old.items }
     requires empty { list_at (map (λ v. v.items) lists.old.items) set ≡ [] }
     requires kept { IsKept (numbers_of I.number (map (λ v. v.items) lists.old.items)) spots.old.items }
@@ -101,7 +101,7 @@ pub(crate) fn drop_list<I: Id>(lists: &mut Vec<Vec<I>>, spots: &mut Vec<Option<S
 // ---- ids
 
 /// Adds an id behind the others, for which there is room.
-pub(crate) fn push_reserved<I: Id>(list: &mut Vec<I>, id: I)
+pub(crate) fn push_reserved<I: ItemId>(list: &mut Vec<I>, id: I)
     requires { vec_len list.old < vec_capacity list.old }
     ensures items { list.new.items ≡ list.old.items ++ id ∷ [] }
     ensures capacity { vec_capacity list.old ≤ vec_capacity list.new }
@@ -110,7 +110,12 @@ pub(crate) fn push_reserved<I: Id>(list: &mut Vec<I>, id: I)
 }
 
 /// Puts an id into a set that has room for it, and notes where it stands.
-pub(crate) fn put_in<I: Id>(lists: &mut Vec<Vec<I>>, spots: &mut Vec<Option<Spot>>, set: u32, id: I)
+pub(crate) fn put_in<I: ItemId>(
+    lists: &mut Vec<Vec<I>>,
+    spots: &mut Vec<Option<Spot>>,
+    set: u32,
+    id: I,
+)
     requires set { set < length lists.old.items }
     requires space { length (list_at (map (λ v. v.items) lists.old.items) set) < capacity_at (map vec_capacity lists.old.items) set }
     requires noted { I.number id < length spots.old.items }
@@ -129,7 +134,7 @@ pub(crate) fn put_in<I: Id>(lists: &mut Vec<Vec<I>>, spots: &mut Vec<Option<Spot
 }
 
 /// Takes the id at a place out of a list. The last one moves there.
-pub(crate) fn swap_out<I: Id>(list: &mut Vec<I>, place: usize) -> I
+pub(crate) fn swap_out<I: ItemId>(list: &mut Vec<I>, place: usize) -> I
     requires { place < length list.old.items }
     ensures swapped { IsSwappedOut list.old.items list.new.items place result }
     ensures capacity { vec_capacity list.new ≡ vec_capacity list.old }
@@ -138,7 +143,7 @@ pub(crate) fn swap_out<I: Id>(list: &mut Vec<I>, place: usize) -> I
 }
 
 /// Takes the id at a spot out. The last one of its list moves there, and is noted there.
-fn take_out<I: Id>(lists: &mut Vec<Vec<I>>, spots: &mut Vec<Option<Spot>>, spot: Spot) -> I
+fn take_out<I: ItemId>(lists: &mut Vec<Vec<I>>, spots: &mut Vec<Option<Spot>>, spot: Spot) -> I
     requires set { spot.set < length lists.old.items }
     requires place { spot.place < length (list_at (map (λ v. v.items) lists.old.items) spot.set) }
     requires kept { IsKept (numbers_of I.number (map (λ v. v.items) lists.old.items)) spots.old.items }
@@ -153,7 +158,7 @@ fn take_out<I: Id>(lists: &mut Vec<Vec<I>>, spots: &mut Vec<Option<Spot>>, spot:
 }
 
 /// Takes an id out of its set, if it is in one.
-pub(crate) fn take_id<I: Id>(lists: &mut Vec<Vec<I>>, spots: &mut Vec<Option<Spot>>, id: I)
+pub(crate) fn take_id<I: ItemId>(lists: &mut Vec<Vec<I>>, spots: &mut Vec<Option<Spot>>, id: I)
     requires { IsKept (numbers_of I.number (map (λ v. v.items) lists.old.items)) spots.old.items }
     ensures kept { IsKept (numbers_of I.number (map (λ v. v.items) lists.new.items)) spots.new.items }
     ensures taken { (set : ℕ) → Contains (list_at (map (λ v. v.items) lists.old.items) set) id → IsTaken (map (λ v. v.items) lists.old.items) (map (λ v. v.items) lists.new.items) set id }
@@ -171,7 +176,7 @@ pub(crate) fn take_id<I: Id>(lists: &mut Vec<Vec<I>>, spots: &mut Vec<Option<Spo
 }
 
 /// Moves an id from its set to one that has room for it, if it is in one.
-pub(crate) fn shift_id<I: Id>(
+pub(crate) fn shift_id<I: ItemId>(
     lists: &mut Vec<Vec<I>>,
     spots: &mut Vec<Option<Spot>>,
     id: I,

@@ -5,7 +5,7 @@ ghost use Rattle.std.specs.Result.{IsOkUnless};
 ghost use Rattle.std.specs.List.{swap_remove};
 ghost use Rattle.packed_sets.specs.Packs.{list_at, capacity_at, IsAbsent, IsPut, IsTaken, IsShifted, HaveAtLeast, EachOnce};
 
-use crate::Id;
+use crate::ItemId;
 use crate::copying::copies;
 use crate::packing::{add_list, drop_list, push_lists, put_in, reserve_list, shift_id, take_id};
 use crate::spots::{Spot, grow_spots, spot_of};
@@ -19,13 +19,13 @@ pub const MAX_SETS: usize = 4_294_967_296;
 /// Numbered sets of ids. Contracts see the ids of each set (`sets`), below which number those of ids must be (`ids`), and for how many ids in
 /// all each set has room (`capacities`). In what order the ids of a set stand isn't promised.
 #[derive(Drop)]
-pub struct PackedSets<I: Id> {
+pub struct PackedSets<I: ItemId> {
     lists: Vec<Vec<I>>,
     // By an id's number where it stands.
     spots: Vec<Option<Spot>>,
 }
 
-impl<I: Id> Model for PackedSets<I> {
+impl<I: ItemId> Model for PackedSets<I> {
     ghost use Rattle.std.specs.Prelude.{length, map, vec_capacity};
     ghost use Rattle.packed_sets.specs.Packs.{Packs};
     ghost use Rattle.packed_sets.specs.Notes.{numbers_of, IsKept};
@@ -37,7 +37,7 @@ impl<I: Id> Model for PackedSets<I> {
     ghost invariant = { λ a. IsKept (numbers_of I.number (map (λ v. v.items) a.lists.items)) a.spots.items };
 }
 
-impl<I: Id> PackedSets<I> {
+impl<I: ItemId> PackedSets<I> {
     /// No sets, and no ids.
     pub fn new(alloc: Global) -> PackedSets<I>
         ensures sets { result.sets ≡ [] }

@@ -4,7 +4,7 @@ ghost use Rattle.std.specs.Prelude.{◌≡◌, ◌<◌, ◌≤◌, ◌^◌, ℕ,
 ghost use Rattle.std.specs.Result.{IsOkUnless};
 ghost use Rattle.packed_sets.specs.Notes.{spot_of, renoted, AreRenoted};
 
-use crate::Id;
+use crate::ItemId;
 use fixed_geom::Refusal;
 
 /// Where an id stands: the number of its set, and its place in that one's list.
@@ -37,7 +37,7 @@ pub(crate) fn grow_spots(spots: &mut Vec<Option<Spot>>, ids: usize) -> Result<()
 }
 
 /// The number of the id at a place, if one is there.
-pub(crate) fn number_at<I: Id>(list: &[I], place: u32) -> Option<u32>
+pub(crate) fn number_at<I: ItemId>(list: &[I], place: u32) -> Option<u32>
     ensures { result ≡ slice_get (map I.number list.now) place }
 {
     match list.get(place as usize) {
@@ -57,7 +57,7 @@ pub(crate) fn note_moved(spots: &mut Vec<Option<Spot>>, moved: Option<u32>, spot
 }
 
 /// Notes the spots of all ids of a list, each once in it, which are those of one set.
-pub(crate) fn note_all<I: Id>(spots: &mut Vec<Option<Spot>>, list: &[I], set: u32)
+pub(crate) fn note_all<I: ItemId>(spots: &mut Vec<Option<Spot>>, list: &[I], set: u32)
     requires noted { (id place : ℕ) → slice_get (map I.number list.now) place ≡ Some id → id < length spots.old.items }
     requires once { (p q id : ℕ) → slice_get (map I.number list.now) p ≡ Some id → slice_get (map I.number list.now) q ≡ Some id → p ≡ q }
     requires short { length list.now ≤ 2 ^ 32 }

@@ -13,7 +13,7 @@ use crate::bodies::put_free;
 use crate::counts::lesser;
 use crate::leaves::Leaf;
 use crate::members::{put_members, put_object};
-use body_handles::{Handle, Id, SlotEntry};
+use body_handles::{Handle, IdText, SlotEntry};
 use json::Writer;
 use plain_world::BodyJoint;
 use std::alloc::{AllocError, Global};
@@ -28,7 +28,7 @@ fn name_at(alloc: Global, slot_entries: &[SlotEntry], slot: u32) -> Result<Strin
         Some(slot_entry) => slot_entry.generation,
         None => 0,
     };
-    let id = Id(Handle { slot, generation });
+    let id = IdText(Handle { slot, generation });
     let name = format!(in alloc; "{id}")?;
     Ok(name)
 }

@@ -10,7 +10,7 @@ use crate::leaves::Leaf;
 use crate::members::{put_members, put_object};
 use contacts::Constraint;
 use contacts_base::{ContactEntry, ContactPoint, PackedContact};
-use graph_colours::Id;
+use graph_colours::ConstraintId;
 use json::Writer;
 use std::alloc::AllocError;
 use std::collections::HashMap;

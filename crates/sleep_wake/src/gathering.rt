@@ -18,7 +18,7 @@ use crate::tie_source::TieSource;
 use crate::ties::Ties;
 use crate::wake_and_sleep::are_in;
 use fixed_geom::Refusal;
-use graph_colours::{Id, Member};
+use graph_colours::{ConstraintId, Member};
 use islands::Islands;
 use std::alloc::Global;
 use std::marker::Model;
@@ -30,7 +30,12 @@ const TIES_A_MOVER: usize = 16;
 // ---- by a pass over all constraints
 
 /// Adds a constraint, if it is one of the island. There is room for it.
-fn add_if_in<C: Id>(list: &mut Vec<Member<C>>, islands: &Islands, name: u32, tie: Member<C>)
+fn add_if_in<C: ConstraintId>(
+    list: &mut Vec<Member<C>>,
+    islands: &Islands,
+    name: u32,
+    tie: Member<C>,
+)
     requires { vec_len list.old < vec_capacity list.old }
     ensures items { list.new.items ≡ list.old.items ++ filter (has_mover_of islands.now.labels name) (tie ∷ []) }
     ensures len { vec_len list.new ≤ vec_len list.old + 1 }
@@ -42,7 +47,12 @@ fn add_if_in<C: Id>(list: &mut Vec<Member<C>>, islands: &Islands, name: u32, tie
 }
 
 /// Lists the constraints of an island by a pass over all. There is room for all.
-fn list_from_all<C: Id>(list: &mut Vec<Member<C>>, islands: &Islands, ties: &[Member<C>], name: u32)
+fn list_from_all<C: ConstraintId>(
+    list: &mut Vec<Member<C>>,
+    islands: &Islands,
+    ties: &[Member<C>],
+    name: u32,
+)
     requires { length ties.now ≤ vec_capacity list.old }
     ensures items { list.new.items ≡ filter (has_mover_of islands.now.labels name) ties.now }
     ensures capacity { vec_capacity list.old ≤ vec_capacity list.new }
@@ -56,7 +66,7 @@ fn list_from_all<C: Id>(list: &mut Vec<Member<C>>, islands: &Islands, ties: &[Me
 // ---- from a source
 
 /// Puts constraints in the order of their numbers.
-fn put_in_order<C: Id>(list: &mut Vec<Member<C>>)
+fn put_in_order<C: ConstraintId>(list: &mut Vec<Member<C>>)
     ensures items { (rising : List (TheMember C)) → AreRising C.number rising → IsPermutation rising list.old.items → list.new.items ≡ rising }
     ensures capacity { vec_capacity list.old ≤ vec_capacity list.new }
 {
@@ -64,7 +74,7 @@ fn put_in_order<C: Id>(list: &mut Vec<Member<C>>)
 }
 
 /// Lists the constraints whose first mover sleeps under this name, as the source knows it, ascending. There is room for them.
-fn list_asleep<C: Id, T: TieSource<C>>(list: &mut Vec<Member<C>>, source: &T, name: u32)
+fn list_asleep<C: ConstraintId, T: TieSource<C>>(list: &mut Vec<Member<C>>, source: &T, name: u32)
     requires rising { AreRising C.number (asleep_ties (T.names source.now) name (T.ties source.now)) }
     requires room { length (asleep_ties (T.names source.now) name (T.ties source.now)) ≤ vec_capacity list.old }
     ensures items { list.new.items ≡ asleep_ties (T.names source.now) name (T.ties source.now) }
@@ -76,7 +86,11 @@ fn list_asleep<C: Id, T: TieSource<C>>(list: &mut Vec<Member<C>>, source: &T, na
 }
 
 /// Adds the constraints whose first mover is one of these, mover by mover. There is room for them.
-fn push_each<C: Id, T: TieSource<C>>(list: &mut Vec<Member<C>>, source: &T, members: &[u32])
+fn push_each<C: ConstraintId, T: TieSource<C>>(
+    list: &mut Vec<Member<C>>,
+    source: &T,
+    members: &[u32],
+)
     requires once { IsDistinct nat_eq members.now }
     requires room { length list.old.items + length (filter (is_first_of members.now) (T.ties source.now)) ≤ vec_capacity list.old }
     ensures pushed { IsPermutation (list.old.items ++ filter (is_first_of members.now) (T.ties source.now)) list.new.items }
@@ -88,7 +102,11 @@ fn push_each<C: Id, T: TieSource<C>>(list: &mut Vec<Member<C>>, source: &T, memb
 }
 
 /// Lists the constraints whose first mover is one of these, ascending. There is room for all.
-fn list_firsts<C: Id, T: TieSource<C>>(list: &mut Vec<Member<C>>, source: &T, members: &[u32])
+fn list_firsts<C: ConstraintId, T: TieSource<C>>(
+    list: &mut Vec<Member<C>>,
+    source: &T,
+    members: &[u32],
+)
     requires rising { AreRising C.number (T.ties source.now) }
     requires once { IsDistinct nat_eq members.now }
     requires room { length (T.ties source.now) ≤ vec_capacity list.old }
@@ -104,7 +122,7 @@ fn list_firsts<C: Id, T: TieSource<C>>(list: &mut Vec<Member<C>>, source: &T, me
 
 /// Whether a pass over all constraints lists those of an island with so many movers as quickly: where no edit of them is put off, so that they are at hand as
 /// one list, and there are no more than so many for each mover.
-fn is_pass_quick<C: Id>(ties: &Ties<C>, movers: usize) -> bool
+fn is_pass_quick<C: ConstraintId>(ties: &Ties<C>, movers: usize) -> bool
     ensures { result ≡ true → ties.now.pending ≡ 0 }
 {
     ties.is_flushed() && ties.len() / TIES_A_MOVER <= movers
@@ -112,7 +130,7 @@ fn is_pass_quick<C: Id>(ties: &Ties<C>, movers: usize) -> bool
 
 /// Lists the constraints of an island, ascending, by a pass over all where that is as quick, and else through its movers. Both movers of a constraint are in
 /// one island, so that it is enough to take each constraint with its first one. There is room for all constraints and for the movers of all slots.
-fn list_by_movers<C: Id, T: TieSource<C>>(
+fn list_by_movers<C: ConstraintId, T: TieSource<C>>(
     list: &mut Vec<Member<C>>,
     members: &mut Vec<u32>,
     islands: &Islands,
@@ -139,7 +157,7 @@ fn list_by_movers<C: Id, T: TieSource<C>>(
 
 /// Lists the constraints of an island that sleeps, ascending, by a pass over all where that is as quick, and else from its sleeping set. There is room for
 /// all constraints and for the movers of all slots.
-fn list_by_set<C: Id, T: TieSource<C>>(
+fn list_by_set<C: ConstraintId, T: TieSource<C>>(
     list: &mut Vec<Member<C>>,
     members: &mut Vec<u32>,
     islands: &Islands,
@@ -167,13 +185,13 @@ fn list_by_set<C: Id, T: TieSource<C>>(
 /// What the constraints of an island are gathered in, reserved before so that it takes no memory. Contracts see those that were gathered last (`list`),
 /// and for how many constraints (`ties`) and slots (`slots`) there is room.
 #[derive(Drop)]
-pub(crate) struct Gathering<C: Id> {
+pub(crate) struct Gathering<C: ConstraintId> {
     list: Vec<Member<C>>,
     // The movers of the island.
     members: Vec<u32>,
 }
 
-impl<C: Id> Model for Gathering<C> {
+impl<C: ConstraintId> Model for Gathering<C> {
     ghost use Rattle.std.specs.Prelude.{vec_capacity};
     ghost use Rattle.sleep_wake.specs.Gathered.{Gathered};
 
@@ -182,7 +200,7 @@ impl<C: Id> Model for Gathering<C> {
     ghost view = { λ a. record { list = a.list.items; ties = vec_capacity a.list; slots = vec_capacity a.members } };
 }
 
-impl<C: Id> Gathering<C> {
+impl<C: ConstraintId> Gathering<C> {
     /// Room for nothing.
     pub(crate) fn new(alloc: Global) -> Gathering<C> {
         Gathering {

@@ -6,20 +6,20 @@ ghost use Rattle.graph_colours.specs.Colours.{all_members};
 
 use crate::ties::Ties;
 use fixed_geom::Refusal;
-use graph_colours::{Colours, Id};
+use graph_colours::{Colours, ConstraintId};
 use islands::Islands;
 use std::alloc::Global;
 
 /// A graph whose nodes are the movers and whose edges are the constraints: its components are the islands, and the constraints that act have colours.
 #[derive(Drop)]
-pub(crate) struct Graph<C: Id> {
+pub(crate) struct Graph<C: ConstraintId> {
     // Ascending by number.
     pub(crate) ties: Ties<C>,
     pub(crate) colours: Colours<C>,
     pub(crate) islands: Islands,
 }
 
-impl<C: Id> Graph<C> {
+impl<C: ConstraintId> Graph<C> {
     /// A copy of its own. Refused 1 where memory is wanting.
     pub(crate) fn try_copy(&self, alloc: Global) -> Result<Graph<C>, Refusal>
         ensures ties { IfOk result (λ copied. copied.ties.items ≡ self.now.ties.items) }

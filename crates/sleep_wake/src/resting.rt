@@ -10,13 +10,13 @@ ghost use Rattle.sleep_wake.specs.Rooms.{OwnMovers};
 use crate::phase::are_resting;
 use crate::ties::Ties;
 use crate::wake_and_sleep::release_each;
-use graph_colours::{Colours, Id, Member, OVERFLOW};
+use graph_colours::{Colours, ConstraintId, Member, OVERFLOW};
 use islands::Islands;
 
 // ---- the constraints of what falls asleep
 
 /// Adds a constraint to the list, where there is room. Answers whether there was.
-fn list_one<C: Id>(listed: &mut Vec<Member<C>>, member: Member<C>) -> bool
+fn list_one<C: ConstraintId>(listed: &mut Vec<Member<C>>, member: Member<C>) -> bool
     ensures { result ≡ true → listed.new.items ≡ listed.old.items ++ member ∷ [] }
 {
     if listed.len() == listed.capacity() {
@@ -27,7 +27,7 @@ fn list_one<C: Id>(listed: &mut Vec<Member<C>>, member: Member<C>) -> bool
 }
 
 /// Adds to the list those of the members that have a mover in an island that is ready. Answers whether there was room for all.
-fn list_members<C: Id>(
+fn list_members<C: ConstraintId>(
     listed: &mut Vec<Member<C>>,
     islands: &Islands,
     leasts: &[Option<u64>],
@@ -45,7 +45,7 @@ fn list_members<C: Id>(
 }
 
 /// Lists those of the constraints with a colour that have a mover in an island that is ready. Answers whether there was room for all.
-fn list_resting<C: Id>(
+fn list_resting<C: ConstraintId>(
     listed: &mut Vec<Member<C>>,
     islands: &Islands,
     leasts: &[Option<u64>],
@@ -65,7 +65,7 @@ fn list_resting<C: Id>(
 }
 
 /// Takes the colours of those of the ties that have a mover in an island that is ready.
-fn release_among<C: Id>(
+fn release_among<C: ConstraintId>(
     islands: &Islands,
     colours: &mut Colours<C>,
     ties: &[Member<C>],
@@ -86,7 +86,7 @@ fn release_among<C: Id>(
 
 /// Takes the colours of the constraints of all whole islands that are ready. They are looked for among those that act, since these islands are awake;
 /// among all ties only where the list has no room for them.
-pub(crate) fn release_resting<C: Id>(
+pub(crate) fn release_resting<C: ConstraintId>(
     islands: &Islands,
     colours: &mut Colours<C>,
     ties: &mut Ties<C>,

@@ -32,7 +32,7 @@ use crate::ties::Ties;
 use crate::wake_and_sleep::{are_awake, is_awake, place_each, release_each};
 use crate::work::Work;
 use fixed_geom::Refusal;
-use graph_colours::{Colours, Id, Member, Movers};
+use graph_colours::{Colours, ConstraintId, Member, Movers};
 use islands::{Islands, Label};
 use std::alloc::Global;
 use std::marker::Model;
@@ -44,14 +44,14 @@ use std::marker::Model;
 /// edits of the colours may be put off until [`Sets::flush`] (`pending`): if it is 0, none is. Only `new`, `try_copy`, `reserve`,
 /// `names_of`, `list_ties` and `awake_slots` can be refused memory.
 #[derive(Drop)]
-pub struct Sets<C: Id> {
+pub struct Sets<C: ConstraintId> {
     graph: Graph<C>,
     work: Work<C>,
     room: usize,
     slots: usize,
 }
 
-impl<C: Id> Model for Sets<C> {
+impl<C: ConstraintId> Model for Sets<C> {
     ghost use Rattle.std.specs.Prelude.{vec_capacity};
     ghost use Rattle.sleep_wake.specs.Acting.{acting};
     ghost use Rattle.sleep_wake.specs.Standing.{Standing, IsStanding};
@@ -63,7 +63,7 @@ impl<C: Id> Model for Sets<C> {
     ghost invariant = { λ a. IsStanding C.number (acting a.graph.ties.items a.graph.islands.labels a.graph.colours.lists) a.room a.slots (record { ties = a.graph.ties.capacity; colours = a.graph.colours.room; colour_slots = a.graph.colours.slots; islands = a.graph.islands.room; edges = vec_capacity a.work.edges; scratch_slots = a.work.scratch.slots; links = a.work.scratch.links; gathering_ties = a.work.gathering.ties; gathering_slots = a.work.gathering.slots; leasts = vec_capacity a.work.leasts }) };
 }
 
-impl<C: Id> Sets<C> {
+impl<C: ConstraintId> Sets<C> {
     /// No movers and no constraints, and room for none. Refused 1 where memory is wanting.
     pub fn new(alloc: Global) -> Result<Sets<C>, Refusal>
         ensures acting { IfOk result (λ made. made.acting ≡ acting [] [] (replicate (COLOURS + 1) [])) }

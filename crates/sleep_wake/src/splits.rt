@@ -6,7 +6,7 @@ ghost use Rattle.sleep_wake.specs.SleepPhase.{edges_in};
 ghost use Rattle.sleep_wake.specs.Gathered.{edges_of_one};
 
 use crate::wake_and_sleep::is_in;
-use graph_colours::{Id, Member, Movers};
+use graph_colours::{ConstraintId, Member, Movers};
 use islands::Islands;
 
 /// Adds a constraint's link to the edges, if it has one and that is of the island. There is room.
@@ -24,7 +24,7 @@ fn add_edge(edges: &mut Vec<(u32, u32)>, islands: &Islands, name: u32, movers: M
 }
 
 /// Lists the links of an island among those of the ties. There is room for as many as there are ties.
-pub(crate) fn list_edges<C: Id>(
+pub(crate) fn list_edges<C: ConstraintId>(
     edges: &mut Vec<(u32, u32)>,
     islands: &Islands,
     ties: &[Member<C>],

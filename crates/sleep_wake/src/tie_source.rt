@@ -5,11 +5,11 @@ ghost use Rattle.std.specs.List.Sorted.{IsPermutation};
 ghost use Rattle.graph_colours.specs.declared.member.Member.{Member as TheMember};
 ghost use Rattle.sleep_wake.specs.Sources.{asleep_ties, first_ties};
 
-use graph_colours::{Id, Member};
+use graph_colours::{ConstraintId, Member};
 
 /// Tells constraints by sleeping island and by mover, into a list that has room for them. In what order the list then has them, and what it had before, isn't
 /// promised.
-pub trait TieSource<C: Id> {
+pub trait TieSource<C: ConstraintId> {
     /// The constraints that it knows.
     ghost ties: { Self → List (TheMember C) };
 

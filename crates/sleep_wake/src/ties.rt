@@ -6,19 +6,19 @@ ghost use Rattle.graph_colours.specs.Members.{AreRising, inserted, without_membe
 ghost use Rattle.graph_colours.specs.FoundMembers.{has_id, movers_of};
 
 use fixed_geom::Refusal;
-use graph_colours::{EditedList, Id, Member, Movers};
+use graph_colours::{ConstraintId, EditedList, Member, Movers};
 use std::alloc::Global;
 use std::marker::Model;
 
 /// Constraints that ascend by number, with edits that are put off. Contracts see them as those of an [`EditedList`].
 #[derive(Drop)]
-pub(crate) struct Ties<C: Id> {
+pub(crate) struct Ties<C: ConstraintId> {
     list: EditedList<C>,
     // Whether it is known that no edit is put off.
     flushed: bool,
 }
 
-impl<C: Id> Model for Ties<C> {
+impl<C: ConstraintId> Model for Ties<C> {
     ghost use Rattle.std.specs.Prelude.{◌≡◌, true};
     ghost use Rattle.graph_colours.specs.Edits.{Pended};
 
@@ -29,7 +29,7 @@ impl<C: Id> Model for Ties<C> {
     ghost invariant = { λ a. a.flushed ≡ true → a.list.pending ≡ 0 };
 }
 
-impl<C: Id> Ties<C> {
+impl<C: ConstraintId> Ties<C> {
     /// No constraints.
     pub(crate) fn new(alloc: Global) -> Ties<C>
         ensures items { result.items ≡ [] }

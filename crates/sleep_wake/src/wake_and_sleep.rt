@@ -7,7 +7,7 @@ ghost use Rattle.sleep_wake.specs.Acting.{is_mover_awake, second_awake, are_awak
 ghost use Rattle.sleep_wake.specs.Waking.{second_in, are_in, placed_all, released_all};
 ghost use Rattle.sleep_wake.specs.Rooms.{CanPlace, OwnMovers};
 
-use graph_colours::{Colours, Id, Member, Movers};
+use graph_colours::{Colours, ConstraintId, Member, Movers};
 use islands::Islands;
 
 /// Whether the mover in the slot is in the island of this name.
@@ -63,7 +63,7 @@ pub(crate) fn are_in(islands: &Islands, name: u32, movers: Movers) -> bool
 }
 
 /// Gives colours to these constraints, of which none has one, in their order.
-pub(crate) fn place_each<C: Id>(colours: &mut Colours<C>, list: &[Member<C>])
+pub(crate) fn place_each<C: ConstraintId>(colours: &mut Colours<C>, list: &[Member<C>])
     requires { CanPlace C.number list.now colours.old.lists colours.old.room colours.old.slots }
     ensures lists { colours.new.lists ≡ placed_all C.number colours.old.lists list.now }
     ensures slots { colours.new.slots ≡ colours.old.slots }
@@ -76,7 +76,7 @@ pub(crate) fn place_each<C: Id>(colours: &mut Colours<C>, list: &[Member<C>])
 }
 
 /// Takes the colours of these constraints.
-pub(crate) fn release_each<C: Id>(colours: &mut Colours<C>, list: &[Member<C>])
+pub(crate) fn release_each<C: ConstraintId>(colours: &mut Colours<C>, list: &[Member<C>])
     requires own { OwnMovers C.number list.now colours.old.lists }
     ensures lists { colours.new.lists ≡ released_all C.number colours.old.lists list.now }
     ensures slots { colours.new.slots ≡ colours.old.slots }

@@ -5,13 +5,13 @@ ghost use Rattle.std.specs.Result.{IsOkUnless};
 
 use crate::gathering::Gathering;
 use fixed_geom::Refusal;
-use graph_colours::{Id, Member};
+use graph_colours::{ConstraintId, Member};
 use islands::SplitScratch;
 use std::alloc::Global;
 
 /// Lists that are reserved before, so that no change of the sets takes memory. What they hold between two calls means nothing.
 #[derive(Drop)]
-pub(crate) struct Work<C: Id> {
+pub(crate) struct Work<C: ConstraintId> {
     // Where ties lie while their list is edited.
     pub(crate) spare: Vec<Member<C>>,
     // What a split works on.
@@ -23,7 +23,7 @@ pub(crate) struct Work<C: Id> {
     pub(crate) leasts: Vec<Option<u64>>,
 }
 
-impl<C: Id> Work<C> {
+impl<C: ConstraintId> Work<C> {
     /// Room for nothing.
     pub(crate) fn new(alloc: Global) -> Work<C> {
         Work {

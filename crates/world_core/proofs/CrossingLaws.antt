@@ -14,7 +14,7 @@ use Rattle.impulse_ledger.specs.contracts.ledger.Ledger as Ledger
 use Rattle.event_feed.specs.contracts.events.Events as Events
 use Rattle.world_core.specs.contracts.world.WorldCore as World
 use denote.RattleType.{RattleType}
-use Rattle.graph_colours.specs.declared.member.Id.{Ghosts}
+use Rattle.graph_colours.specs.declared.member.ConstraintId.{Ghosts}
 use Rattle.graph_colours.specs.contracts.colours.Colours as Colours
 use Rattle.graph_colours.specs.contracts.edited.EditedList as EditedList
 use Rattle.islands.specs.contracts.islands.Islands as Islands

@@ -17,7 +17,7 @@ ghost use Rattle.world_core.specs.WorldTies.{AreOfTwo, contact_tie_in, contact_t
 
 use contacts::{Constraint, ContactTable, NumberedContact, Side};
 use fixed_geom::Refusal;
-use graph_colours::{Id, Member};
+use graph_colours::{ConstraintId, Member};
 use plain_world::Body;
 use sleep_wake::push_some;
 use solver_sets::{contact_movers, tie_with};

@@ -24,7 +24,7 @@ use body_handles::SlotEntry;
 use contacts::Constraint;
 use contacts_base::ContactEntry;
 use fixed_geom::Refusal;
-use graph_colours::{Id, Movers, OVERFLOW};
+use graph_colours::{ConstraintId, Movers, OVERFLOW};
 use plain_world::Plain;
 use std::alloc::Global;
 use std::collections::HashMap;

@@ -9,7 +9,7 @@ ghost use Rattle.world_file.specs.Taken.{colour_numbered, has_number};
 
 use contacts::Constraint;
 use fixed_geom::Refusal;
-use graph_colours::{Id, OVERFLOW};
+use graph_colours::{ConstraintId, OVERFLOW};
 use plain_world::Plain;
 use std::alloc::Global;
 use std::collections::HashMap;

@@ -14,7 +14,7 @@ ghost use Rattle.world_file_base.specs.Written.{
   written,
 };
 
-use body_handles::{Handle, Id};
+use body_handles::{Handle, IdText};
 use fixed_geom::{Box2, Refusal, Vec2};
 use serde_json::{Map, Value, put};
 use std::alloc::Global;
@@ -115,7 +115,7 @@ pub(crate) fn decimal_value(alloc: Global, number: i128) -> Result<Value, Refusa
 pub(crate) fn id_value(alloc: Global, handle: Handle) -> Result<Value, Refusal>
     ensures { IfOk result (λ value. view value ≡ id_of handle) }
 {
-    let id = Id(handle);
+    let id = IdText(handle);
     let text = format!(in alloc; "{id}")?;
     Ok(Value::from(text))
 }

@@ -1,7 +1,7 @@
 //! The parts of an answer.
 
 use crate::answers::{Answer, SeatReport};
-use body_handles::{Handle, Id, SlotEntry};
+use body_handles::{Handle, IdText, SlotEntry};
 use contacts_base::{ContactKey, ShapeId};
 use event_feed::Events;
 use fixed_geom::{Refusal, Rot, Vec2};
@@ -84,7 +84,7 @@ impl<'a, W: fmt::Write> Pen<'a, W> {
 
     pub(crate) fn id(&mut self, handle: Handle) {
         self.text("\"");
-        self.value(Id(handle));
+        self.value(IdText(handle));
         self.text("\"");
     }
 

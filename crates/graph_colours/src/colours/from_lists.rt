@@ -14,12 +14,12 @@ use crate::edited::EditedList;
 use crate::limits::COLOURS;
 use crate::lists::reserve_all;
 use crate::taken_colours::{grow, set_colour_bits};
-use crate::{Id, Member};
+use crate::{ConstraintId, Member};
 use fixed_geom::Refusal;
 use std::alloc::Global;
 
 /// Sets the bits of a colour, of which none is set yet, in the slots of its members' movers.
-fn set_list_bits<C: Id>(words: &mut Vec<u32>, colour: usize, members: &[Member<C>])
+fn set_list_bits<C: ConstraintId>(words: &mut Vec<u32>, colour: usize, members: &[Member<C>])
     requires colour { colour < COLOURS }
     requires below { AreAllBelow (length words.old.items) members.now }
     requires clear { (slot : ℕ) → colour_bit words.old.items slot colour ≡ 0 }
@@ -33,7 +33,7 @@ fn set_list_bits<C: Id>(words: &mut Vec<u32>, colour: usize, members: &[Member<C
 }
 
 /// Sets the bits of all colours, where no bit is set yet.
-fn set_all_bits<C: Id>(words: &mut Vec<u32>, lists: &[Vec<Member<C>>])
+fn set_all_bits<C: ConstraintId>(words: &mut Vec<u32>, lists: &[Vec<Member<C>>])
     requires count { length (members_of lists.now) ≡ COLOURS + 1 }
     requires below { All (AreAllBelow (length words.old.items)) (members_of lists.now) }
     requires clear { (slot colour : ℕ) → colour_bit words.old.items slot colour ≡ 0 }
@@ -46,7 +46,7 @@ fn set_all_bits<C: Id>(words: &mut Vec<u32>, lists: &[Vec<Member<C>>])
 }
 
 /// The bits of these lists, for slots below `slots`. Refused 1 where memory is wanting.
-fn bits_of<C: Id>(
+fn bits_of<C: ConstraintId>(
     alloc: Global,
     lists: &[Vec<Member<C>>],
     slots: usize,
@@ -63,7 +63,7 @@ fn bits_of<C: Id>(
 }
 
 /// A list of each list's members. Refused 1 where memory is wanting.
-fn edited_lists<C: Id>(
+fn edited_lists<C: ConstraintId>(
     alloc: Global,
     lists: &[Vec<Member<C>>],
 ) -> Result<Vec<EditedList<C>>, Refusal>
@@ -79,7 +79,7 @@ fn edited_lists<C: Id>(
     Ok(made)
 }
 
-impl<C: Id> Colours<C> {
+impl<C: ConstraintId> Colours<C> {
     /// The colours of which these are the members, those in the overflow last; `count` says how many they are in all. The movers' slots are below
     /// `slots`. Has no room for more. Refused 1 where memory is wanting.
     pub fn from_lists(

@@ -11,7 +11,7 @@ ghost use Rattle.sleep_wake.specs.Sources.{TellsAsleep};
 use crate::change::Change;
 use crate::sets::Sets;
 use crate::tie_source::TieSource;
-use graph_colours::{Id, Member, Movers};
+use graph_colours::{ConstraintId, Member, Movers};
 use islands::Islands;
 
 /// Merges the islands of two movers that get a link.
@@ -36,7 +36,7 @@ fn part(islands: &mut Islands, movers: Movers)
     }
 }
 
-impl<C: Id> Sets<C> {
+impl<C: ConstraintId> Sets<C> {
     // ---- one begins or ends
 
     /// A constraint comes whose movers are awake: the islands of two movers are merged, and it takes the least colour that is

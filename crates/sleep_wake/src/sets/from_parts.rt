@@ -11,11 +11,11 @@ use crate::sets::Sets;
 use crate::ties::Ties;
 use crate::work::Work;
 use fixed_geom::Refusal;
-use graph_colours::{Colours, Id, Member};
+use graph_colours::{Colours, ConstraintId, Member};
 use islands::{Islands, Label};
 use std::alloc::Global;
 
-impl<C: Id> Sets<C> {
+impl<C: ConstraintId> Sets<C> {
     /// The sets of these constraints, with the islands of their movers by slot, and the constraints of each colour, those in the overflow last; `count`
     /// says how many have a colour. There is room for no more of them. Refused 1 where memory is wanting.
     pub fn from_parts(

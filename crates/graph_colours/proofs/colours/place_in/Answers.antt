@@ -16,12 +16,12 @@ first_free-colour-requires g c = rw c.deref.ensures.value (below_words c.args.wo
 
 pub index_mut-requires : goal.index_mut-requires
 index_mut-requires g c =
-    let n : length c.args.lists.now.items ≡ COLOURS + 1 = lists_count g.C.Id.number c.args.lists.now.items c.requires.graph.colouring in
+    let n : length c.args.lists.now.items ≡ COLOURS + 1 = lists_count g.C.ConstraintId.number c.args.lists.now.items c.requires.graph.colouring in
     omega (arith, n, c.first_free-colour.ensures.most, c.args.lists.now.ok.0)
 
 pub insert-requires-clause-absent : goal.insert-requires-clause-absent
 insert-requires-clause-absent g c =
-    let n = g.C.Id.number in
+    let n = g.C.ConstraintId.number in
     let ks = c.args.lists.now.items in
     let x = c.index_mut.result.now in
     let place = c.first_free-colour.result in
@@ -35,7 +35,7 @@ pub insert-requires-clause-room : goal.insert-requires-clause-room
 insert-requires-clause-room g c =
     let ks = c.args.lists.now.items in
     let place = c.first_free-colour.result in
-    let many : length ks ≡ COLOURS + 1 = lists_count g.C.Id.number ks c.requires.graph.colouring in
+    let many : length ks ≡ COLOURS + 1 = lists_count g.C.ConstraintId.number ks c.requires.graph.colouring in
     let lt : place < length ks = omega (arith, many, c.first_free-colour.ensures.most) in
     one_fits c.args.size.total c.args.size.count ks place c.index_mut.result.now lt c.index_mut.ensures.value c.requires.graph.rooms (omega (arith, c.requires.graph.members)) c.requires.room
 
@@ -50,7 +50,7 @@ returns-clause-colour g c =
 
 pub returns-clause-lists : goal.returns-clause-lists
 returns-clause-lists g c =
-    let n = g.C.Id.number in
+    let n = g.C.ConstraintId.number in
     let ks = c.args.lists.now.items in
     let x = c.index_mut.result.now in
     let place = c.first_free-colour.result in
@@ -62,7 +62,7 @@ returns-clause-lists g c =
 
 pub returns-clause-graph : goal.returns-clause-graph
 returns-clause-graph g c =
-    let n = g.C.Id.number in
+    let n = g.C.ConstraintId.number in
     let ks = c.args.lists.now.items in
     let x = c.index_mut.result.now in
     let place = c.first_free-colour.result in

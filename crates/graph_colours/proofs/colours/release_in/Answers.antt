@@ -8,7 +8,7 @@ use Rattle.graph_colours.proofs.colours.release_in.Goals as goal
 
 pub returns-clause-graph : goal.returns-clause-graph
 returns-clause-graph g c =
-    let n = g.C.Id.number in
+    let n = g.C.ConstraintId.number in
     let ks = c.args.lists.now.items in
     let r = c.remove_from_first-gone in
     let lists : List (List (Member g.row.C.Denot)) = lists_of ks in

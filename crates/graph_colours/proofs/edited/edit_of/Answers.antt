@@ -5,7 +5,7 @@ use Rattle.graph_colours.proofs.edited.edit_of.Goals as goal
 
 pub returns-in_err-edit : goal.returns-in_err-edit
 returns-in_err-edit g c =
-    let n = g.C.Id.number in
+    let n = g.C.ConstraintId.number in
     let es = c.args.edits.now in
     let w = c.args.wanted in
     let far = ltb-false _ _ (sym c.in_err-edit.ensures.lookup.0) in
@@ -13,14 +13,14 @@ returns-in_err-edit g c =
 
 pub returns-then-number-wanted : goal.returns-then-number-wanted
 returns-then-number-wanted g c =
-    let n = g.C.Id.number in
+    let n = g.C.ConstraintId.number in
     let es = c.args.edits.now in
     let w = c.args.wanted in
     sym (found_nowhere (edit_number n) w (edit_with n w) es refl (λ x l. refl) (nowhere_from (edit_number n) w es c.edit_place.result c.requires c.edit_place.ensures.before c.edit_place.ensures.after (other_there (edit_number n) w es c.edit_place.result c.in_ok-edit.field-0.now c.in_ok-edit.ensures.lookup.1 (λ q. c.if-number-wanted.true (c.number.ensures ∙ q)))))
 
 pub returns : goal.returns
 returns g c =
-    let n = g.C.Id.number in
+    let n = g.C.ConstraintId.number in
     let es = c.args.edits.now in
     let w = c.args.wanted in
     let lt = ltb-true _ _ (sym c.in_ok-edit.ensures.lookup.0) in

@@ -9,21 +9,21 @@ pub returns-in-Some-clause-before : goal.returns-in-Some-clause-before
 returns-in-Some-clause-before g c =
     let es = c.args.edits.now in
     let wanted = c.args.wanted in
-    let parted = IsPartitionedBy-ltb (λ e. g.C.Id.number e.member.id) es wanted (not_before g.C.Id.number es c.requires) in
-    let point = IsPartitionPoint-from_clause (λ e. ltb (g.C.Id.number e.member.id) wanted) _ _ c.partition_point.ensures.partitioned parted (λ a r q k. search rules) in
+    let parted = IsPartitionedBy-ltb (λ e. g.C.ConstraintId.number e.member.id) es wanted (not_before g.C.ConstraintId.number es c.requires) in
+    let point = IsPartitionPoint-from_clause (λ e. ltb (g.C.ConstraintId.number e.member.id) wanted) _ _ c.partition_point.ensures.partitioned parted (λ a r q k. search rules) in
     λ k d low high. ltb-true _ _ (point.0 k d low high)
 
 pub returns-in-Some-clause-after : goal.returns-in-Some-clause-after
 returns-in-Some-clause-after g c =
     let es = c.args.edits.now in
     let wanted = c.args.wanted in
-    let parted = IsPartitionedBy-ltb (λ e. g.C.Id.number e.member.id) es wanted (not_before g.C.Id.number es c.requires) in
-    let point = IsPartitionPoint-from_clause (λ e. ltb (g.C.Id.number e.member.id) wanted) _ _ c.partition_point.ensures.partitioned parted (λ a r q k. search rules) in
+    let parted = IsPartitionedBy-ltb (λ e. g.C.ConstraintId.number e.member.id) es wanted (not_before g.C.ConstraintId.number es c.requires) in
+    let point = IsPartitionPoint-from_clause (λ e. ltb (g.C.ConstraintId.number e.member.id) wanted) _ _ c.partition_point.ensures.partitioned parted (λ a r q k. search rules) in
     λ k d low high. ltb-false _ _ (point.1 k d low high)
 
 pub returns-in_default-clause-before : goal.returns-in_default-clause-before
 returns-in_default-clause-before g c =
-    let n = g.C.Id.number in
+    let n = g.C.ConstraintId.number in
     let es = c.args.edits.now in
     let e = c.in-Some.last.now in
     let lt : edit_number n e < c.args.wanted = omega (arith, c.number.ensures, c.if-number-wanted.false) in

@@ -8,5 +8,5 @@ pub returns-clause-items : goal.returns-clause-items
 returns-clause-items g c =
     let ms = c.args.list.now.items in
     let es = c.args.edits.now in
-    let passed : c.pass.new.list.items ≡ take c.args.start ms ++ all_edited g.C.Id.number es (drop c.args.start ms) = grind (arith, common_steps) in
-    passed ∙ from_start g.C.Id.number es ms c.args.start c.requires.below
+    let passed : c.pass.new.list.items ≡ take c.args.start ms ++ all_edited g.C.ConstraintId.number es (drop c.args.start ms) = grind (arith, common_steps) in
+    passed ∙ from_start g.C.ConstraintId.number es ms c.args.start c.requires.below

@@ -6,6 +6,6 @@ use Rattle.graph_colours.proofs.edits.edit_one.Goals as goal
 
 pub insert-requires-clause-rising : goal.insert-requires-clause-rising
 insert-requires-clause-rising g c =
-    let n = g.C.Id.number in
+    let n = g.C.ConstraintId.number in
     let P : List (Member g.row.C.Denot) → Type 0 = λ l. AreRising n l in
     subst P (sym c.remove.ensures.items) (rising_without n c.args.edit.member.id c.args.list.now.items c.requires.rising)

@@ -21,7 +21,7 @@ loop-place-preserved g c =
     let len : vec_len c.pass_edit-done.new.list + length (drop r (drop done ms)) ≤ vec_len c.loop-place.list + length (drop done ms) + 1 = rw same at c.pass_edit-done.ensures.len in
     record {
       within = omega (arith, within, front, c.loop-place.invariant.within);
-      rest = pass_goes g.C.Id.number es place c.index-edits-place.result c.loop-place.list.items c.pass_edit-done.new.list.items _ ms done r lt c.index-edits-place.is c.requires.in_order (rw same at c.pass_edit-done.ensures.items) c.loop-place.invariant.rest;
+      rest = pass_goes g.C.ConstraintId.number es place c.index-edits-place.result c.loop-place.list.items c.pass_edit-done.new.list.items _ ms done r lt c.index-edits-place.is c.requires.in_order (rw same at c.pass_edit-done.ensures.items) c.loop-place.invariant.rest;
       room = omega (arith, left, front, before, after, within, len, c.loop-place.invariant.room, c.loop-place.invariant.within, c.pass_edit-done.ensures.capacity);
       capacity = omega (arith, c.loop-place.invariant.capacity, c.pass_edit-done.ensures.capacity);
     }

@@ -6,7 +6,7 @@ use Rattle.graph_colours.proofs.edits.pass_edit.Goals as goal
 
 pub returns-then-is_at-clause-items : goal.returns-then-is_at-clause-items
 returns-then-is_at-clause-items g c = λ later up.
-    let n = g.C.Id.number in
+    let n = g.C.ConstraintId.number in
     let e = c.args.edit in
     let ms = c.args.members.now in
     let i = c.place_from-place.result in
@@ -18,7 +18,7 @@ returns-then-is_at-clause-items g c = λ later up.
 
 pub returns-else-is_at-clause-items : goal.returns-else-is_at-clause-items
 returns-else-is_at-clause-items g c = λ later up.
-    let n = g.C.Id.number in
+    let n = g.C.ConstraintId.number in
     let e = c.args.edit in
     let ms = c.args.members.now in
     let i = c.place_from-place.result in

@@ -16,7 +16,7 @@ use Rattle.graph_colours.proofs.lists.remove_at.Goals as goal
 
 pub returns-in_default-clause-value : goal.returns-in_default-clause-value
 returns-in_default-clause-value g c =
-    let n = g.C.Id.number in
+    let n = g.C.ConstraintId.number in
     let ks = c.args.lists.now.items in
     let x = c.index_mut.result.now in
     let at : x.items ≡ list_at (lists_of ks) c.args.place = items_at ks c.args.place x c.requires.place c.index_mut.ensures.value in
@@ -28,7 +28,7 @@ same_items number id x y is none = is ∙ without_same number id x.items (sym (h
 
 pub returns-in_default-clause-lists : goal.returns-in_default-clause-lists
 returns-in_default-clause-lists g c =
-    let n = g.C.Id.number in
+    let n = g.C.ConstraintId.number in
     let ks = c.args.lists.now.items in
     let x = c.index_mut.result.now in
     let at : x.items ≡ list_at (lists_of ks) c.args.place = items_at ks c.args.place x c.requires.place c.index_mut.ensures.value in
@@ -38,7 +38,7 @@ pub returns-in_default-clause-bits : goal.returns-in_default-clause-bits
 returns-in_default-clause-bits g c =
     let f : Pended g.row.C.Denot → List (Member g.row.C.Denot) = λ l. l.items in
     let x = c.index_mut.result.now in
-    let same = same_items g.C.Id.number c.args.id x c.remove.new.self c.remove.ensures.items c.in_default.ensures.value in
+    let same = same_items g.C.ConstraintId.number c.args.id x c.remove.new.self c.remove.ensures.items c.in_default.ensures.value in
     let kept = map_kept f c.args.lists.now.items c.args.place c.remove.new.self x (same ∙ ap f c.index_mut.ensures.value) in
     let P : List (List (Member g.row.C.Denot)) → Type 0 = λ ls. AreTakenColours ls c.args.words.now.items in
     subst P (sym kept) c.requires.bits
@@ -48,7 +48,7 @@ returns-in_default-clause-kept g c = λ room each. rooms_set room c.args.lists.n
 
 pub set_colour_bits-requires : goal.set_colour_bits-requires
 set_colour_bits-requires g c = λ lt.
-    let n = g.C.Id.number in
+    let n = g.C.ConstraintId.number in
     let ks = c.args.lists.now.items in
     let x = c.index_mut.result.now in
     let at : x.items ≡ list_at (lists_of ks) c.args.place = items_at ks c.args.place x c.requires.place c.index_mut.ensures.value in
@@ -57,7 +57,7 @@ set_colour_bits-requires g c = λ lt.
 
 pub returns-clause-value : goal.returns-clause-value
 returns-clause-value g c =
-    let n = g.C.Id.number in
+    let n = g.C.ConstraintId.number in
     let ks = c.args.lists.now.items in
     let x = c.index_mut.result.now in
     let at : x.items ≡ list_at (lists_of ks) c.args.place = items_at ks c.args.place x c.requires.place c.index_mut.ensures.value in
@@ -65,7 +65,7 @@ returns-clause-value g c =
 
 pub returns-clause-lists : goal.returns-clause-lists
 returns-clause-lists g c =
-    let n = g.C.Id.number in
+    let n = g.C.ConstraintId.number in
     let ks = c.args.lists.now.items in
     let x = c.index_mut.result.now in
     let at : x.items ≡ list_at (lists_of ks) c.args.place = items_at ks c.args.place x c.requires.place c.index_mut.ensures.value in
@@ -73,7 +73,7 @@ returns-clause-lists g c =
 
 pub returns-clause-bits : goal.returns-clause-bits
 returns-clause-bits g c =
-    let n = g.C.Id.number in
+    let n = g.C.ConstraintId.number in
     let ks = c.args.lists.now.items in
     let lists : List (List (Member g.row.C.Denot)) = lists_of ks in
     let x = c.index_mut.result.now in

@@ -19,12 +19,12 @@ remove_at-requires-clause-place g c =
 
 pub remove_at-requires-clause-colouring : goal.remove_at-requires-clause-colouring
 remove_at-requires-clause-colouring g c =
-    let P : List (List (Member g.row.C.Denot)) → Type 0 = λ ls. IsColouring g.C.Id.number ls in
+    let P : List (List (Member g.row.C.Denot)) → Type 0 = λ ls. IsColouring g.C.ConstraintId.number ls in
     subst P (sym c.loop-place.invariant.lists) c.requires.colouring
 
 pub loop-place-init : goal.loop-place-init
 loop-place-init g c =
-    let n = g.C.Id.number in
+    let n = g.C.ConstraintId.number in
     let lists : List (List (Member g.row.C.Denot)) = lists_of c.args.lists.now.items in
     let is = rw c.deref.ensures.value at c.candidates-candidates.ensures in
     record {
@@ -37,13 +37,13 @@ loop-place-init g c =
 
 pub next_candidate-place-requires-in-loop-place : goal.next_candidate-place-requires-in-loop-place
 next_candidate-place-requires-in-loop-place g c =
-    let many : length c.args.lists.now.items ≡ COLOURS + 1 = lists_count g.C.Id.number c.args.lists.now.items c.requires.colouring in
+    let many : length c.args.lists.now.items ≡ COLOURS + 1 = lists_count g.C.ConstraintId.number c.args.lists.now.items c.requires.colouring in
     let n = same_count c.loop-place.lists.items c.args.lists.now.items c.loop-place.invariant.lists in
     omega (arith, n, many, c.loop-place-test.true)
 
 pub loop-place-preserved : goal.loop-place-preserved
 loop-place-preserved g c =
-    let n = g.C.Id.number in
+    let n = g.C.ConstraintId.number in
     let now : List (List (Member g.row.C.Denot)) = lists_of c.loop-place.lists.items in
     let old : List (List (Member g.row.C.Denot)) = lists_of c.args.lists.now.items in
     let place = c.loop-place.place in
@@ -68,7 +68,7 @@ loop-place-preserved g c =
 
 pub returns-then-remove_at-clause-gone : goal.returns-then-remove_at-clause-gone
 returns-then-remove_at-clause-gone g c =
-    let n = g.C.Id.number in
+    let n = g.C.ConstraintId.number in
     let old : List (List (Member g.row.C.Denot)) = lists_of c.args.lists.now.items in
     let place = c.loop-place.place in
     let many : length c.args.lists.now.items ≡ COLOURS + 1 = lists_count n c.args.lists.now.items c.requires.colouring in
@@ -79,7 +79,7 @@ returns-then-remove_at-clause-gone g c =
 
 pub returns-then-remove_at-clause-lists : goal.returns-then-remove_at-clause-lists
 returns-then-remove_at-clause-lists g c =
-    let n = g.C.Id.number in
+    let n = g.C.ConstraintId.number in
     let old : List (List (Member g.row.C.Denot)) = lists_of c.args.lists.now.items in
     let place = c.loop-place.place in
     let many : length c.args.lists.now.items ≡ COLOURS + 1 = lists_count n c.args.lists.now.items c.requires.colouring in
@@ -91,14 +91,14 @@ returns-then-remove_at-clause-lists g c =
 
 pub returns-clause-gone : goal.returns-clause-gone
 returns-clause-gone g c =
-    let n = g.C.Id.number in
+    let n = g.C.ConstraintId.number in
     let old : List (List (Member g.row.C.Denot)) = lists_of c.args.lists.now.items in
     let many : length c.args.lists.now.items ≡ COLOURS + 1 = lists_count n c.args.lists.now.items c.requires.colouring in
     none_times n c.args.id old (λ k lt. c.loop-place.invariant.absent k (omega (arith, lt, c.requires.colouring.count, many, c.loop-place-test.false, same_count c.loop-place.lists.items c.args.lists.now.items c.loop-place.invariant.lists)) (omega (arith, lt, c.requires.colouring.count)))
 
 pub returns-clause-lists : goal.returns-clause-lists
 returns-clause-lists g c =
-    let n = g.C.Id.number in
+    let n = g.C.ConstraintId.number in
     let old : List (List (Member g.row.C.Denot)) = lists_of c.args.lists.now.items in
     let many : length c.args.lists.now.items ≡ COLOURS + 1 = lists_count n c.args.lists.now.items c.requires.colouring in
     c.loop-place.invariant.lists ∙ none_loses n c.args.id old (λ k lt. c.loop-place.invariant.absent k (omega (arith, lt, c.requires.colouring.count, many, c.loop-place-test.false, same_count c.loop-place.lists.items c.args.lists.now.items c.loop-place.invariant.lists)) (omega (arith, lt, c.requires.colouring.count)))

@@ -12,7 +12,7 @@ invariant-loop-place g l = record {
   bits : AreTakenColours (lists_of l.lists.items) l.words.items;
   long : length l.words.items ≡ length l.fn.words.items;
   kept : (room : ℕ) → HaveRoom room l.fn.lists.items → HaveRoom room l.lists.items;
-  absent : (k : ℕ) → k < l.place → k ≤ COLOURS → has_id g.C.Id.number l.id (list_at (lists_of l.fn.lists.items) k) ≡ false;
+  absent : (k : ℕ) → k < l.place → k ≤ COLOURS → has_id g.C.ConstraintId.number l.id (list_at (lists_of l.fn.lists.items) k) ≡ false;
 }
 
 abbrev pub decreases-loop-place : goal.decreases-loop-place

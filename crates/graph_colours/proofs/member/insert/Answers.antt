@@ -12,4 +12,4 @@ returns-clause-items g c =
     let after = rw (c.number.ensures, c.deref.ensures.value) at c.place_from-place.ensures.after in
     let within = rw c.deref.ensures.value at c.place_from-place.ensures.within in
     let added : c.insert.new.self.items ≡ insert ms place c.args.member = grind (arith, common_steps) in
-    rw added (insert_is g.C.Id.number c.args.member ms place before after within)
+    rw added (insert_is g.C.ConstraintId.number c.args.member ms place before after within)

@@ -5,7 +5,7 @@ use Rattle.graph_colours.proofs.member.with_number.Goals as goal
 
 pub returns-in_err-member : goal.returns-in_err-member
 returns-in_err-member g c =
-    let n = g.C.Id.number in
+    let n = g.C.ConstraintId.number in
     let ms = c.args.members.now in
     let w = c.args.wanted in
     let far = ltb-false _ _ (sym c.in_err-member.ensures.lookup.0) in
@@ -13,14 +13,14 @@ returns-in_err-member g c =
 
 pub returns-then-number-wanted : goal.returns-then-number-wanted
 returns-then-number-wanted g c =
-    let n = g.C.Id.number in
+    let n = g.C.ConstraintId.number in
     let ms = c.args.members.now in
     let w = c.args.wanted in
     sym (found_nowhere (λ m. n m.id) w (with_number n w) ms refl (λ x l. refl) (nowhere_from (λ m. n m.id) w ms c.place_from.result c.requires c.place_from.ensures.before c.place_from.ensures.after (other_there (λ m. n m.id) w ms c.place_from.result c.in_ok-member.field-0.now c.in_ok-member.ensures.lookup.1 (λ q. c.if-number-wanted.true (c.number.ensures ∙ q)))))
 
 pub returns : goal.returns
 returns g c =
-    let n = g.C.Id.number in
+    let n = g.C.ConstraintId.number in
     let ms = c.args.members.now in
     let w = c.args.wanted in
     let lt = ltb-true _ _ (sym c.in_ok-member.ensures.lookup.0) in

@@ -10,4 +10,4 @@ remove_from-requires-clause-below g c =
     let lt : 0 < length es = grind (arith, common_steps) in
     let is : e ≡ get_or es 0 e = grind (arith, common_steps) in
     let before = rw (c.number.ensures, c.deref.ensures.value) at c.place_from-start.ensures.before in
-    below_first g.C.Id.number es e c.args.list.now.items c.place_from-start.result lt is c.requires.in_order before
+    below_first g.C.ConstraintId.number es e c.args.list.now.items c.place_from-start.result lt is c.requires.in_order before

@@ -10,10 +10,10 @@ use Rattle.packed_sets.proofs.packing.drop_list.Goals as goal
 use Rattle.packed_sets.proofs.packing.drop_list.Goals.{After-as_slice}
 
 -- the list that has come into the set
-moved : (g : Given.Over) (c : After-as_slice g) → HasMoved (numbers_of g.I.Id.number (map (λ v. v.items) c.args.lists.now.items)) (numbers_of g.I.Id.number (map (λ v. v.items) c.swap_list.new.lists.items)) (map g.I.Id.number c.as_slice.result.now) c.args.set
+moved : (g : Given.Over) (c : After-as_slice g) → HasMoved (numbers_of g.I.ItemId.number (map (λ v. v.items) c.args.lists.now.items)) (numbers_of g.I.ItemId.number (map (λ v. v.items) c.swap_list.new.lists.items)) (map g.I.ItemId.number c.as_slice.result.now) c.args.set
 moved g c =
     let many : length (map (λ v. v.items) c.args.lists.now.items) ≡ length c.args.lists.now.items = seen_count c.args.lists.now.items in
-    moved_in g.I.Id.number c.args.lists.now.items c.swap_list.new.lists.items c.args.set c.in-Some.list.now c.as_slice.result.now (omega (arith, many, c.requires.set)) c.swap_list.ensures.lists
+    moved_in g.I.ItemId.number c.args.lists.now.items c.swap_list.new.lists.items c.args.set c.in-Some.list.now c.as_slice.result.now (omega (arith, many, c.requires.set)) c.swap_list.ensures.lists
     (rw c.deref.ensures.value at (ltb-true _ _ (sym c.in-Some.ensures.lookup.0))) (rw c.deref.ensures.value at c.in-Some.ensures.lookup.1) c.as_slice.ensures.value
 
 pub note_all-requires-clause-noted : goal.note_all-requires-clause-noted
@@ -25,22 +25,22 @@ note_all-requires-clause-once g c = λ p q id h k. moved_once _ _ c.args.spots.n
 pub note_all-requires-clause-short : goal.note_all-requires-clause-short
 note_all-requires-clause-short g c =
     let few = moved_few _ _ c.args.spots.now.items _ c.args.set c.requires.kept (moved g c) in
-    let all : length (map g.I.Id.number c.as_slice.result.now) ≡ length c.as_slice.result.now = length-map c.as_slice.result.now g.I.Id.number in
+    let all : length (map g.I.ItemId.number c.as_slice.result.now) ≡ length c.as_slice.result.now = length-map c.as_slice.result.now g.I.ItemId.number in
     omega (arith, few, all)
 
 pub returns-in-Some-clause-kept : goal.returns-in-Some-clause-kept
 returns-in-Some-clause-kept g c =
     let old : List (List g.row.I.Denot) = map (λ v. v.items) c.args.lists.now.items in
     let many : length old ≡ length c.args.lists.now.items = seen_count c.args.lists.now.items in
-    let empty : list_at (numbers_of g.I.Id.number old) c.args.set ≡ [] = numbers_at g.I.Id.number old c.args.set ∙ ap (λ (l : List g.row.I.Denot). map g.I.Id.number l) c.requires.empty in
-    moved_kept _ _ c.args.spots.now.items _ _ c.args.set c.requires.kept empty (moved g ((goal.at.returns-in-Some-clause-kept g c).After-as_slice)) (omega (arith, numbers_count g.I.Id.number old, many, c.requires.set)) c.note_all.ensures
+    let empty : list_at (numbers_of g.I.ItemId.number old) c.args.set ≡ [] = numbers_at g.I.ItemId.number old c.args.set ∙ ap (λ (l : List g.row.I.Denot). map g.I.ItemId.number l) c.requires.empty in
+    moved_kept _ _ c.args.spots.now.items _ _ c.args.set c.requires.kept empty (moved g ((goal.at.returns-in-Some-clause-kept g c).After-as_slice)) (omega (arith, numbers_count g.I.ItemId.number old, many, c.requires.set)) c.note_all.ensures
 
 pub returns-in-Some-clause-noted : goal.returns-in-Some-clause-noted
 returns-in-Some-clause-noted g c = c.note_all.ensures.long
 
 pub returns-in_default-clause-kept : goal.returns-in_default-clause-kept
 returns-in_default-clause-kept g c =
-    let n = g.I.Id.number in
+    let n = g.I.ItemId.number in
     let old : List (List g.row.I.Denot) = map (λ v. v.items) c.args.lists.now.items in
     let new : List (List g.row.I.Denot) = map (λ v. v.items) c.swap_list.new.lists.items in
     let spots = c.args.spots.now.items in

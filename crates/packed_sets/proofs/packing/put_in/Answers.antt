@@ -11,17 +11,17 @@ use Rattle.packed_sets.proofs.packing.put_in.Goals as goal
 
 pub overflow_cast-place : goal.overflow_cast-place
 overflow_cast-place g c =
-    let n = g.I.Id.number in
+    let n = g.I.ItemId.number in
     let lists : List (List g.row.I.Denot) = map (λ v. v.items) c.args.lists.now.items in
     let small : n c.args.id < 2 ^ 32 = subst (λ (k : ℕ). k < 2 ^ 32) c.number-number.ensures (omega arith) in
-    let fits : length (list_at (numbers_of n lists) c.args.set) < 2 ^ 32 = place_fits (numbers_of n lists) c.args.spots.now.items c.args.set (n c.args.id) c.requires.kept (number_absent n g.met.I.Id.known lists c.args.id c.requires.absent) small in
+    let fits : length (list_at (numbers_of n lists) c.args.set) < 2 ^ 32 = place_fits (numbers_of n lists) c.args.spots.now.items c.args.set (n c.args.id) c.requires.kept (number_absent n g.met.I.ItemId.known lists c.args.id c.requires.absent) small in
     let long : length (list_at (numbers_of n lists) c.args.set) ≡ length (list_at lists c.args.set) = numbers_long n lists c.args.set in
     let seen : length (list_at lists c.args.set) ≡ length c.index.result.now.items = ap (λ (l : List g.row.I.Denot). length l) (list_seen c.args.lists.now.items c.args.set c.index.result.now c.requires.set c.index.ensures) in
     Fits-of_lt (omega (arith, fits, long, seen, c.len-place.ensures))
 
 pub returns-clause-kept : goal.returns-clause-kept
 returns-clause-kept g c =
-    let n = g.I.Id.number in
+    let n = g.I.ItemId.number in
     let lists : List (List g.row.I.Denot) = map (λ v. v.items) c.args.lists.now.items in
     let numbers : List (List ℕ) = numbers_of n lists in
     let small : n c.args.id < 2 ^ 32 = subst (λ (k : ℕ). k < 2 ^ 32) c.number-number.ensures (omega arith) in
@@ -33,7 +33,7 @@ returns-clause-kept g c =
     let long : length (list_at numbers c.args.set) ≡ length (list_at lists c.args.set) = numbers_long n lists c.args.set in
     let seen : length (list_at lists c.args.set) ≡ length c.index.result.now.items = ap (λ (l : List g.row.I.Denot). length l) (list_seen c.args.lists.now.items c.args.set c.index.result.now c.requires.set c.index.ensures) in
     let place : c.len-place.result ≡ length (list_at numbers c.args.set) = omega (arith, c.len-place.ensures, long, seen) in
-    come_kept numbers _ c.args.spots.now.items _ c.args.set (n c.args.id) c.requires.kept within c.requires.noted small (number_absent n g.met.I.Id.known lists c.args.id c.requires.absent) now
+    come_kept numbers _ c.args.spots.now.items _ c.args.set (n c.args.id) c.requires.kept within c.requires.noted small (number_absent n g.met.I.ItemId.known lists c.args.id c.requires.absent) now
     (note_is c.args.spots.now.items c.number-number.result (n c.args.id) c.args.set c.len-place.result (length (list_at numbers c.args.set)) c.number-number.ensures place)
 
 pub returns-clause-put : goal.returns-clause-put

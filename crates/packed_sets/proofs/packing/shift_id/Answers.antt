@@ -15,24 +15,24 @@ put_in-requires-clause-set g c = omega (arith, c.requires.set, c.take_id.ensures
 
 pub put_in-requires-clause-space : goal.put_in-requires-clause-space
 put_in-requires-clause-space g c =
-    let n = g.I.Id.number in
+    let n = g.I.ItemId.number in
     let lists : List (List g.row.I.Denot) = map (λ v. v.items) c.args.lists.now.items in
     let spots = c.args.spots.now.items in
     let found = rw (c.deref.ensures.value, c.number.ensures) at (sym (ap is_some c.spot_of.ensures) ∙ sym c.is_some.ensures ∙ c.if-is_some.true) in
     let at : (spot : Spot) × (spot_of spots (n c.args.id) ≡ Some spot) = some_of (spot_of spots (n c.args.id)) found in
-    let here : Contains (list_at lists at.0.set) c.args.id = id_in n g.met.I.Id.known lists at.0.set c.args.id (stands_in (numbers_of n lists) spots (n c.args.id) at.0 c.requires.kept at.1) in
+    let here : Contains (list_at lists at.0.set) c.args.id = id_in n g.met.I.ItemId.known lists at.0.set c.args.id (stands_in (numbers_of n lists) spots (n c.args.id) at.0 c.requires.kept at.1) in
     let fewer = taken_fewer lists _ at.0.set c.args.id (c.take_id.ensures.taken at.0.set here) c.args.set in
     let room = c.take_id.ensures.capacities c.args.set in
     omega (arith, c.requires.space, fewer, room)
 
 pub put_in-requires-clause-noted : goal.put_in-requires-clause-noted
 put_in-requires-clause-noted g c =
-    let n = g.I.Id.number in
+    let n = g.I.ItemId.number in
     let lists : List (List g.row.I.Denot) = map (λ v. v.items) c.args.lists.now.items in
     let spots = c.args.spots.now.items in
     let found = rw (c.deref.ensures.value, c.number.ensures) at (sym (ap is_some c.spot_of.ensures) ∙ sym c.is_some.ensures ∙ c.if-is_some.true) in
     let at : (spot : Spot) × (spot_of spots (n c.args.id) ≡ Some spot) = some_of (spot_of spots (n c.args.id)) found in
-    let here : Contains (list_at lists at.0.set) c.args.id = id_in n g.met.I.Id.known lists at.0.set c.args.id (stands_in (numbers_of n lists) spots (n c.args.id) at.0 c.requires.kept at.1) in
+    let here : Contains (list_at lists at.0.set) c.args.id = id_in n g.met.I.ItemId.known lists at.0.set c.args.id (stands_in (numbers_of n lists) spots (n c.args.id) at.0 c.requires.kept at.1) in
     let below : n c.args.id < length spots = below_notes (numbers_of n lists) spots at.0.set (n c.args.id) c.requires.kept (number_in n lists at.0.set c.args.id here) in
     omega (arith, below, c.take_id.ensures.noted)
 
@@ -41,12 +41,12 @@ returns-then-is_some-clause-shifted g c = λ from h. record { between = map (λ 
 
 pub returns-then-is_some-clause-absent : goal.returns-then-is_some-clause-absent
 returns-then-is_some-clause-absent g c = λ absent.
-    let n = g.I.Id.number in
+    let n = g.I.ItemId.number in
     let lists : List (List g.row.I.Denot) = map (λ v. v.items) c.args.lists.now.items in
     let spots = c.args.spots.now.items in
     let found = rw (c.deref.ensures.value, c.number.ensures) at (sym (ap is_some c.spot_of.ensures) ∙ sym c.is_some.ensures ∙ c.if-is_some.true) in
     let at : (spot : Spot) × (spot_of spots (n c.args.id) ≡ Some spot) = some_of (spot_of spots (n c.args.id)) found in
-    let here : Contains (list_at lists at.0.set) c.args.id = id_in n g.met.I.Id.known lists at.0.set c.args.id (stands_in (numbers_of n lists) spots (n c.args.id) at.0 c.requires.kept at.1) in
+    let here : Contains (list_at lists at.0.set) c.args.id = id_in n g.met.I.ItemId.known lists at.0.set c.args.id (stands_in (numbers_of n lists) spots (n c.args.id) at.0 c.requires.kept at.1) in
     absurd (absent at.0.set here)
 
 pub returns-then-is_some-clause-long : goal.returns-then-is_some-clause-long
@@ -60,7 +60,7 @@ returns-then-is_some-clause-capacities g c = rooms_through _ _ _ c.take_id.ensur
 
 pub returns-else-is_some-clause-shifted : goal.returns-else-is_some-clause-shifted
 returns-else-is_some-clause-shifted g c = λ from h.
-    let n = g.I.Id.number in
+    let n = g.I.ItemId.number in
     let lists : List (List g.row.I.Denot) = map (λ v. v.items) c.args.lists.now.items in
     let spots = c.args.spots.now.items in
     let missed = rw (c.deref.ensures.value, c.number.ensures) at (sym (ap is_some c.spot_of.ensures) ∙ sym c.is_some.ensures ∙ c.if-is_some.false) in

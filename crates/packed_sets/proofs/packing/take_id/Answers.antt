@@ -11,7 +11,7 @@ use Rattle.packed_sets.proofs.packing.take_id.Goals as goal
 
 pub take_out-requires-clause-set : goal.take_out-requires-clause-set
 take_out-requires-clause-set g c =
-    let n = g.I.Id.number in
+    let n = g.I.ItemId.number in
     let spot = c.in-Some.spot in
     let at : spot_of c.args.spots.now.items c.number-number.result ≡ Some spot = search rules in
     let noted : spot_of c.args.spots.now.items (n c.args.id) ≡ Some spot = ap (λ (k : ℕ). spot_of c.args.spots.now.items k) (sym c.number-number.ensures) ∙ at in
@@ -23,7 +23,7 @@ take_out-requires-clause-set g c =
 
 pub take_out-requires-clause-place : goal.take_out-requires-clause-place
 take_out-requires-clause-place g c =
-    let n = g.I.Id.number in
+    let n = g.I.ItemId.number in
     let spot = c.in-Some.spot in
     let at : spot_of c.args.spots.now.items c.number-number.result ≡ Some spot = search rules in
     let noted : spot_of c.args.spots.now.items (n c.args.id) ≡ Some spot = ap (λ (k : ℕ). spot_of c.args.spots.now.items k) (sym c.number-number.ensures) ∙ at in
@@ -34,7 +34,7 @@ take_out-requires-clause-place g c =
 
 pub returns-in-Some-clause-kept : goal.returns-in-Some-clause-kept
 returns-in-Some-clause-kept g c =
-    let n = g.I.Id.number in
+    let n = g.I.ItemId.number in
     let spot = c.in-Some.spot in
     let at : spot_of c.args.spots.now.items c.number-number.result ≡ Some spot = search rules in
     let noted : spot_of c.args.spots.now.items (n c.args.id) ≡ Some spot = ap (λ (k : ℕ). spot_of c.args.spots.now.items k) (sym c.number-number.ensures) ∙ at in
@@ -47,25 +47,25 @@ returns-in-Some-clause-kept g c =
 
 pub returns-in-Some-clause-taken : goal.returns-in-Some-clause-taken
 returns-in-Some-clause-taken g c = λ set h.
-    let n = g.I.Id.number in
+    let n = g.I.ItemId.number in
     let spot = c.in-Some.spot in
     let at : spot_of c.args.spots.now.items c.number-number.result ≡ Some spot = search rules in
     let noted : spot_of c.args.spots.now.items (n c.args.id) ≡ Some spot = ap (λ (k : ℕ). spot_of c.args.spots.now.items k) (sym c.number-number.ensures) ∙ at in
     let lists : List (List g.row.I.Denot) = map (λ v. v.items) c.args.lists.now.items in
-    out_taken n g.met.I.Id.known lists _ c.args.spots.now.items set c.args.id c.take_out.result spot c.requires noted c.take_out.ensures.out h
+    out_taken n g.met.I.ItemId.known lists _ c.args.spots.now.items set c.args.id c.take_out.result spot c.requires noted c.take_out.ensures.out h
 
 pub returns-in-Some-clause-absent : goal.returns-in-Some-clause-absent
 returns-in-Some-clause-absent g c = λ absent.
-    let n = g.I.Id.number in
+    let n = g.I.ItemId.number in
     let spot = c.in-Some.spot in
     let at : spot_of c.args.spots.now.items c.number-number.result ≡ Some spot = search rules in
     let noted : spot_of c.args.spots.now.items (n c.args.id) ≡ Some spot = ap (λ (k : ℕ). spot_of c.args.spots.now.items k) (sym c.number-number.ensures) ∙ at in
     let lists : List (List g.row.I.Denot) = map (λ v. v.items) c.args.lists.now.items in
-    absurd (absent spot.set (id_in n g.met.I.Id.known lists spot.set c.args.id (stands_in (numbers_of n lists) c.args.spots.now.items (n c.args.id) spot c.requires noted)))
+    absurd (absent spot.set (id_in n g.met.I.ItemId.known lists spot.set c.args.id (stands_in (numbers_of n lists) c.args.spots.now.items (n c.args.id) spot c.requires noted)))
 
 pub returns-in-Some-clause-gone : goal.returns-in-Some-clause-gone
 returns-in-Some-clause-gone g c =
-    let n = g.I.Id.number in
+    let n = g.I.ItemId.number in
     let new : List (List g.row.I.Denot) = map (λ v. v.items) c.take_out.new.lists.items in
     let between = c.take_out.new.spots.items in
     let none : spot_of (slice_set between c.number-number.result None) (n c.args.id) ≡ None = ap (λ (k : ℕ). spot_of (slice_set between k None) (n c.args.id)) c.number-number.ensures ∙ none_set between (n c.args.id) in
@@ -76,7 +76,7 @@ returns-in-Some-clause-long g c = c.take_out.ensures.out.long
 
 pub returns-in_default-clause-gone : goal.returns-in_default-clause-gone
 returns-in_default-clause-gone g c =
-    let n = g.I.Id.number in
+    let n = g.I.ItemId.number in
     let lists : List (List g.row.I.Denot) = map (λ v. v.items) c.args.lists.now.items in
     let at : spot_of c.args.spots.now.items c.number-number.result ≡ None = rw c.deref.ensures.value at (sym c.spot_of.ensures ∙ c.in_default.is) in
     let free : spot_of c.args.spots.now.items (n c.args.id) ≡ None = ap (λ (k : ℕ). spot_of c.args.spots.now.items k) (sym c.number-number.ensures) ∙ at in

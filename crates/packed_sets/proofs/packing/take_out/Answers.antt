@@ -15,7 +15,7 @@ returns-clause-out g c = seen_out c.args.lists.now.items c.args.spot c.swap_out-
 
 pub note_moved-requires : goal.note_moved-requires
 note_moved-requires g c = λ id h.
-    let n = g.I.Id.number in
+    let n = g.I.ItemId.number in
     let spot = c.args.spot in
     let mid : List (Vec g.row.I.Denot Global) = slice_set c.args.lists.now.items spot.set c.swap_out-id.new.list in
     let old : List (List g.row.I.Denot) = map (λ v. v.items) c.args.lists.now.items in
@@ -30,7 +30,7 @@ note_moved-requires g c = λ id h.
 
 pub returns-clause-spots : goal.returns-clause-spots
 returns-clause-spots g c =
-    let n = g.I.Id.number in
+    let n = g.I.ItemId.number in
     let spot = c.args.spot in
     let mid : List (Vec g.row.I.Denot Global) = slice_set c.args.lists.now.items spot.set c.swap_out-id.new.list in
     let new : List (List g.row.I.Denot) = map (λ v. v.items) mid in

@@ -8,7 +8,7 @@ use Rattle.sleep_wake.proofs.gathering.list_by_set.Goals as goal
 pub list_asleep-requires-clause-rising : goal.list_asleep-requires-clause-rising
 list_asleep-requires-clause-rising g c =
     let own = c.requires.source.each c.args.name c.requires.asleep in
-    rw own (rising_filter g.C.Id.number (has_mover_of c.args.islands.now.labels c.args.name) c.args.ties.now.items c.requires.rising)
+    rw own (rising_filter g.C.ConstraintId.number (has_mover_of c.args.islands.now.labels c.args.name) c.args.ties.now.items c.requires.rising)
 
 pub list_asleep-requires-clause-room : goal.list_asleep-requires-clause-room
 list_asleep-requires-clause-room g c =

@@ -19,4 +19,4 @@ returns-clause-items g c =
     let ties = g.T.TieSource.ties c.args.source.now in
     let firsts : List (Member g.row.C.Denot) = filter (is_first_of c.args.members.now) ties in
     let pushed : IsPermutation firsts c.push_each.new.list.items = subst (λ (l : List (Member g.row.C.Denot)). IsPermutation (l ++ firsts) c.push_each.new.list.items) c.clear.ensures.items c.push_each.ensures.pushed in
-    c.put_in_order.ensures.items firsts (rising_filter g.C.Id.number (is_first_of c.args.members.now) ties c.requires.rising) pushed
+    c.put_in_order.ensures.items firsts (rising_filter g.C.ConstraintId.number (is_first_of c.args.members.now) ties c.requires.rising) pushed

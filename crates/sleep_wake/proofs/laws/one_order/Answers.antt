@@ -2,4 +2,4 @@ use Rattle.sleep_wake.proofs.ChangeLemmas.{one_order}
 use Rattle.sleep_wake.proofs.laws.one_order.Goals as goal
 
 pub returns : goal.returns
-returns g c = one_order g.C.Id.number
+returns g c = one_order g.C.ConstraintId.number

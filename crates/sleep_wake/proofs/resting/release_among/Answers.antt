@@ -10,7 +10,7 @@ use Rattle.sleep_wake.proofs.resting.release_among.Goals.{then-are_resting, else
 
 pub loop-place-preserved : goal.loop-place-preserved
 loop-place-preserved g c =
-    let n = g.C.Id.number in
+    let n = g.C.ConstraintId.number in
     let wanted : Member g.row.C.Denot → Bool = is_to_rest (least_at c.args.leasts.now) c.args.islands.now.labels in
     let m = c.index-ties-place.result in
     let rest = drop (c.loop-place.place + 1) c.args.ties.now in

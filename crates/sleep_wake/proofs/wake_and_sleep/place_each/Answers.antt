@@ -11,7 +11,7 @@ place-requires-clause-below g c =
     let rest = drop (c.loop-place.place + 1) c.args.list.now in
     let lt : c.loop-place.place < length c.args.list.now = omega (arith, c.loop-place-test.true, c.loop-place.auto.place-end) in
     let front : drop c.loop-place.place c.args.list.now ≡ m ∷ rest = front_is c.args.list.now c.loop-place.place m lt c.index-list-place.is in
-    let can : CanPlace g.C.Id.number (m ∷ rest) c.loop-place.colours.lists c.loop-place.colours.room c.loop-place.colours.slots = rw front at c.loop-place.invariant.can in
+    let can : CanPlace g.C.ConstraintId.number (m ∷ rest) c.loop-place.colours.lists c.loop-place.colours.room c.loop-place.colours.slots = rw front at c.loop-place.invariant.can in
     can.below m (contains_head m rest)
 
 pub place-requires-clause-room : goal.place-requires-clause-room
@@ -20,8 +20,8 @@ place-requires-clause-room g c =
     let rest = drop (c.loop-place.place + 1) c.args.list.now in
     let lt : c.loop-place.place < length c.args.list.now = omega (arith, c.loop-place-test.true, c.loop-place.auto.place-end) in
     let front : drop c.loop-place.place c.args.list.now ≡ m ∷ rest = front_is c.args.list.now c.loop-place.place m lt c.index-list-place.is in
-    let can : CanPlace g.C.Id.number (m ∷ rest) c.loop-place.colours.lists c.loop-place.colours.room c.loop-place.colours.slots = rw front at c.loop-place.invariant.can in
-    room_for_one g.C.Id.number m rest c.loop-place.colours.lists c.loop-place.colours.room c.loop-place.colours.slots can
+    let can : CanPlace g.C.ConstraintId.number (m ∷ rest) c.loop-place.colours.lists c.loop-place.colours.room c.loop-place.colours.slots = rw front at c.loop-place.invariant.can in
+    room_for_one g.C.ConstraintId.number m rest c.loop-place.colours.lists c.loop-place.colours.room c.loop-place.colours.slots can
 
 pub loop-place-preserved : goal.loop-place-preserved
 loop-place-preserved g c =
@@ -29,10 +29,10 @@ loop-place-preserved g c =
     let rest = drop (c.loop-place.place + 1) c.args.list.now in
     let lt : c.loop-place.place < length c.args.list.now = omega (arith, c.loop-place-test.true, c.loop-place.auto.place-end) in
     let front : drop c.loop-place.place c.args.list.now ≡ m ∷ rest = front_is c.args.list.now c.loop-place.place m lt c.index-list-place.is in
-    let can : CanPlace g.C.Id.number (m ∷ rest) c.loop-place.colours.lists c.loop-place.colours.room c.loop-place.colours.slots = rw front at c.loop-place.invariant.can in
-    let left : placed_all g.C.Id.number c.loop-place.colours.lists (m ∷ rest) ≡ placed_all g.C.Id.number c.args.colours.now.lists c.args.list.now = rw front at c.loop-place.invariant.rest in
+    let can : CanPlace g.C.ConstraintId.number (m ∷ rest) c.loop-place.colours.lists c.loop-place.colours.room c.loop-place.colours.slots = rw front at c.loop-place.invariant.can in
+    let left : placed_all g.C.ConstraintId.number c.loop-place.colours.lists (m ∷ rest) ≡ placed_all g.C.ConstraintId.number c.args.colours.now.lists c.args.list.now = rw front at c.loop-place.invariant.rest in
     record {
-      can = rw c.place.ensures.lists (placed_one g.C.Id.number m rest c.loop-place.colours.lists c.loop-place.colours.room c.place.new.self.room c.place.new.self.slots (rw c.place.ensures.slots can) c.place.ensures.room);
+      can = rw c.place.ensures.lists (placed_one g.C.ConstraintId.number m rest c.loop-place.colours.lists c.loop-place.colours.room c.place.new.self.room c.place.new.self.slots (rw c.place.ensures.slots can) c.place.ensures.room);
       rest = rw c.place.ensures.lists left;
       slots = c.place.ensures.slots ∙ c.loop-place.invariant.slots;
       room = c.place.ensures.total ∙ c.loop-place.invariant.room;

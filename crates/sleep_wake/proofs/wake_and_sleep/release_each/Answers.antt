@@ -10,9 +10,9 @@ loop-place-preserved g c =
     let rest = drop (c.loop-place.place + 1) c.args.list.now in
     let lt : c.loop-place.place < length c.args.list.now = omega (arith, c.loop-place-test.true, c.loop-place.auto.place-end) in
     let front : drop c.loop-place.place c.args.list.now ≡ m ∷ rest = front_is c.args.list.now c.loop-place.place m lt c.index-list-place.is in
-    let left : released_all g.C.Id.number c.loop-place.colours.lists (m ∷ rest) ≡ released_all g.C.Id.number c.args.colours.now.lists c.args.list.now = rw front at c.loop-place.invariant.rest in
+    let left : released_all g.C.ConstraintId.number c.loop-place.colours.lists (m ∷ rest) ≡ released_all g.C.ConstraintId.number c.args.colours.now.lists c.args.list.now = rw front at c.loop-place.invariant.rest in
     record {
-      own = rw c.release_member.ensures.lists (own_released g.C.Id.number m.id c.args.list.now c.loop-place.colours.lists c.loop-place.invariant.own);
+      own = rw c.release_member.ensures.lists (own_released g.C.ConstraintId.number m.id c.args.list.now c.loop-place.colours.lists c.loop-place.invariant.own);
       rest = rw c.release_member.ensures.lists left;
       slots = c.release_member.ensures.slots ∙ c.loop-place.invariant.slots;
       room = c.release_member.ensures.total ∙ c.loop-place.invariant.room;

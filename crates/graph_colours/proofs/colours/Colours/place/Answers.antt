@@ -26,19 +26,19 @@ returns-clause-keeps g c = (invariant_of-self g c).graph.colouring
 pub returns-clause-own : goal.returns-clause-own
 returns-clause-own g c =
     let m : Member g.row.C.Denot = record { id = c.args.id; movers = c.args.movers } in
-    let keeps : IsColouring g.C.Id.number c.args.self.now.lists = rw (← c.self.view_is) c.self.invariant.graph.colouring in
-    rw (returns-clause-lists g c, returns-clause-colour g c) (placed_own g.C.Id.number m c.args.self.now.lists keeps c.requires.absent)
+    let keeps : IsColouring g.C.ConstraintId.number c.args.self.now.lists = rw (← c.self.view_is) c.self.invariant.graph.colouring in
+    rw (returns-clause-lists g c, returns-clause-colour g c) (placed_own g.C.ConstraintId.number m c.args.self.now.lists keeps c.requires.absent)
 
 pub returns-clause-others : goal.returns-clause-others
 returns-clause-others g c = λ other far.
     let m : Member g.row.C.Denot = record { id = c.args.id; movers = c.args.movers } in
-    rw (returns-clause-lists g c) (placed_others g.C.Id.number m c.args.self.now.lists other far)
+    rw (returns-clause-lists g c) (placed_others g.C.ConstraintId.number m c.args.self.now.lists other far)
 
 pub returns-clause-members : goal.returns-clause-members
 returns-clause-members g c =
     let m : Member g.row.C.Denot = record { id = c.args.id; movers = c.args.movers } in
-    let keeps : IsColouring g.C.Id.number c.args.self.now.lists = rw (← c.self.view_is) c.self.invariant.graph.colouring in
-    rw (returns-clause-lists g c) (placed_members g.C.Id.number m c.args.self.now.lists keeps)
+    let keeps : IsColouring g.C.ConstraintId.number c.args.self.now.lists = rw (← c.self.view_is) c.self.invariant.graph.colouring in
+    rw (returns-clause-lists g c) (placed_members g.C.ConstraintId.number m c.args.self.now.lists keeps)
 
 pub returns-clause-room : goal.returns-clause-room
 returns-clause-room g c = let one = rw (← c.self.view_is) at c.requires.room in rw (← c.self.view_is) (omega (arith, one))
@@ -48,6 +48,6 @@ returns-clause-total g c =
     let a = c.self.inside in
     let m : Member g.row.C.Denot = record { id = c.args.id; movers = c.args.movers } in
     let is = c.place_in-colour.ensures.lists in
-    let more : length (all_members (with_placed g.C.Id.number m (lists_of a.lists.items))) ≡ length (all_members (lists_of a.lists.items)) + 1 = placed_size g.C.Id.number m (lists_of a.lists.items) c.self.invariant.graph.colouring in
+    let more : length (all_members (with_placed g.C.ConstraintId.number m (lists_of a.lists.items))) ≡ length (all_members (lists_of a.lists.items)) + 1 = placed_size g.C.ConstraintId.number m (lists_of a.lists.items) c.self.invariant.graph.colouring in
     let one = rw (← c.self.view_is) at c.requires.room in
     rw (← c.self.view_is, is) (omega (arith, more, one))

@@ -10,7 +10,7 @@ invariant_of-self-2 g c =
     let kept = c.reserve_all.ensures.kept a.size.total was.rooms in
     let both = rooms_both a.size.total c.in-Some.total cs kept c.in_ok-reserve_all.ensures.made in
     rw (c.max-self-inside.ensures, c.max-self-inside-2.ensures) (record {
-      graph = graph_same g.C.Id.number a.lists.items cs a.words.items c.grow.new.words.items a.size (record { count = a.size.count; total = max a.size.total c.in-Some.total; slots = max a.size.slots c.args.slots }) was c.reserve_all.ensures.lists c.grow.ensures.same refl (omega (arith, was.few)) both
+      graph = graph_same g.C.ConstraintId.number a.lists.items cs a.words.items c.grow.new.words.items a.size (record { count = a.size.count; total = max a.size.total c.in-Some.total; slots = max a.size.slots c.args.slots }) was c.reserve_all.ensures.lists c.grow.ensures.same refl (omega (arith, was.few)) both
           (omega (arith, was.slots, c.grow.ensures.more, c.in_ok-grow.ensures.made));
       rest = λ q. c.reserve_all.ensures.rest (c.self.invariant.rest q);
     })
@@ -20,7 +20,7 @@ invariant_of-self-in_err-reserve_all g c =
     let a = c.self.inside in
     let was = c.self.invariant.graph in
     record {
-      graph = graph_same g.C.Id.number a.lists.items c.reserve_all.new.lists.items a.words.items a.words.items a.size a.size was c.reserve_all.ensures.lists (λ slot. refl) refl was.few (c.reserve_all.ensures.kept a.size.total was.rooms) was.slots;
+      graph = graph_same g.C.ConstraintId.number a.lists.items c.reserve_all.new.lists.items a.words.items a.words.items a.size a.size was c.reserve_all.ensures.lists (λ slot. refl) refl was.few (c.reserve_all.ensures.kept a.size.total was.rooms) was.slots;
       rest = λ q. c.reserve_all.ensures.rest (c.self.invariant.rest q);
     }
 
@@ -29,6 +29,6 @@ invariant_of-self-in_err-grow g c =
     let a = c.self.inside in
     let was = c.self.invariant.graph in
     record {
-      graph = graph_same g.C.Id.number a.lists.items c.reserve_all.new.lists.items a.words.items c.grow.new.words.items a.size a.size was c.reserve_all.ensures.lists c.grow.ensures.same refl was.few (c.reserve_all.ensures.kept a.size.total was.rooms) (omega (arith, was.slots, c.grow.ensures.more));
+      graph = graph_same g.C.ConstraintId.number a.lists.items c.reserve_all.new.lists.items a.words.items c.grow.new.words.items a.size a.size was c.reserve_all.ensures.lists c.grow.ensures.same refl was.few (c.reserve_all.ensures.kept a.size.total was.rooms) (omega (arith, was.slots, c.grow.ensures.more));
       rest = λ q. c.reserve_all.ensures.rest (c.self.invariant.rest q);
     }

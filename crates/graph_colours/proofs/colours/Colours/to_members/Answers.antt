@@ -5,5 +5,5 @@ use Rattle.graph_colours.proofs.colours.Colours.to_members.Goals as goal
 
 pub index-requires : goal.index-requires
 index-requires g c =
-    let n : length c.self.inside.lists.items ≡ COLOURS + 1 = lists_count g.C.Id.number c.self.inside.lists.items c.self.invariant.graph.colouring in
+    let n : length c.self.inside.lists.items ≡ COLOURS + 1 = lists_count g.C.ConstraintId.number c.self.inside.lists.items c.self.invariant.graph.colouring in
     omega (arith, n, c.requires, c.self.inside.lists.ok.0)

@@ -16,7 +16,7 @@ from_members-requires g c =
     let long : length (members_of lists) ≡ length lists = length-map lists vec_items in
     let lt : place < length (members_of lists) = omega (arith, long, c.loop-place-test.true, c.loop-place.auto.place-end) in
     let is = vector_at lists place (length (members_of lists)) c.index-lists-place.result c.as_slice.result.now refl lt c.index-lists-place.is c.as_slice.ensures.value in
-    let P : List (Member g.row.C.Denot) → Type 0 = λ ms. AreRising g.C.Id.number ms in
+    let P : List (Member g.row.C.Denot) → Type 0 = λ ms. AreRising g.C.ConstraintId.number ms in
     subst P (sym is) (c.requires place [] lt)
 
 pub loop-place-preserved : goal.loop-place-preserved

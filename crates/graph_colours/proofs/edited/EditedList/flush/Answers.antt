@@ -8,7 +8,7 @@ use Rattle.graph_colours.proofs.edited.EditedList.flush.Goals as goal
 
 pub invariant_of-self : goal.invariant_of-self
 invariant_of-self g c =
-    let n = g.C.Id.number in
+    let n = g.C.ConstraintId.number in
     let a = c.self.inside in
     let made = rw c.deref.ensures.value at c.make_all.ensures.items in
     let now = c.make_all.new.list in

@@ -6,7 +6,7 @@ use Rattle.graph_colours.proofs.edited.EditedList.insert.Goals as goal
 
 pub invariant_of-self : goal.invariant_of-self
 invariant_of-self g c =
-    let n = g.C.Id.number in
+    let n = g.C.ConstraintId.number in
     let a = c.self.inside in
     let old : List (Member g.row.C.Denot) = all_edited n a.edits.items a.list.items in
     let absent = rw (← c.self.view_is) at c.requires.absent in
@@ -16,7 +16,7 @@ invariant_of-self g c =
 
 pub returns-clause-items : goal.returns-clause-items
 returns-clause-items g c =
-    let n = g.C.Id.number in
+    let n = g.C.ConstraintId.number in
     let a = c.self.inside in
     let old : List (Member g.row.C.Denot) = all_edited n a.edits.items a.list.items in
     let absent = rw (← c.self.view_is) at c.requires.absent in

@@ -10,21 +10,21 @@ use Rattle.graph_colours.proofs.edited.EditedList.remove.Goals as goal
 
 pub returns-in_err-movers-clause-value : goal.returns-in_err-movers-clause-value
 returns-in_err-movers-clause-value g c =
-    let n = g.C.Id.number in
+    let n = g.C.ConstraintId.number in
     let items = c.args.self.now.items in
     let found : None ≡ with_number n (n c.args.id) items = rw c.number.ensures at c.in_err-movers.ensures in
     c.from_residual.ensures ∙ sym (movers_with n c.args.id items ∙ ap (λ (o : Option (Member g.row.C.Denot)). option_map (λ m. m.movers) o) (sym found))
 
 pub returns-in_err-movers-clause-items : goal.returns-in_err-movers-clause-items
 returns-in_err-movers-clause-items g c =
-    let n = g.C.Id.number in
+    let n = g.C.ConstraintId.number in
     let items = c.args.self.now.items in
     let found : None ≡ with_number n (n c.args.id) items = rw c.number.ensures at c.in_err-movers.ensures in
     sym (without_same n c.args.id items (sym (has_with n c.args.id items) ∙ ap (λ (o : Option (Member g.row.C.Denot)). is_some o) (sym found)))
 
 pub invariant_of-self : goal.invariant_of-self
 invariant_of-self g c =
-    let n = g.C.Id.number in
+    let n = g.C.ConstraintId.number in
     let a = c.self.inside in
     let old : List (Member g.row.C.Denot) = all_edited n a.edits.items a.list.items in
     let found : Some c.in_ok-movers.field-0 ≡ with_number n (n c.args.id) old = rw (← c.self.view_is) at (rw c.number.ensures at c.in_ok-movers.ensures) in
@@ -34,7 +34,7 @@ invariant_of-self g c =
 
 pub returns-clause-value : goal.returns-clause-value
 returns-clause-value g c =
-    let n = g.C.Id.number in
+    let n = g.C.ConstraintId.number in
     let items = c.args.self.now.items in
     let found : Some c.in_ok-movers.field-0 ≡ with_number n (n c.args.id) items = rw c.number.ensures at c.in_ok-movers.ensures in
     sym (movers_with n c.args.id items ∙ ap (λ (o : Option (Member g.row.C.Denot)). option_map (λ m. m.movers) o) (sym found))

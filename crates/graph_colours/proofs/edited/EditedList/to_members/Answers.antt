@@ -9,7 +9,7 @@ use Rattle.graph_colours.proofs.edited.EditedList.to_members.Goals as goal
 
 pub returns-clause-rising : goal.returns-clause-rising
 returns-clause-rising g c =
-    let n = g.C.Id.number in
+    let n = g.C.ConstraintId.number in
     let a = c.self.inside in
     let is : c.pass.new.list.items ≡ all_edited n a.edits.items a.list.items = grind (arith, common_steps) in
     let P : List (Member g.row.C.Denot) → Type 0 = λ l. AreRising n l in

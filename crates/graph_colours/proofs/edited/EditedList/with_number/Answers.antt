@@ -5,7 +5,7 @@ use Rattle.graph_colours.proofs.edited.EditedList.with_number.Goals as goal
 
 pub returns-in-None : goal.returns-in-None
 returns-in-None g c =
-    let n = g.C.Id.number in
+    let n = g.C.ConstraintId.number in
     let es = c.self.inside.edits.items in
     let ms = c.self.inside.list.items in
     let none : edit_with n c.args.number es ≡ None = sym (rw c.deref.ensures.value at c.edit_of.ensures) ∙ c.in-None.is in
@@ -14,7 +14,7 @@ returns-in-None g c =
 
 pub returns-in-Some : goal.returns-in-Some
 returns-in-Some g c =
-    let n = g.C.Id.number in
+    let n = g.C.ConstraintId.number in
     let es = c.self.inside.edits.items in
     let ms = c.self.inside.list.items in
     let found : edit_with n c.args.number es ≡ Some c.in-Some.edit = sym (rw c.deref.ensures.value at c.edit_of.ensures) ∙ c.in-Some.is in
@@ -22,7 +22,7 @@ returns-in-Some g c =
 
 pub returns-in-Some-2 : goal.returns-in-Some-2
 returns-in-Some-2 g c =
-    let n = g.C.Id.number in
+    let n = g.C.ConstraintId.number in
     let es = c.self.inside.edits.items in
     let ms = c.self.inside.list.items in
     let found : edit_with n c.args.number es ≡ Some c.in-Some.edit = sym (rw c.deref.ensures.value at c.edit_of.ensures) ∙ c.in-Some.is in

@@ -9,11 +9,11 @@ use Rattle.packed_sets.proofs.NumberLaws.{ids_once, number_in}
 use Rattle.packed_sets.proofs.sets.PackedSets.members.Goals as goal
 
 pub returns-in-Some-clause-once : goal.returns-in-Some-clause-once
-returns-in-Some-clause-once g c = rw (← c.self.view_is) (ids_once g.I.Id.number (map (λ v. v.items) c.self.inside.lists.items) (each_once _ _ c.self.invariant))
+returns-in-Some-clause-once g c = rw (← c.self.view_is) (ids_once g.I.ItemId.number (map (λ v. v.items) c.self.inside.lists.items) (each_once _ _ c.self.invariant))
 
 pub returns-in-Some-clause-below : goal.returns-in-Some-clause-below
 returns-in-Some-clause-below g c = λ id h.
-    let n = g.I.Id.number in
+    let n = g.I.ItemId.number in
     let lists : List (List g.row.I.Denot) = map (λ v. v.items) c.self.inside.lists.items in
     let within : c.args.set < length c.self.inside.lists.items = rw c.deref.ensures.value at (ltb-true _ _ (sym c.in-Some.ensures.lookup.0)) in
     let stands : c.in-Some.list.now ≡ get_or c.self.inside.lists.items c.args.set c.in-Some.list.now = rw c.deref.ensures.value at c.in-Some.ensures.lookup.1 in
@@ -22,4 +22,4 @@ returns-in-Some-clause-below g c = λ id h.
     rw (← c.self.view_is) (below_notes (numbers_of n lists) c.self.inside.spots.items c.args.set (n id) c.self.invariant (number_in n lists c.args.set id inside))
 
 pub returns-in-None-clause-once : goal.returns-in-None-clause-once
-returns-in-None-clause-once g c = rw (← c.self.view_is) (ids_once g.I.Id.number (map (λ v. v.items) c.self.inside.lists.items) (each_once _ _ c.self.invariant))
+returns-in-None-clause-once g c = rw (← c.self.view_is) (ids_once g.I.ItemId.number (map (λ v. v.items) c.self.inside.lists.items) (each_once _ _ c.self.invariant))

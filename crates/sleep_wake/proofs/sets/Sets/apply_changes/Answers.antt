@@ -16,7 +16,7 @@ change-requires-clause-can g c =
     let now : Acting g.row.C.Denot = c.loop-place.self.acting in
     let lt : c.loop-place.place < length c.args.changes.now = omega (arith, c.loop-place-test.true, c.loop-place.auto.place-end) in
     let front : drop c.loop-place.place c.args.changes.now ≡ m ∷ rest = first_is c.args.changes.now c.loop-place.place m lt c.index-changes-place.is in
-    change_now g.C.Id.number old now.labels now.ties m rest c.loop-place.invariant.labelled (rw front at c.loop-place.invariant.can)
+    change_now g.C.ConstraintId.number old now.labels now.ties m rest c.loop-place.invariant.labelled (rw front at c.loop-place.invariant.can)
 
 pub change-requires-clause-room : goal.change-requires-clause-room
 change-requires-clause-room g c =
@@ -29,7 +29,7 @@ change-requires-clause-room g c =
 
 pub loop-place-preserved : goal.loop-place-preserved
 loop-place-preserved g c =
-    let n = g.C.Id.number in
+    let n = g.C.ConstraintId.number in
     let old = c.args.self.now.acting.labels in
     let m = c.index-changes-place.result in
     let rest = drop (c.loop-place.place + 1) c.args.changes.now in

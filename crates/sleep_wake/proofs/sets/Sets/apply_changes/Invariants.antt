@@ -8,11 +8,11 @@ use Rattle.sleep_wake.proofs.sets.Sets.apply_changes.Given as goal
 
 abbrev pub invariant-loop-place : goal.invariant-loop-place
 invariant-loop-place g l = record {
-  consistent : IsConsistent g.C.Id.number l.self.acting;
-  can : AreChanges g.C.Id.number l.fn.self.acting.labels l.self.acting.ties (drop l.place l.changes);
+  consistent : IsConsistent g.C.ConstraintId.number l.self.acting;
+  can : AreChanges g.C.ConstraintId.number l.fn.self.acting.labels l.self.acting.ties (drop l.place l.changes);
   labelled : Labelled l.fn.self.acting.labels l.self.acting.labels;
   tells : TellsAsleep (g.T.TieSource.names l.source) (g.T.TieSource.ties l.source) l.self.acting.labels l.self.acting.ties;
-  rest : after_changes g.C.Id.number (drop l.place l.changes) l.self.acting ≡ after_changes g.C.Id.number l.changes l.fn.self.acting;
+  rest : after_changes g.C.ConstraintId.number (drop l.place l.changes) l.self.acting ≡ after_changes g.C.ConstraintId.number l.changes l.fn.self.acting;
   few : length l.self.acting.ties + begin_count (drop l.place l.changes) ≤ l.self.room;
   room : l.self.room ≡ l.fn.self.room;
   slots : l.self.slots ≡ l.fn.self.slots;

@@ -23,7 +23,7 @@ unite-requires g c =
 pub place-requires-clause-absent : goal.place-requires-clause-absent
 place-requires-clause-absent g c =
     let a = c.self.inside in
-    let n = g.C.Id.number in
+    let n = g.C.ConstraintId.number in
     let fresh = rw (← c.self.view_is) at c.requires.fresh in
     absent_from n c.args.member.id a.graph.colours.lists (λ x q. has_from n c.args.member.id a.graph.ties.items x fresh ((c.self.invariant.consistent.acting x).0 q).0)
 
@@ -38,13 +38,13 @@ pub place-requires-clause-room : goal.place-requires-clause-room
 place-requires-clause-room g c =
     let a = c.self.inside in
     let room = rw (← c.self.view_is) at c.requires.room in
-    let fewer = fewer_coloured g.C.Id.number (acting a.graph.ties.items a.graph.islands.labels a.graph.colours.lists) c.self.invariant.consistent in
+    let fewer = fewer_coloured g.C.ConstraintId.number (acting a.graph.ties.items a.graph.islands.labels a.graph.colours.lists) c.self.invariant.consistent in
     omega (arith, room, fewer, c.self.invariant.rooms.colours)
 
 pub invariant_of-self : goal.invariant_of-self
 invariant_of-self g c =
     let a = c.self.inside in
-    let n = g.C.Id.number in
+    let n = g.C.ConstraintId.number in
     let s : Acting g.row.C.Denot = acting a.graph.ties.items a.graph.islands.labels a.graph.colours.lists in
     let new : Acting g.row.C.Denot = acting c.insert.new.self.items c.unite.new.islands.labels c.place.new.self.lists in
     let is : new ≡ begun n c.args.member s = begun_is n c.args.member s c.insert.new.self.items c.unite.new.islands.labels c.place.new.self.lists c.insert.ensures.items c.unite.ensures.labels c.place.ensures.lists in
@@ -64,4 +64,4 @@ pub returns-clause-acting : goal.returns-clause-acting
 returns-clause-acting g c =
     let a = c.self.inside in
     let s : Acting g.row.C.Denot = acting a.graph.ties.items a.graph.islands.labels a.graph.colours.lists in
-    rw (← c.self.view_is) (begun_is g.C.Id.number c.args.member s c.insert.new.self.items c.unite.new.islands.labels c.place.new.self.lists c.insert.ensures.items c.unite.ensures.labels c.place.ensures.lists)
+    rw (← c.self.view_is) (begun_is g.C.ConstraintId.number c.args.member s c.insert.new.self.items c.unite.new.islands.labels c.place.new.self.lists c.insert.ensures.items c.unite.ensures.labels c.place.ensures.lists)

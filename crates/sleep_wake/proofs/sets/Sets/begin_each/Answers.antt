@@ -14,7 +14,7 @@ begin-requires-clause-fresh g c =
     let rest = drop (c.loop-place.place + 1) c.args.members.now in
     let lt : c.loop-place.place < length c.args.members.now = omega (arith, c.loop-place-test.true, c.loop-place.auto.place-end) in
     let front : drop c.loop-place.place c.args.members.now ≡ m ∷ rest = front_is c.args.members.now c.loop-place.place m lt c.index-members-place.is in
-    let can : CanBegin g.C.Id.number (m ∷ rest) c.loop-place.self.acting = rw front at c.loop-place.invariant.can in
+    let can : CanBegin g.C.ConstraintId.number (m ∷ rest) c.loop-place.self.acting = rw front at c.loop-place.invariant.can in
     can.fresh m (contains_head m rest)
 
 pub begin-requires-clause-awake : goal.begin-requires-clause-awake
@@ -23,7 +23,7 @@ begin-requires-clause-awake g c =
     let rest = drop (c.loop-place.place + 1) c.args.members.now in
     let lt : c.loop-place.place < length c.args.members.now = omega (arith, c.loop-place-test.true, c.loop-place.auto.place-end) in
     let front : drop c.loop-place.place c.args.members.now ≡ m ∷ rest = front_is c.args.members.now c.loop-place.place m lt c.index-members-place.is in
-    let can : CanBegin g.C.Id.number (m ∷ rest) c.loop-place.self.acting = rw front at c.loop-place.invariant.can in
+    let can : CanBegin g.C.ConstraintId.number (m ∷ rest) c.loop-place.self.acting = rw front at c.loop-place.invariant.can in
     can.awake m (contains_head m rest)
 
 pub begin-requires-clause-room : goal.begin-requires-clause-room
@@ -37,7 +37,7 @@ begin-requires-clause-room g c =
 
 pub loop-place-preserved : goal.loop-place-preserved
 loop-place-preserved g c =
-    let n = g.C.Id.number in
+    let n = g.C.ConstraintId.number in
     let m = c.index-members-place.result in
     let rest = drop (c.loop-place.place + 1) c.args.members.now in
     let lt : c.loop-place.place < length c.args.members.now = omega (arith, c.loop-place-test.true, c.loop-place.auto.place-end) in

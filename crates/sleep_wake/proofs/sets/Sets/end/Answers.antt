@@ -18,12 +18,12 @@ pub release_member-requires : goal.release_member-requires
 release_member-requires g c =
     let a = c.self.inside in
     let there = rw (← c.self.view_is) at c.requires.there in
-    record { own = own_of g.C.Id.number (acting a.graph.ties.items a.graph.islands.labels a.graph.colours.lists) c.self.invariant.consistent c.args.member there }
+    record { own = own_of g.C.ConstraintId.number (acting a.graph.ties.items a.graph.islands.labels a.graph.colours.lists) c.self.invariant.consistent c.args.member there }
 
 pub invariant_of-self : goal.invariant_of-self
 invariant_of-self g c =
     let a = c.self.inside in
-    let n = g.C.Id.number in
+    let n = g.C.ConstraintId.number in
     let s : Acting g.row.C.Denot = acting a.graph.ties.items a.graph.islands.labels a.graph.colours.lists in
     let new : Acting g.row.C.Denot = acting c.remove.new.self.items c.part.new.islands.labels c.release_member.new.self.lists in
     let is : new ≡ ended n c.args.member s = ended_is n c.args.member s c.remove.new.self.items c.part.new.islands.labels c.release_member.new.self.lists c.remove.ensures.items c.part.ensures.labels c.release_member.ensures.lists in
@@ -43,4 +43,4 @@ pub returns-clause-acting : goal.returns-clause-acting
 returns-clause-acting g c =
     let a = c.self.inside in
     let s : Acting g.row.C.Denot = acting a.graph.ties.items a.graph.islands.labels a.graph.colours.lists in
-    rw (← c.self.view_is) (ended_is g.C.Id.number c.args.member s c.remove.new.self.items c.part.new.islands.labels c.release_member.new.self.lists c.remove.ensures.items c.part.ensures.labels c.release_member.ensures.lists)
+    rw (← c.self.view_is) (ended_is g.C.ConstraintId.number c.args.member s c.remove.new.self.items c.part.new.islands.labels c.release_member.new.self.lists c.remove.ensures.items c.part.ensures.labels c.release_member.ensures.lists)

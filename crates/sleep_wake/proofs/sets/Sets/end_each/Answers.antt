@@ -14,7 +14,7 @@ end-requires-clause-there g c =
     let rest = drop (c.loop-place.place + 1) c.args.members.now in
     let lt : c.loop-place.place < length c.args.members.now = omega (arith, c.loop-place-test.true, c.loop-place.auto.place-end) in
     let front : drop c.loop-place.place c.args.members.now ≡ m ∷ rest = front_is c.args.members.now c.loop-place.place m lt c.index-members-place.is in
-    let can : CanEnd g.C.Id.number (m ∷ rest) c.loop-place.self.acting = rw front at c.loop-place.invariant.can in
+    let can : CanEnd g.C.ConstraintId.number (m ∷ rest) c.loop-place.self.acting = rw front at c.loop-place.invariant.can in
     can.there m (contains_head m rest)
 
 pub end-requires-clause-awake : goal.end-requires-clause-awake
@@ -23,12 +23,12 @@ end-requires-clause-awake g c =
     let rest = drop (c.loop-place.place + 1) c.args.members.now in
     let lt : c.loop-place.place < length c.args.members.now = omega (arith, c.loop-place-test.true, c.loop-place.auto.place-end) in
     let front : drop c.loop-place.place c.args.members.now ≡ m ∷ rest = front_is c.args.members.now c.loop-place.place m lt c.index-members-place.is in
-    let can : CanEnd g.C.Id.number (m ∷ rest) c.loop-place.self.acting = rw front at c.loop-place.invariant.can in
+    let can : CanEnd g.C.ConstraintId.number (m ∷ rest) c.loop-place.self.acting = rw front at c.loop-place.invariant.can in
     can.awake m (contains_head m rest)
 
 pub loop-place-preserved : goal.loop-place-preserved
 loop-place-preserved g c =
-    let n = g.C.Id.number in
+    let n = g.C.ConstraintId.number in
     let m = c.index-members-place.result in
     let rest = drop (c.loop-place.place + 1) c.args.members.now in
     let lt : c.loop-place.place < length c.args.members.now = omega (arith, c.loop-place-test.true, c.loop-place.auto.place-end) in

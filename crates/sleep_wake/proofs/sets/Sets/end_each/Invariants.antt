@@ -6,9 +6,9 @@ use Rattle.sleep_wake.proofs.sets.Sets.end_each.Given as goal
 
 abbrev pub invariant-loop-place : goal.invariant-loop-place
 invariant-loop-place g l = record {
-  consistent : IsConsistent g.C.Id.number l.self.acting;
-  can : CanEnd g.C.Id.number (drop l.place l.members) l.self.acting;
-  rest : each_ended g.C.Id.number (drop l.place l.members) l.self.acting ≡ each_ended g.C.Id.number l.members l.fn.self.acting;
+  consistent : IsConsistent g.C.ConstraintId.number l.self.acting;
+  can : CanEnd g.C.ConstraintId.number (drop l.place l.members) l.self.acting;
+  rest : each_ended g.C.ConstraintId.number (drop l.place l.members) l.self.acting ≡ each_ended g.C.ConstraintId.number l.members l.fn.self.acting;
   room : l.self.room ≡ l.fn.self.room;
   slots : l.self.slots ≡ l.fn.self.slots;
 }

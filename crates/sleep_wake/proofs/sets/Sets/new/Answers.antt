@@ -9,7 +9,7 @@ use Rattle.sleep_wake.proofs.sets.Sets.new.Goals as goal
 
 pub invariant_of-result : goal.invariant_of-result
 invariant_of-result g c =
-    let n = g.C.Id.number in
+    let n = g.C.ConstraintId.number in
     let nobody : List (Member g.row.C.Denot) = [] in
     let none : List (List (Member g.row.C.Denot)) = replicate (COLOURS + 1) nobody in
     let lists : c.in_ok-new.field-0.lists ≡ none = c.in_ok-new.ensures.lists in

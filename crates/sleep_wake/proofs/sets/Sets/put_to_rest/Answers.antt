@@ -37,7 +37,7 @@ release_each-requires g c =
     record {
       own = λ m h.
           let P : List (Member g.row.C.Denot) → Type 0 = λ l. Contains l m in
-          own_of g.C.Id.number s c.self.invariant.consistent m (filter_in (has_mover_of s.labels c.args.name) s.ties m (subst P (c.list.ensures ∙ c.gather.ensures.list) h)).0;
+          own_of g.C.ConstraintId.number s c.self.invariant.consistent m (filter_in (has_mover_of s.labels c.args.name) s.ties m (subst P (c.list.ensures ∙ c.gather.ensures.list) h)).0;
     }
 
 pub rest-requires : goal.rest-requires
@@ -49,7 +49,7 @@ rest-requires g c =
 pub invariant_of-self : goal.invariant_of-self
 invariant_of-self g c =
     let a = c.self.inside in
-    let n = g.C.Id.number in
+    let n = g.C.ConstraintId.number in
     let s : Acting g.row.C.Denot = acting a.graph.ties.items a.graph.islands.labels a.graph.colours.lists in
     let new : Acting g.row.C.Denot = acting a.graph.ties.items c.rest.new.self.labels c.release_each.new.colours.lists in
     let is : new ≡ put_to_rest n c.args.name s = rested_by_list n c.args.name s c.list.result.now c.rest.new.self.labels c.release_each.new.colours.lists (c.list.ensures ∙ c.gather.ensures.list) c.rest.ensures.labels c.release_each.ensures.lists in
@@ -65,4 +65,4 @@ pub returns-clause-acting : goal.returns-clause-acting
 returns-clause-acting g c =
     let a = c.self.inside in
     let s : Acting g.row.C.Denot = acting a.graph.ties.items a.graph.islands.labels a.graph.colours.lists in
-    rw (← c.self.view_is) (rested_by_list g.C.Id.number c.args.name s c.list.result.now c.rest.new.self.labels c.release_each.new.colours.lists (c.list.ensures ∙ c.gather.ensures.list) c.rest.ensures.labels c.release_each.ensures.lists)
+    rw (← c.self.view_is) (rested_by_list g.C.ConstraintId.number c.args.name s c.list.result.now c.rest.new.self.labels c.release_each.new.colours.lists (c.list.ensures ∙ c.gather.ensures.list) c.rest.ensures.labels c.release_each.ensures.lists)

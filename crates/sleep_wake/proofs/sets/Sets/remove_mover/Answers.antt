@@ -11,7 +11,7 @@ use Rattle.sleep_wake.proofs.sets.Sets.remove_mover.Goals as goal
 pub invariant_of-self : goal.invariant_of-self
 invariant_of-self g c =
     let a = c.self.inside in
-    let n = g.C.Id.number in
+    let n = g.C.ConstraintId.number in
     let s : Acting g.row.C.Denot = acting a.graph.ties.items a.graph.islands.labels a.graph.colours.lists in
     let new : Acting g.row.C.Denot = acting a.graph.ties.items c.take_out.new.self.labels a.graph.colours.lists in
     let alone = rw (← c.self.view_is) at c.requires.alone in
@@ -28,4 +28,4 @@ pub returns-clause-acting : goal.returns-clause-acting
 returns-clause-acting g c =
     let a = c.self.inside in
     let s : Acting g.row.C.Denot = acting a.graph.ties.items a.graph.islands.labels a.graph.colours.lists in
-    rw (← c.self.view_is) (gone_is g.C.Id.number c.args.slot s c.take_out.new.self.labels (rw (← c.self.view_is) at c.requires.alone) c.take_out.ensures.labels)
+    rw (← c.self.view_is) (gone_is g.C.ConstraintId.number c.args.slot s c.take_out.new.self.labels (rw (← c.self.view_is) at c.requires.alone) c.take_out.ensures.labels)

@@ -30,7 +30,7 @@ rest_each-requires g c = record { awake = rw (← c.self.view_is) at c.requires.
 pub invariant_of-self : goal.invariant_of-self
 invariant_of-self g c =
     let a = c.self.inside in
-    let n = g.C.Id.number in
+    let n = g.C.ConstraintId.number in
     let timers = c.args.timers.now in
     let s : Acting g.row.C.Denot = acting a.graph.ties.items a.graph.islands.labels a.graph.colours.lists in
     let new : Acting g.row.C.Denot = acting c.release_resting.new.ties.items c.rest_each.new.islands.labels c.release_resting.new.colours.lists in
@@ -47,7 +47,7 @@ invariant_of-self g c =
 pub returns-clause-acting : goal.returns-clause-acting
 returns-clause-acting g c =
     let a = c.self.inside in
-    let n = g.C.Id.number in
+    let n = g.C.ConstraintId.number in
     let timers = c.args.timers.now in
     let s : Acting g.row.C.Denot = acting a.graph.ties.items a.graph.islands.labels a.graph.colours.lists in
     let lists = rw c.deref.ensures.value at c.release_resting.ensures.lists in

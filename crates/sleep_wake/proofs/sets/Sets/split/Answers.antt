@@ -53,7 +53,7 @@ split-requires-clause-links g c =
 pub invariant_of-self : goal.invariant_of-self
 invariant_of-self g c =
     let a = c.self.inside in
-    let n = g.C.Id.number in
+    let n = g.C.ConstraintId.number in
     let s : Acting g.row.C.Denot = acting a.graph.ties.items a.graph.islands.labels a.graph.colours.lists in
     let new : Acting g.row.C.Denot = acting a.graph.ties.items c.split.new.self.labels a.graph.colours.lists in
     let o = names a.graph.islands.labels c.args.name true (rw (← c.self.view_is) at c.requires.island) in

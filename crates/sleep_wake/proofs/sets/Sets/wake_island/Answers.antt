@@ -37,7 +37,7 @@ gather_asleep-requires-clause-slots g c = omega (arith, c.self.invariant.few, c.
 pub place_each-requires : goal.place_each-requires
 place_each-requires g c =
     let a = c.self.inside in
-    let n = g.C.Id.number in
+    let n = g.C.ConstraintId.number in
     let l = c.args.label in
     let s : Acting g.row.C.Denot = acting a.graph.ties.items a.graph.islands.labels a.graph.colours.lists in
     let here : label_at s.labels l.name ≡ Some l = rw (← c.self.view_is) at c.requires.island in
@@ -60,7 +60,7 @@ wake-requires g c =
 pub invariant_of-self : goal.invariant_of-self
 invariant_of-self g c =
     let a = c.self.inside in
-    let n = g.C.Id.number in
+    let n = g.C.ConstraintId.number in
     let l = c.args.label in
     let s : Acting g.row.C.Denot = acting a.graph.ties.items a.graph.islands.labels a.graph.colours.lists in
     let new : Acting g.row.C.Denot = acting a.graph.ties.items c.wake.new.self.labels c.place_each.new.colours.lists in
@@ -78,4 +78,4 @@ pub returns-clause-acting : goal.returns-clause-acting
 returns-clause-acting g c =
     let a = c.self.inside in
     let s : Acting g.row.C.Denot = acting a.graph.ties.items a.graph.islands.labels a.graph.colours.lists in
-    rw (← c.self.view_is) (woken_by_list g.C.Id.number c.args.label.name s c.list.result.now c.wake.new.self.labels c.place_each.new.colours.lists (c.list.ensures ∙ c.gather_asleep.ensures.list) c.wake.ensures.labels c.place_each.ensures.lists)
+    rw (← c.self.view_is) (woken_by_list g.C.ConstraintId.number c.args.label.name s c.list.result.now c.wake.new.self.labels c.place_each.new.colours.lists (c.list.ensures ∙ c.gather_asleep.ensures.list) c.wake.ensures.labels c.place_each.ensures.lists)

@@ -7,7 +7,7 @@ use Rattle.sleep_wake.proofs.sets.Sets.wake_movers.Goals as goal
 
 pub wake-requires-in-Some : goal.wake-requires-in-Some
 wake-requires-in-Some g c =
-    let n = g.C.Id.number in
+    let n = g.C.ConstraintId.number in
     let names = g.T.TieSource.names c.args.source.now in
     let told = g.T.TieSource.ties c.args.source.now in
     let s : Acting g.row.C.Denot = c.args.self.now.acting in

@@ -10,7 +10,7 @@ use Rattle.sleep_wake.proofs.sets.Sets.wake_named.Goals as goal
 
 pub loop-place-preserved : goal.loop-place-preserved
 loop-place-preserved g c =
-    let n = g.C.Id.number in
+    let n = g.C.ConstraintId.number in
     let names = g.T.TieSource.names c.args.source.now in
     let told = g.T.TieSource.ties c.args.source.now in
     let slot = get_or c.args.names.now c.loop-place.place 0 in

@@ -6,9 +6,9 @@ use Rattle.sleep_wake.proofs.sets.Sets.wake_named.Given as goal
 
 abbrev pub invariant-loop-place : goal.invariant-loop-place
 invariant-loop-place g l = record {
-  consistent : IsConsistent g.C.Id.number l.self.acting;
+  consistent : IsConsistent g.C.ConstraintId.number l.self.acting;
   tells : TellsAsleep (g.T.TieSource.names l.source) (g.T.TieSource.ties l.source) l.self.acting.labels l.self.acting.ties;
-  rest : islands_woken g.C.Id.number (drop l.place l.names) l.self.acting ≡ islands_woken g.C.Id.number l.names l.fn.self.acting;
+  rest : islands_woken g.C.ConstraintId.number (drop l.place l.names) l.self.acting ≡ islands_woken g.C.ConstraintId.number l.names l.fn.self.acting;
   room : l.self.room ≡ l.fn.self.room;
   slots : l.self.slots ≡ l.fn.self.slots;
 }

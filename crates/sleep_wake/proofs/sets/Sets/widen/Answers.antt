@@ -9,7 +9,7 @@ use Rattle.sleep_wake.proofs.sets.Sets.widen.Goals as goal
 pub invariant_of-self : goal.invariant_of-self
 invariant_of-self g c =
     let a = c.self.inside in
-    let n = g.C.Id.number in
+    let n = g.C.ConstraintId.number in
     let s : Acting g.row.C.Denot = acting a.graph.ties.items a.graph.islands.labels a.graph.colours.lists in
     let new : Acting g.row.C.Denot = acting a.graph.ties.items c.widen.new.self.labels a.graph.colours.lists in
     let is : new ≡ widened c.args.slot s = wide_is c.args.slot s c.widen.new.self.labels c.widen.ensures.labels in
