@@ -124,7 +124,7 @@ fn collide(
     let marks = Marks::all_marked(alloc, 64)?;
     let scene = Scene { shapes, slots };
     let touches = contacts.collide(alloc, &scene, marks.flags(), marks.slots(), forbidden)?;
-    contacts.carry_out();
+    contacts.commit_pending();
     Ok(touches)
 }
 
@@ -289,12 +289,12 @@ fn swept(alloc: Global) -> Result<[(Numbers, bool, [usize; 3]); 3], Refusal> {
     let dropped = shown(&contacts);
     put_at(alloc, &mut contacts, &[DOWN, DOWN, DOWN, DOWN])?;
     let again = shown(&contacts);
-    contacts.carry_out();
+    contacts.commit_pending();
     Ok([dropped, again, shown(&contacts)])
 }
 
 #[test]
-fn numbers_stay_over_a_drop_a_sweep_and_a_carry_out(rt: HostRuntime) {
+fn numbers_stay_over_a_drop_a_sweep_and_a_commit(rt: HostRuntime) {
     let four = [Some(0), Some(1), Some(2), Some(3)];
     let dropped = ([Some(0), None, Some(2), Some(3)], false, [0, 1, 4]);
     let told = [dropped, (four, true, [1, 0, 4]), (four, true, [0, 0, 4])];

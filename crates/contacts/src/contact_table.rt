@@ -34,7 +34,7 @@ use crate::moved_pairs::fresh_of_marked;
 use crate::noting::{note_fresh, note_made, note_touches};
 use crate::number_book::{NumberBook, NumberedContact};
 use crate::pair_sweep::PairSweep;
-use crate::pending_update::{PendingUpdate, Touches, carry_out};
+use crate::pending_update::{PendingUpdate, Touches, apply_pending};
 use crate::stirring::{Stirring, refresh};
 use crate::update::update_known;
 use contacts_base::{ContactEntry, ContactKey, Contacts, Impulses, SplitContacts};
@@ -328,7 +328,7 @@ fn number_all(alloc: Global, entries: &[ContactEntry]) -> Result<NumberBook, Ref
 }
 
 /// Carries out what is pending, if something is. Takes no memory.
-fn carry_out_now(
+fn apply_and_renumber(
     contacts: &mut SplitContacts,
     pending: &mut PendingUpdate,
     beside: &mut Beside,
@@ -349,7 +349,7 @@ fn carry_out_now(
     ensures bound { length numbers.new.contacts.items ≤ bound_of numbers.old (length pending.old.made.items) }
 {
     renumber(numbers, pending);
-    if !carry_out(contacts, pending) {
+    if !apply_pending(contacts, pending) {
         lapse(beside);
     }
 }
@@ -570,12 +570,12 @@ impl ContactTable {
     }
 
     /// The contacts become what is pending, or stay as they are where nothing is. Takes no memory.
-    pub fn carry_out(&mut self)
+    pub fn commit_pending(&mut self)
         ensures contacts { self.new.contacts ≡ self.old.pending }
         ensures turnover { IsTurnover self.old.numbered self.new.numbered self.new.made self.new.gone }
         ensures bound { length self.new.numbered ≤ self.old.bound }
     {
-        carry_out_now(
+        apply_and_renumber(
             &mut self.contacts,
             &mut self.pending,
             &mut self.beside,

@@ -88,7 +88,7 @@ impl PendingUpdate {
 }
 
 /// Carries out what is pending. Answers whether the long list has the keys that it had. Takes no memory.
-pub(crate) fn carry_out(contacts: &mut SplitContacts, pending: &mut PendingUpdate) -> bool
+pub(crate) fn apply_pending(contacts: &mut SplitContacts, pending: &mut PendingUpdate) -> bool
     requires { IsPendingUpdate pending.old contacts.old }
     ensures contacts { contacts_in contacts.new ≡ pending_contacts pending.old contacts.old }
     ensures keys { IsTrue result → HaveKeys contacts.old contacts.new }
@@ -97,7 +97,7 @@ pub(crate) fn carry_out(contacts: &mut SplitContacts, pending: &mut PendingUpdat
 {
     let has_keys = match pending.whole.take() {
         None => {
-            contacts.carry_out(&pending.notes, &pending.ends, pending.short.take());
+            contacts.change_in_place(&pending.notes, &pending.ends, pending.short.take());
             true
         }
         Some(whole) => {

@@ -307,7 +307,7 @@ impl SplitContacts {
 
     /// The contacts of the long list get the points that were noted of them, those at the places `ends` are over, and the short list becomes this
     /// one, if there is one. Takes no memory.
-    pub fn carry_out(&mut self, notes: &[Renewal], ends: &[usize], short: Option<ShortList>)
+    pub fn change_in_place(&mut self, notes: &[Renewal], ends: &[usize], short: Option<ShortList>)
         requires short { ForSome short (λ list. AreContacts (counted_in list)) }
         requires contacts { AreContacts (contacts_in (carried notes.now ends.now (option_map counted_in short) self.old)) }
         ensures value { self.new ≡ carried notes.now ends.now (option_map counted_in short) self.old }

@@ -14,9 +14,9 @@ ghost use Rattle.sleep_wake.specs.Sleeping.{name_at};
 ghost use Rattle.sleep_wake.specs.Sources.{TellsAsleep, asleep_ties};
 ghost use Rattle.sleep_wake.specs.Waking.{has_mover_of};
 
+use crate::movers_in_islands::are_in;
 use crate::tie_source::TieSource;
 use crate::ties::Ties;
-use crate::wake_and_sleep::are_in;
 use fixed_geom::Refusal;
 use graph_colours::{ConstraintId, Member};
 use islands::Islands;

@@ -17,6 +17,7 @@ mod gathering;
 mod graph;
 pub mod laws;
 mod listing;
+mod movers_in_islands;
 mod names;
 mod phase;
 mod resting;
@@ -24,7 +25,6 @@ mod sets;
 mod splits;
 mod tie_source;
 mod ties;
-mod wake_and_sleep;
 mod work;
 
 pub use change::Change;

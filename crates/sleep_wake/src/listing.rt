@@ -5,7 +5,7 @@ ghost use Rattle.std.specs.Result.{IsOkUnless};
 ghost use Rattle.sleep_wake.specs.Acting.{is_mover_awake};
 ghost use Rattle.sleep_wake.specs.AwakeSlots.{AreAwakeSlots};
 
-use crate::wake_and_sleep::is_awake;
+use crate::movers_in_islands::is_awake;
 use fixed_geom::Refusal;
 use islands::Islands;
 use std::alloc::Global;

@@ -7,9 +7,9 @@ ghost use Rattle.sleep_wake.specs.Waking.{released_all};
 ghost use Rattle.sleep_wake.specs.Resting.{least_at, is_to_rest};
 ghost use Rattle.sleep_wake.specs.Rooms.{OwnMovers};
 
+use crate::movers_in_islands::release_each;
 use crate::phase::are_resting;
 use crate::ties::Ties;
-use crate::wake_and_sleep::release_each;
 use graph_colours::{Colours, ConstraintId, Member, OVERFLOW};
 use islands::Islands;
 

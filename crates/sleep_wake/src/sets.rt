@@ -23,13 +23,13 @@ ghost use Rattle.sleep_wake.specs.Resting.{is_whole};
 
 use crate::graph::Graph;
 use crate::listing::list_awake;
+use crate::movers_in_islands::{are_awake, is_awake, place_each, release_each};
 use crate::names::list_names;
 use crate::phase::{list_leasts, pick_split, rest_each};
 use crate::resting::release_resting;
 use crate::splits::list_edges;
 use crate::tie_source::TieSource;
 use crate::ties::Ties;
-use crate::wake_and_sleep::{are_awake, is_awake, place_each, release_each};
 use crate::work::Work;
 use fixed_geom::Refusal;
 use graph_colours::{Colours, ConstraintId, Member, Movers};

@@ -5,7 +5,7 @@ ghost use Rattle.islands.specs.Labels.{is_in};
 ghost use Rattle.sleep_wake.specs.SleepPhase.{edges_in};
 ghost use Rattle.sleep_wake.specs.Gathered.{edges_of_one};
 
-use crate::wake_and_sleep::is_in;
+use crate::movers_in_islands::is_in;
 use graph_colours::{ConstraintId, Member, Movers};
 use islands::Islands;
 

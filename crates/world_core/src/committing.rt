@@ -18,7 +18,7 @@ ghost use Rattle.solver_sets.specs.Ties.{slots_of, ties_of};
 ghost use Rattle.world_core.specs.WorldTies.{CanTell};
 
 use crate::preparing::Prepared;
-use crate::telling::tell_movers;
+use crate::telling_movers::tell_movers;
 use crate::world_ties::WorldTies;
 use body_handles::{Handle, MAX_SLOTS, SlotEntry};
 use contacts::{Constraint, ContactTable};
@@ -92,7 +92,7 @@ fn apply_all_changes(
 
 /// Carries out what the collide found: the contacts become what is pending, the constraints begin and end, and who wakes by that is told so. Nothing
 /// stays marked but what that changes, since the contacts tell all from now on. Takes no memory.
-pub(crate) fn carry_out(
+pub(crate) fn commit_collide(
     contacts: &mut ContactTable,
     bodies: &mut BodyTable,
     joint_entries: &[SlotEntry],
@@ -145,7 +145,7 @@ pub(crate) fn carry_out(
     );
     sets.know_consistent();
     contacts.know_numbered();
-    contacts.carry_out();
+    contacts.commit_pending();
     contacts.know_numbered();
     renew_contact_stands(contact_stands, bodies, contacts);
 }

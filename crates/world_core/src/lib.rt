@@ -23,8 +23,8 @@ mod scratch;
 mod sleep_phase;
 mod sleep_test;
 mod solving;
-mod telling;
-mod wake_and_sleep;
+mod telling_movers;
+mod waking_islands;
 mod world;
 mod world_ties;
 

@@ -7,7 +7,7 @@ ghost use Rattle.contacts.specs.Constraints.{constraint_number};
 ghost use Rattle.sleep_wake.specs.Acting.{IsConsistent};
 ghost use Rattle.world_core.specs.Waking.{HasName, HasSleepers, IsExtended, OfAll, OfBoth, movers_in};
 
-use crate::wake_and_sleep::list_movers;
+use crate::waking_islands::list_movers;
 use contacts::Constraint;
 use fixed_geom::Refusal;
 use graph_colours::Movers;

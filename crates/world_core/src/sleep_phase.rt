@@ -20,7 +20,7 @@ ghost use Rattle.world_core.specs.WorldTies.{CanTell};
 
 use crate::scratch::{Scratch, fill_slots};
 use crate::sleep_test::are_kept_up;
-use crate::telling::tell_movers;
+use crate::telling_movers::tell_movers;
 use crate::world_ties::WorldTies;
 use body_handles::{MAX_SLOTS, SlotEntry};
 use contacts::{Constraint, ContactTable};
@@ -33,7 +33,7 @@ use world_core_base::{BodyTable, JointTable};
 /// Lets so many ticks pass for the timers, puts the islands to rest that are ready, lists who has fallen asleep by that, and tells
 /// those. Their joints and contacts follow. All bodies had been told before. Answers what the movers' momentum gains, since those that fall asleep
 /// lose theirs. Where few fall asleep, it takes time by the awake movers alone. Takes no memory.
-pub(crate) fn rest_ready(
+pub(crate) fn rest_after_ticks(
     bodies: &mut BodyTable,
     joint_entries: &[SlotEntry],
     joints: &JointTable,

@@ -36,7 +36,7 @@ use crate::gather::body_state;
 use crate::moving::move_bodies;
 use crate::slot_list::{Group, SlotList};
 use crate::stands::{body_stand, follow_all, follow_bodies, reserve_stands, shift_to, stand_of};
-use crate::telling::{tell_bodies, tell_listed};
+use crate::telling_bodies::{tell_bodies, tell_listed};
 use crate::timing::time_bodies;
 use body_handles::MAX_SLOTS;
 use box_tree::BoxTree;

@@ -27,7 +27,7 @@ mod moving;
 mod slot_list;
 mod slots;
 mod stands;
-mod telling;
+mod telling_bodies;
 mod timing;
 
 pub use body_table::BodyTable;

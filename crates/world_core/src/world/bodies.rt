@@ -12,7 +12,7 @@ use crate::booking::{book, gain_of, loss_of};
 use crate::joining::drop_joints;
 use crate::membership::{come, leave};
 use crate::pushes::{course_after, momenta_after, mover_momentum, pose_after};
-use crate::wake_and_sleep::wake_planned;
+use crate::waking_islands::wake_planned;
 use body_handles::Handle;
 use fixed_geom::{Refusal, Vec2};
 use impulse_ledger::Cause;

@@ -8,7 +8,7 @@ use crate::booking::{book, loss_of};
 use crate::membership::{come, leave};
 use crate::own_joints::{fill_joint_ties, list_joined};
 use crate::pushes::mover_momentum;
-use crate::wake_and_sleep::wake_planned;
+use crate::waking_islands::wake_planned;
 use body_handles::Handle;
 use fixed_geom::Refusal;
 use impulse_ledger::Cause;

@@ -5,7 +5,7 @@ ghost use Rattle.world_rules.specs.Apply.{Answers, apply_join, apply_unjoin};
 
 use super::WorldCore;
 use crate::joining::{check_join, joint_of};
-use crate::wake_and_sleep::wake_planned;
+use crate::waking_islands::wake_planned;
 use body_handles::Handle;
 use contacts::Constraint;
 use fixed_geom::Refusal;

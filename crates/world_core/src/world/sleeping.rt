@@ -15,7 +15,7 @@ use crate::booking::book;
 use crate::own_contacts::contact_ties;
 use crate::own_joints::joint_ties;
 use crate::pushes::check_mover;
-use crate::wake_and_sleep::{Waking, plan_rest, plan_waking, put_to_sleep, wake_planned};
+use crate::waking_islands::{Waking, plan_rest, plan_waking, put_to_sleep, wake_planned};
 use body_handles::Handle;
 use contacts::Constraint;
 use fixed_geom::Refusal;

@@ -6,9 +6,9 @@ ghost use Rattle.world_rules.specs.Apply.{Answers, apply_gravity, apply_step};
 
 use super::{MAX_GRAVITY, WorldCore};
 use crate::booking::record_step;
-use crate::committing::carry_out;
+use crate::committing::commit_collide;
 use crate::preparing::prepare;
-use crate::sleep_phase::rest_ready;
+use crate::sleep_phase::rest_after_ticks;
 use crate::solving::solve;
 use colour_solver::StepSolver;
 use fixed_geom::{Refusal, Vec2, is_within};
@@ -64,7 +64,7 @@ impl WorldCore {
             &mut self.scratch,
         )?;
         self.contact_sets.reserve(self.contacts.number_bound(), 0)?;
-        carry_out(
+        commit_collide(
             &mut self.contacts,
             &mut self.bodies,
             self.joint_handles.slot_entries(),
@@ -87,7 +87,7 @@ impl WorldCore {
             self.gravity,
             ticks,
         );
-        let rest = rest_ready(
+        let rest = rest_after_ticks(
             &mut self.bodies,
             self.joint_handles.slot_entries(),
             &self.joints,

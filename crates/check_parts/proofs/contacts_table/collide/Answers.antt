@@ -14,4 +14,4 @@ pub collide-requires-clause-known : goal.collide-requires-clause-known
 collide-requires-clause-known c = nothing_known _ _ _ _ (c.flags.ensures ∙ c.in_ok-marks.ensures.marked) c.requires.pairs
 
 pub returns : goal.returns
-returns c = record { pairs = pairs_after (option_to_list c.args.forbidden.now.pair) c.args.shapes c.args.contacts.now.contacts _ (subst IsProxyList c.proxies.ensures.value c.proxies.ensures.list) (c.carry_out.ensures.contacts ∙ c.in_ok-touches.ensures.pending) }
+returns c = record { pairs = pairs_after (option_to_list c.args.forbidden.now.pair) c.args.shapes c.args.contacts.now.contacts _ (subst IsProxyList c.proxies.ensures.value c.proxies.ensures.list) (c.commit_pending.ensures.contacts ∙ c.in_ok-touches.ensures.pending) }
