@@ -21,7 +21,9 @@ use crate::pair_sweep::PairSweep;
 use contacts_base::{ContactEntry, ContactKey, PackedContact, Proxy, Renewal, ShapeId, is_near};
 use fixed_geom::{Box2, Refusal};
 
-/// Where the shapes of the enabled bodies are read, one by one.
+/// Where the shapes of the enabled bodies are read, one by one. `BodyShapes` of `world_core/src/collide.rt` implements
+/// it, over the tables of the world, and [`ContactTable::collide`](crate::ContactTable::collide) calls it: this crate
+/// knows no bodies.
 pub trait ShapesById {
     ghost proxies: { Self → List Proxy };
 

@@ -34,7 +34,9 @@ impl BodyPair {
     }
 }
 
-/// Pairs of bodies that may not collide (`pairs`): a pair may stand there more than once.
+/// Pairs of bodies that may not collide (`pairs`): a pair may stand there more than once. `JointTable` of
+/// `world_core_base` implements it, by the joints whose bodies don't collide, and
+/// [`ContactTable::collide`](crate::ContactTable::collide) calls it: this crate knows no joints.
 pub trait ForbiddenPairs {
     ghost pairs: { Self → List TheBodyPair };
 
