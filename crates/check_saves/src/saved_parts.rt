@@ -3,17 +3,15 @@
 use body_handles::SlotEntry;
 use contacts_base::{ContactEntry, PackedSurface, Surface};
 use fixed_geom::Refusal;
-use islands::{IslandState, Label};
 use loaded_text::read_text;
 use plain_world::BodyJoint;
 use saved_text::write_text;
 use serde_json::Value;
 use std::alloc::Global;
-use world_file::{read, write};
+use world_file::{list_labels, read, write};
 use world_file_base::{
-    Broken, Clause, Membership, Reader, SavedContact, SavedJoint, Version, bodies_value,
-    contacts_value, joints_value, read_bodies, read_contacts, read_joints, read_totals,
-    totals_value,
+    Broken, Clause, Reader, SavedContact, SavedJoint, Version, bodies_value, contacts_value,
+    joints_value, read_bodies, read_contacts, read_joints, read_totals, totals_value,
 };
 
 /// How many ticks a mover may have been slow.
@@ -96,34 +94,6 @@ fn written(value: Result<Value, Refusal>) -> Result<Value, Broken> {
     }
 }
 
-fn state_of(membership: Membership) -> IslandState {
-    if membership.asleep {
-        IslandState::Asleep
-    } else if membership.loose {
-        IslandState::Loose
-    } else {
-        IslandState::Whole
-    }
-}
-
-fn label_of(membership: Membership) -> Option<Label> {
-    match membership.island {
-        Some(name) => Some(Label {
-            name,
-            state: state_of(membership),
-        }),
-        None => None,
-    }
-}
-
-fn labels_of(alloc: Global, memberships: &[Membership]) -> Result<Vec<Option<Label>>, Broken> {
-    let mut labels = Vec::new(alloc);
-    for membership in memberships {
-        labels.push(label_of(*membership))?;
-    }
-    Ok(labels)
-}
-
 fn bodies(
     alloc: Global,
     reader: &mut Reader,
@@ -131,7 +101,7 @@ fn bodies(
     value: &Value,
 ) -> Result<Value, Broken> {
     let saved = read_bodies(alloc, reader, Some(value), version, MOST_TICKS)?;
-    let labels = labels_of(alloc, &saved.memberships)?;
+    let labels = list_labels(alloc, &saved.memberships)?;
     written(bodies_value(alloc, &saved.slot_entries, &saved.bodies, &labels))
 }
 

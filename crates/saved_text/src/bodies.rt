@@ -1,7 +1,6 @@
 //! The slots of bodies, written.
 
 ghost use Rattle.std.specs.Prelude.{◌≡◌, ◌∷◌, [], None, Some, OnOk, codes};
-ghost use Rattle.islands.specs.Labels.{label_at};
 ghost use Rattle.world_file_base.specs.SavedBodies.{body_data};
 ghost use Rattle.world_file_base.specs.SavedShapes.{shapes_of};
 ghost use Rattle.world_file_base.specs.SavedSlots.{bodies_data, body_slot_of, slot_of};
@@ -9,7 +8,6 @@ ghost use Rattle.world_file_base.specs.Written.{list_data};
 ghost use Rattle.saved_text.specs.Bodies.{first_of_body, last_of_body, numbers_of_body, position_of_body, membership_by};
 ghost use Rattle.saved_text.specs.Tokens.{AddsMembers, AddsValue};
 
-use crate::counts::lesser;
 use crate::leaves::Leaf;
 use crate::members::{put_members, put_object};
 use crate::saved_shapes::put_shapes;
@@ -18,6 +16,7 @@ use islands::Label;
 use json::Writer;
 use plain_world::{Body, Kind};
 use std::alloc::AllocError;
+use world_file_base::{label_at, lesser};
 
 /// What is told of a body's island.
 #[derive(Clone, Copy)]
@@ -159,17 +158,6 @@ fn put_slot(
     match entry {
         Some(body) => put_taken(out, slot_entry, body, label),
         None => put_free(out, slot_entry),
-    }
-}
-
-/// The label of the mover in a slot.
-fn label_at(labels: &[Option<Label>], slot: usize) -> Option<Label>
-    ensures { result ≡ label_at labels.now slot }
-{
-    if slot < labels.len() {
-        labels[slot]
-    } else {
-        None
     }
 }
 

@@ -10,7 +10,6 @@ ghost use Rattle.world_file.specs.Taken.{joint_colours_by};
 ghost use Rattle.saved_text.specs.Tokens.{AddsValue};
 
 use crate::bodies::put_free;
-use crate::counts::lesser;
 use crate::leaves::Leaf;
 use crate::members::{put_members, put_object};
 use body_handles::{Handle, IdText, SlotEntry};
@@ -19,6 +18,7 @@ use plain_world::BodyJoint;
 use std::alloc::{AllocError, Global};
 use std::collections::HashMap;
 use world_file::{colour_at, joint_number};
+use world_file_base::lesser;
 
 /// The id of the body in a slot.
 fn name_at(alloc: Global, slot_entries: &[SlotEntry], slot: u32) -> Result<String, AllocError>

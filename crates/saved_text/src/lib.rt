@@ -4,7 +4,6 @@
 #![tactic(auto)]
 
 mod bodies;
-mod counts;
 mod joints;
 mod leaves;
 mod ledger;

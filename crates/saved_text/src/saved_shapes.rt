@@ -6,13 +6,13 @@ ghost use Rattle.world_file_base.specs.SavedShapes.{shape_of, shapes_of};
 ghost use Rattle.world_file_base.specs.Written.{list_data};
 ghost use Rattle.saved_text.specs.Tokens.{AddsValue};
 
-use crate::counts::lesser;
 use crate::leaves::Leaf;
 use crate::members::put_object;
 use fixed_geom::{Box2, Vec2};
 use json::Writer;
 use shapes::{Shape, ShapeDef};
 use std::alloc::AllocError;
+use world_file_base::lesser;
 
 fn put_circle<'a>(
     out: &mut Writer,

@@ -22,6 +22,7 @@ pub use laws::{
     asking_finds_the_first, merging_makes_components, what_is_read_is_sound, what_is_written_fits,
     what_is_written_is_read_again,
 };
+pub use memberships::list_labels;
 pub use numbered_colours::{colour_at, colours_by_number, joint_number};
 pub use plain_world::Plain;
 pub use saved_world::{MOST_TICKS, Saved};

@@ -113,11 +113,8 @@ fn label_of(membership: Membership) -> Option<Label>
     }
 }
 
-/// The labels of the movers by slot.
-pub(crate) fn list_labels(
-    alloc: Global,
-    memberships: &[Membership],
-) -> Result<Vec<Option<Label>>, Broken>
+/// The labels of the movers by slot. Refused where memory is wanting.
+pub fn list_labels(alloc: Global, memberships: &[Membership]) -> Result<Vec<Option<Label>>, Broken>
     ensures value { IfOk result (λ labels. labels.items ≡ map label_of memberships.now) }
     ensures memory { IfErr result (λ e. e ≡ NoMemory) }
 {

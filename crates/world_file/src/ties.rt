@@ -1,6 +1,6 @@
 //! The joints and contacts that act if their movers are awake.
 
-ghost use Rattle.std.specs.Prelude.{◌≡◌, ◌≤◌, ◌^◌, ◌++◌, ◌⊎◌, IfErr, IfOk, OnOk, length};
+ghost use Rattle.std.specs.Prelude.{◌≡◌, ◌≤◌, ◌^◌, ◌++◌, IfErr, IfOk, OnOk, length};
 ghost use Rattle.std.specs.List.{flat_map, list_all};
 ghost use Rattle.world_file_base.specs.declared.clause.Broken.TheVariants.{NoMemory};
 ghost use Rattle.world_file.specs.Fitting.{
@@ -23,7 +23,7 @@ use graph_colours::Member;
 use plain_world::Body;
 use solver_sets::{contact_movers, joint_tie, tie_with};
 use std::alloc::Global;
-use world_file_base::{Broken, SavedContact, SavedJoint};
+use world_file_base::{Broken, SavedContact, SavedJoint, lesser};
 
 /// A joint or a touching contact of enabled bodies, one of them a mover, with its colour.
 #[derive(Clone, Copy)]
@@ -205,13 +205,4 @@ pub(crate) fn are_joints_colourless(
         }
     }
     true
-}
-
-/// The lesser of two counts.
-fn lesser(a: usize, b: usize) -> usize
-    ensures first { result ≤ a }
-    ensures second { result ≤ b }
-    ensures one { (a ≤ result) ⊎ (b ≤ result) }
-{
-    if a <= b { a } else { b }
 }

@@ -483,7 +483,8 @@ pub(crate) fn read_body(
     Ok(saved)
 }
 
-fn kind_name(kind: Kind) -> &'static str
+/// The name of a kind, as texts have it.
+pub fn kind_name(kind: Kind) -> &'static str
     ensures { result.now ≡ kind_name kind }
 {
     match kind {

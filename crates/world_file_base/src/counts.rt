@@ -14,7 +14,7 @@ pub(crate) fn count(items: &[Value]) -> usize
 }
 
 /// The lesser of two counts.
-pub(crate) fn lesser(a: usize, b: usize) -> usize
+pub fn lesser(a: usize, b: usize) -> usize
     ensures first { result ≤ a }
     ensures second { result ≤ b }
     ensures one { (a ≤ result) ⊎ (b ≤ result) }

@@ -19,8 +19,9 @@ mod saved_shapes;
 mod slots;
 mod version;
 
-pub use bodies::{ask_body, sleeping_under};
+pub use bodies::{ask_body, kind_name, sleeping_under};
 pub use clause::{Broken, Clause};
+pub use counts::lesser;
 pub use decimals::sized_number;
 pub use ledger::{read_totals, totals_value};
 pub use members::{Members, array_value, number_or_null, vector_value};
@@ -28,5 +29,7 @@ pub use reader::{Reader, field, handle_in_text, has_keys};
 pub use saved::{Membership, NO_MEMBERSHIP, SavedBodies, SavedContact, SavedJoint, SavedJoints};
 pub use saved_contacts::{LAST_CANDIDATE, contacts_value, read_contacts};
 pub use saved_shapes::{MAX_CORNER, SavedShape};
-pub use slots::{bodies_value, generation_of, is_in_time, joints_value, read_bodies, read_joints};
+pub use slots::{
+    bodies_value, generation_of, is_in_time, joints_value, label_at, read_bodies, read_joints,
+};
 pub use version::Version;

@@ -309,8 +309,8 @@ fn body_slot_value(
     Ok(members.object())
 }
 
-/// The label of the mover in a slot.
-fn label_at(labels: &[Option<Label>], slot: usize) -> Option<Label>
+/// The label of the mover in a slot, if one is there.
+pub fn label_at(labels: &[Option<Label>], slot: usize) -> Option<Label>
     ensures { result ≡ label_at labels.now slot }
 {
     if slot < labels.len() {

@@ -4,16 +4,9 @@ use crate::answers::{BodyList, JointReport};
 use crate::pen::Pen;
 use body_handles::{Handle, SlotEntry};
 use contacts_base::{ContactEntry, ContactPoint};
-use plain_world::{Body, Kind, Plain, SetName};
+use plain_world::{Body, Plain, SetName};
 use std::fmt;
-
-fn name_of(kind: Kind) -> &'static str {
-    match kind {
-        Kind::Static => "static",
-        Kind::Kinematic(_) => "kinematic",
-        Kind::Dynamic => "dynamic",
-    }
-}
+use world_file_base::kind_name;
 
 impl<'a, W: fmt::Write> Pen<'a, W> {
     fn body(&mut self, id: Handle, body: &Body) {
@@ -27,7 +20,7 @@ impl<'a, W: fmt::Write> Pen<'a, W> {
         self.text(",\"inertia\":");
         self.value(body.mass.inertia);
         self.text(",\"kind\":\"");
-        self.text(name_of(body.kind));
+        self.text(kind_name(body.kind));
         self.text("\",\"l\":\"");
         self.value(view.l);
         self.text("\",\"mass\":");
