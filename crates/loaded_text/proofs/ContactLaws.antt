@@ -107,16 +107,6 @@ point_holds p a b c d e f g h i k fits begun one two three four five six seven c
 
 -- ---- the points of a contact
 
-pub no_points_hold : (lead : List ℕ) (points : Points) (a b c : List ℕ) → points.contact ≡ no_points → points.count ≡ 0 → a ≡ lead ++ b → b ≡ 91 ∷ 93 ∷ c → PointsHold lead points a c
-no_points_hold lead points a b c contact count before is = record {
-  items = [];
-  stands = list_stands lead [] a b (93 ∷ c) (93 ∷ c) c before is (no_item (93 ∷ c)) refl;
-  shallow = omega arith;
-  contact = sym contact;
-  count = sym count;
-  asks = refl;
-}
-
 one_depth : (d : Data) → depth d ≤ 2 → depth (list_data (d ∷ [])) ≤ 3
 one_depth d low = omega (arith, low)
 

@@ -10,12 +10,6 @@ use Rattle.serde_json.specs.Written.{comma_if, compact_text, items_text, members
 use Rattle.world_file_base.specs.Written.{Member, list_data, pair_data}
 use Rattle.loaded_text.specs.Stands.{ItemsStand, MembersStand, Stands, joined_items, joined_members, key_text}
 
--- ---- leads
-
--- what was taken before a value is its lead
-pub led : (lead : List ℕ) (d : Data) (a b c : List ℕ) → a ≡ lead ++ b → Stands [] d b c → Stands lead d a c
-led lead d a b c before h = record { text_is = before ∙ ap (λ l. lead ++ l) h.text_is; whole = h.whole }
-
 -- ---- members
 
 pub no_member : (later : Bool) (a : List ℕ) → MembersStand later [] a a

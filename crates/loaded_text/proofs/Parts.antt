@@ -24,13 +24,6 @@ pub or_null_depth : (o : Option ℕ) → depth (natural_or_null o) ≡ 0
 or_null_depth None = refl
 or_null_depth (Some n) = refl
 
-or_null_whole : (o : Option ℕ) → IfSome o (λ n. n < 2 ^ 64) → is_whole (natural_or_null o) ≡ true
-or_null_whole None small = refl
-or_null_whole (Some n) small = lt-ltb n (2 ^ 64) small
-
-pub or_null_stands : (lead : List ℕ) (o : Option ℕ) (a b : List ℕ) → IfSome o (λ n. n < 2 ^ 64) → Leads lead (natural_or_null o) a b → Stands lead (natural_or_null o) a b
-or_null_stands lead o a b small is = record { text_is = is; whole = or_null_whole o small }
-
 id_plain : (h : Handle) → h.slot < 2 ^ 32 → h.generation < 2 ^ 32 → escape (id_text h) ≡ id_text h
 id_plain h slot generation =
     escape_both (decimal h.slot) (46 ∷ decimal h.generation) (escape_decimal h.slot (omega (arith, slot)))

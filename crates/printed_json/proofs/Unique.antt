@@ -15,17 +15,6 @@ no_digit c test value =
     let r = digit_from_value c value in
     true≢false (rw (le-leb 48 c r.0, le-leb c 57 r.1) at test)
 
-digit_passes : (d : ℕ) → d < 10 → is_ascii_digit (48 + d) ≡ true
-digit_passes d small = rw (le-leb 48 (48 + d) (omega arith), le-leb (48 + d) 57 (omega arith))
-
--- what begins with a digit doesn't begin with none
-pub is_digit_first : (d : ℕ) (text rest : List ℕ) → d < 10 → text ≡ (48 + d) ∷ rest → StartsWithNoDigit text → ⊥
-is_digit_first d text rest small is none = true≢false (sym (digit_passes d small) ∙ subst StartsWithNoDigit is none)
-
-pub no_text_no_digit : (text : List ℕ) → length text ≡ 0 → StartsWithNoDigit text
-no_text_no_digit [] is = tt
-no_text_no_digit (c ∷ cs) is = absurd (omega (arith, is))
-
 pub other_first : (byte : ℕ) (text rest : List ℕ) → text ≡ byte ∷ rest → is_ascii_digit byte ≡ false → StartsWithNoDigit text
 other_first byte text rest is test = subst StartsWithNoDigit (sym is) test
 

@@ -51,18 +51,6 @@ members_then ms ns a b c first second = record {
   before = second.before ∙ first.before;
 }
 
-pub member_gone : (m : Member) (rest all : List Member) (old now next : Written) → MembersLeft (m ∷ rest) all old now → AddsMembers (m ∷ []) now next → MembersLeft rest all old next
-member_gone m rest all old now next left added = record {
-  tokens_are =
-      ap (λ l. l ++ members_tokens rest) (added.tokens_are ∙ ap (λ l. now.tokens ++ key m.0 ∷ l) (append-nil (tokens_of m.1)))
-      ∙ append_assoc now.tokens (key m.0 ∷ tokens_of m.1) (members_tokens rest) ∙ left.tokens_are;
-  whole = sym (ap (λ t. t && have_whole rest) (and_parts (is_whole m.1) true added.whole).0) ∙ left.whole;
-  before = added.before ∙ left.before;
-}
-
-pub members_gone : (all : List Member) (old now : Written) → MembersLeft [] all old now → AddsMembers all old now
-members_gone all old now left = record { tokens_are = sym (append-nil now.tokens) ∙ left.tokens_are; whole = sym left.whole; before = left.before }
-
 -- ---- items
 
 pub item_gone : (d : Data) (rest all : List Data) (old now next : Written) → ItemsLeft (d ∷ rest) all old now → AddsValue d now next → ItemsLeft rest all old next
@@ -135,16 +123,6 @@ items_gone ds rest all old now next left added = record {
   whole = sym (whole_after ds rest added.whole) ∙ left.whole;
   before = added.before ∙ left.before;
 }
-
-pub one_item : (d : Data) (old new : Written) → AddsValue d old new → AddsItems (d ∷ []) old new
-one_item d old new value = record {
-  tokens_are = value.tokens_are ∙ ap (λ l. old.tokens ++ l) (sym (append-nil (tokens_of d)));
-  whole = both_true (is_whole d) true value.whole refl;
-  before = value.before;
-}
-
-pub no_item : (old : Written) → AddsItems [] old old
-no_item old = record { tokens_are = sym (append-nil old.tokens); whole = refl; before = refl }
 
 pub points_added : (ds es : List Data) (a b c d e : Written) → Adds (begin_array ∷ []) a b → AddsItems ds b c → AddsItems es c d → Adds (end_array ∷ []) d e → AddsValue (list_data (ds ++ es)) a e
 points_added ds es a b c d e begun first second ended =

@@ -16,24 +16,6 @@ use Rattle.contacts_base.specs.Contacts.{number_of}
 use Rattle.contacts.proofs.Members.{Each}
 use Rattle.contacts.proofs.Rising.{IsRising}
 
--- ---- contacts that are dropped
-
-each_step : (t : Bool) (b : ℕ) (e : ContactEntry) (es : List ContactEntry) → b < number_of e → Each (λ n. b < n) (map number_of es) → Each (λ n. b < n) (map number_of (cond t (e ∷ es) es))
-each_step true b e es h rest = (h, rest)
-each_step false b e es h rest = rest
-
-filter_each : (p : ContactEntry → Bool) (b : ℕ) (es : List ContactEntry) → Each (λ n. b < n) (map number_of es) → Each (λ n. b < n) (map number_of (filter p es))
-filter_each p b [] h = h
-filter_each p b (e ∷ es) h = each_step (p e) b e (filter p es) h.0 (filter_each p b es h.1)
-
-rise_step : (t : Bool) (e : ContactEntry) (es : List ContactEntry) → Each (λ n. number_of e < n) (map number_of es) → IsRising (map number_of es) → IsRising (map number_of (cond t (e ∷ es) es))
-rise_step true e es h rest = (h, rest)
-rise_step false e es h rest = rest
-
-filter_rises : (p : ContactEntry → Bool) (es : List ContactEntry) → IsRising (map number_of es) → IsRising (map number_of (filter p es))
-filter_rises p [] h = h
-filter_rises p (e ∷ es) h = rise_step (p e) e (filter p es) (filter_each p (number_of e) es h.0) (filter_rises p es h.1)
-
 -- ---- a body has eight shapes at most
 
 count_if : (few some forms : Bool) → ((some && few) && forms) ≡ true → few ≡ true
@@ -55,8 +37,3 @@ eight_at_most segments defs e =
 pub contacts_are_after : (bodies : List (Option Body)) (joints : List (Option BodyJoint)) (old : List ContactEntry) → contacts_between (forbidden_pairs joints) (proxies_of bodies) old ≡ contacts_after bodies joints old
 unfolding contacts_after
 contacts_are_after bodies joints old = refl
-
--- what is known of an answer in two ways
-pub if_ok_both : {X E : Type 0} (P Q R : X → Type 0) (r : Result X E) → ((x : X) → P x → Q x → R x) → IfOk r P → IfOk r Q → IfOk r R
-if_ok_both P Q R (Ok x) f p q = f x p q
-if_ok_both P Q R (Err e) f p q = tt

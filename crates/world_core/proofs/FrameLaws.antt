@@ -134,10 +134,3 @@ shown_formed w sound =
 -- the bodies that a frame shows are formed
 pub frame_formed : (f : View) → IsFrame f → AreFrameBodies f.bodies
 frame_formed f is = subst (λ (v : View). AreFrameBodies v.bodies) (sym is.frame) (shown_formed is.world is.sound)
-
--- the movers' momentum is the ledger's total
-pub frame_booked : (f : View) → IsFrame f → f.momentum ≡ f.booked
-frame_booked f is =
-    let w : World = is.world in
-    let same : Total = total (book_of w) in
-    ap (λ (v : View). v.momentum) is.frame ∙ same_total (record { x = (momentum w.plain.bodies).x; y = (momentum w.plain.bodies).y }) same is.sound.promises.total_x is.sound.promises.total_y ∙ sym (ap (λ (v : View). v.booked) is.frame)

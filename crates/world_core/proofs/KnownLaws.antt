@@ -96,9 +96,6 @@ moved_at marks i small = ap (λ (n : ℕ). slice_index_or marks n true) (slot_of
 abbrev pub HaveSameKeys : List Bool → List ContactEntry → List ContactEntry → Type 0
 HaveSameKeys marks contacts later = (k : ContactKey) → IsPairKey k → slice_index_or marks k.first.slot true ≡ false → slice_index_or marks k.second.slot true ≡ false → has_key later k ≡ has_key contacts k
 
-pub keys_stay : (marks : List Bool) (contacts : List ContactEntry) → HaveSameKeys marks contacts contacts
-keys_stay marks contacts k pair a b = refl
-
 -- contacts that differ in their numbers at most
 if_there : (s t : Bool) (e f : ContactEntry) (o r : Option ContactEntry) → s ≡ t → is_some r ≡ is_some o → is_some (cond s (Some f) r) ≡ is_some (cond t (Some e) o)
 if_there s true e f o r q h = rw q refl

@@ -60,10 +60,6 @@ entry_found (Some b) i = body_found b i
 
 -- ---- the shapes of other slots
 
-none_among : (ps : List Proxy) (n : ℕ) → Each (λ p. number_of p ≡ n → ⊥) ps → found ps n ≡ None
-none_among [] n h = refl
-none_among (p ∷ ps) n h = found_later p ps n h.0 ∙ none_among ps n h.1
-
 pass_over : (ps qs : List Proxy) (n : ℕ) → Each (λ p. number_of p ≡ n → ⊥) ps → found (ps ++ qs) n ≡ found qs n
 pass_over [] qs n h = refl
 pass_over (p ∷ ps) qs n h = found_later p (ps ++ qs) n h.0 ∙ pass_over ps qs n h.1

@@ -59,14 +59,6 @@ taken_if : {B X : Type 0} (f : B → Option X) (t : Bool) (b : B) (bs : List B) 
 taken_if f true b bs = refl
 taken_if f false b bs = refl
 
-pub mapped_filter : {B X : Type 0} (f : B → Option X) (q : B → Bool) (p : X → Bool) (bs : List B) → ((b : B) (x : X) → f b ≡ Some x → p x ≡ q b) → filter_map f (filter q bs) ≡ filter p (filter_map f bs)
-mapped_filter f q p [] h = refl
-mapped_filter {B} {X} f q p (b ∷ bs) h =
-    taken_if f (q b) b (filter q bs)
-    ∙ front_if p (q b) (f b) (filter_map f (filter q bs)) (λ x e. h b x e)
-    ∙ ap (λ (l : List X). cons_option (kept p (f b)) l) (mapped_filter f q p bs h)
-    ∙ sym (kept_front p (f b) (filter_map f bs))
-
 -- ---- the contacts of a body
 
 contact_bonds_pass : (bodies : List (Option Body)) (slot : ℕ) (keys : List ContactKey) → ties_in bodies (filter (is_bond_of slot) (map contact_bond keys)) ≡ filter (is_contact_of slot) (ties_in bodies (map contact_bond keys))

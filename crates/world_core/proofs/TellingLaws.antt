@@ -44,17 +44,6 @@ use Rattle.world_core.specs.Waking.{HasIsland, HasIslands, IsExtended, slots_of}
 
 -- ---- movers that are listed by their islands
 
-pub none_listed : (labels : Labels) (movers : List ℕ) → HasIslands labels [] movers
-none_listed labels movers slot h = absurd (omega (arith, h.1))
-
--- no mover is in the slot
-pub no_island : (labels : Labels) (movers : List ℕ) (slot : ℕ) → None ≡ option_map (λ (l : Label). l.name) (label_at labels slot) → HasIsland labels movers slot
-no_island labels movers slot e name mover a b = none_in (label_at labels slot) e a
-  where
-    none_in : (o : Option Label) → None ≡ option_map (λ (l : Label). l.name) o → is_in o name ≡ true → Contains movers mover
-    none_in None f h = cc
-    none_in (Some l) f h = cc
-
 -- the members of the island of this name are added
 pub island_added : (labels : Labels) (slot n : ℕ) (island old new : List ℕ) → Some n ≡ option_map (λ (l : Label). l.name) (label_at labels slot) → ((s : ℕ) → Contains island s ↔ IsIn labels n s) → new ≡ old ++ island → HasIsland labels new slot
 island_added labels slot n island old new e members is name mover a b =

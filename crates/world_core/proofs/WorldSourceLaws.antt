@@ -49,9 +49,3 @@ contacts_more items bodies numbered before after is more are = record {
   stands = λ number. ap (λ (l : List (Option Stand)). stand_at l number) is ∙ same_more items before.stands number ∙ are.stands number;
   names = let room = are.names in omega (arith, room, more);
 }
-
-pub joints_more : (items : ℕ) (bodies : List (Option Body)) (joints : List (Option BodyJoint)) (before after : Standings) → after.stands ≡ with_items items before.stands → before.names ≤ after.names → AreJointSets bodies joints before → AreJointSets bodies joints after
-joints_more items bodies joints before after is more are = record {
-  stands = λ slot. ap (λ (l : List (Option Stand)). stand_at l slot) is ∙ same_more items before.stands slot ∙ are.stands slot;
-  names = let room = are.names in omega (arith, room, more);
-}

@@ -305,14 +305,6 @@ apart_listed : (t : Bool) → is_listed (Some (cond t standing.Awake standing.Di
 apart_listed true = refl
 apart_listed false = refl
 
--- a contact of two bodies that don't sleep stands in a list
-pub contact_listed : (bodies : List (Option Body)) (e : NumberedContact) → ((name : ℕ) → body_stand bodies e.key.first.slot ≡ Some (standing.Sleeping name) → ⊥) → ((name : ℕ) → body_stand bodies e.key.second.slot ≡ Some (standing.Sleeping name) → ⊥) → is_listed (Some (stand_of_contact bodies e)) ≡ true
-contact_listed bodies e first second = by e.touching
-  where
-    by : (t : Bool) → is_listed (Some (cond t (stand_touching bodies e) (stand_of_apart bodies e))) ≡ true
-    by true = between_listed (body_stand bodies e.key.first.slot) (body_stand bodies e.key.second.slot) first second
-    by false = apart_listed (is_awake_stand (body_stand bodies e.key.first.slot) || is_awake_stand (body_stand bodies e.key.second.slot))
-
 -- ---- a change of the contacts
 
 contact_as : (bodies : List (Option Body)) (c d : NumberedContact) → d.key ≡ c.key → d.touching ≡ c.touching → stand_of_contact bodies d ≡ stand_of_contact bodies c

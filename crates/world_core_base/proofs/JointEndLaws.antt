@@ -332,13 +332,6 @@ take_other (a ∷ xs) (suc i) (suc k) ne = take_other xs i k (λ e. ne (ap suc e
 
 -- ---- room
 
-pub room_kept : (body : ℕ) (old new : Packs ℕ) → length old.sets ≤ length new.sets → ((set : ℕ) → list_at new.sets set ≡ list_at old.sets set) → HaveAtLeast old.capacities new.capacities → HasRoomAt body old → HasRoomAt body new
-room_kept body old new more same least room =
-    let there : body < length old.sets = room.there in
-    let space : length (list_at old.sets body) + 2 ≤ capacity_at old.capacities body = room.space in
-    let at_least : capacity_at old.capacities body ≤ capacity_at new.capacities body = least body in
-    record { there = omega (arith, there, more); space = rw (same body) (omega (arith, space, at_least)) }
-
 pub room_left : (body set id : ℕ) (old new : Packs ℕ) → IsPut old.sets new.sets set id → HaveAtLeast old.capacities new.capacities → HasRoomAt body old → length (list_at new.sets body) < capacity_at new.capacities body
 room_left body set id old new put least room = by_set (set == body) refl
   where

@@ -50,11 +50,6 @@ marked_eq bodies marks later others now others_now e f h = subst (λ (l : List (
 
 -- ---- marks put
 
-pub mark_there : (marks : List Bool) (slot : ℕ) → get_or (slice_set marks slot true) slot true ≡ true
-mark_there [] slot = refl
-mark_there (m ∷ marks) zero = refl
-mark_there (m ∷ marks) (suc slot) = mark_there marks slot
-
 record WasUnmarked (marks : List Bool) (slot s : ℕ) : Type 0 where
   other : s ≢ slot
   unmarked : get_or marks s true ≡ false

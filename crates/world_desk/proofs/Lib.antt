@@ -1,2 +1,1 @@
 mod ReadTexts
-mod LogLaws

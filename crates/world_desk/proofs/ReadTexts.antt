@@ -28,9 +28,6 @@ refused_is text r e h is = subst (λ (x : Result (Plain × Totals) Broken). Matc
 pub breaks : (text : List ℕ) (e : Broken) → IsRefusedOf text e → BreaksOf (read text) e
 breaks text e h = subst (λ (o : Option Data). BreaksOf o e) (sym h.text_is) (of_value h.value e h.is)
 
-pub no_memory : (o : Option Data) → BreaksOf o broken.NoMemory
-no_memory o = tt
-
 pub is_loaded : (text : List ℕ) (p : Plain) (t : Totals) (w : World) → IsReadOf text (p, t) → w ≡ settled_world p t → IsLoaded text w
 is_loaded text p t w h made = record {
   value = h.value;

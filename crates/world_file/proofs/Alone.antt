@@ -91,13 +91,6 @@ pub unjoined_second : (labels : Labels) (a b : ℕ) → label_at labels b ≡ No
 unfolding merged
 unjoined_second labels a b none = rw none (unjoined_by (label_at labels a) labels)
 
-more_by : (o : Option (ℕ × ℕ)) (edges : Edges) (labels : Labels) → merged_all labels (cons_option o edges) ≡ merged_all (merged_all labels (cons_option o [])) edges
-more_by None edges labels = refl
-more_by (Some e) edges labels = refl
-
-pub joined_more : (t : Tie) (ties : List Tie) (labels : Labels) → joined_by (t ∷ ties) labels ≡ joined_by ties (joined_by (t ∷ []) labels)
-joined_more t ties labels = more_by (link_of t.member) (links_of (members_among ties)) labels
-
 -- ---- whole islands
 
 pub same_whole : (labels others : Labels) (slot : ℕ) (memberships : List Membership) → AreSameLabels labels others → are_whole labels slot memberships ≡ are_whole others slot memberships

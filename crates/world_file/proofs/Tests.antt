@@ -33,10 +33,6 @@ pub not_true : (x : Bool) → not x ≡ true → x ≡ false
 not_true true h = absurd (false≢true h)
 not_true false h = refl
 
-pub no_item : {X : Type 0} (o : Option X) → is_none o ≡ true → o ≡ None
-no_item None h = refl
-no_item (Some x) h = absurd (false≢true h)
-
 pub some_item : {X : Type 0} (o : Option X) → is_some o ≡ true → (x : X) × (o ≡ Some x)
 some_item None h = absurd (false≢true h)
 some_item (Some x) h = (x, refl)

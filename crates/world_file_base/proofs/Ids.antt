@@ -46,9 +46,6 @@ named_back handle slot generation =
 narrow_is : (handle : Handle) → handle.slot < 2 ^ 32 → handle.generation < 2 ^ 32 → is_narrow handle ≡ true
 narrow_is handle slot generation = grind (arith, nat_tests)
 
-itself : (text : List ℕ) → bytes_eq text text ≡ true
-itself text = (bytes_eq-Decides text text).1 refl
-
 both : (a b : Bool) (handle : Handle) → a ≡ true → b ≡ true → cond (a && b) (Some handle) None ≡ Some handle
 both true true handle first second = refl
 both true false handle first second = cc

@@ -31,14 +31,6 @@ use Rattle.world_queries.specs.ByBoxes.{hit_through}
 use Rattle.world_queries.specs.Filters.{IsDueOrWanting, through}
 use Rattle.world_queries.specs.Posed.{named, posed_from, posed_shapes, shapes_at, shapes_from}
 
--- ---- refusals
-
-pub due_comes : (o : Option Refusal) (e : Refusal) → Some e ≡ o → IsDueOrWanting o e
-due_comes o e is = subst (λ (x : Option Refusal). IsDueOrWanting x e) is refl
-
-pub memory_comes : (o : Option Refusal) (e : Refusal) → None ≡ o → e ≡ NoMemory → IsDueOrWanting o e
-memory_comes o e is wanting = subst (λ (x : Option Refusal). IsDueOrWanting x e) is wanting
-
 -- ---- names that pass
 
 either_order : (s t : Bool) (id : ShapeId) (ids : List ShapeId) → cond t (cond s (id ∷ ids) ids) ids ≡ cond s (cond t (id ∷ ids) ids) ids

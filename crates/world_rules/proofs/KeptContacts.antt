@@ -108,11 +108,6 @@ MovesMore-with_body bodies slot b none = record {
 
 -- ---- a body that goes
 
-neither : (a b : Bool) → not (a || b) ≡ true → (a ≡ false) × (b ≡ false)
-neither true b e = cc
-neither false true e = cc
-neither false false e = (refl, refl)
-
 kept_if : (P : ContactEntry → Type 0) (t : Bool) (e : ContactEntry) (es : List ContactEntry) → (t ≡ true → P e) → All P es → All P (cond t (e ∷ es) es)
 kept_if P true e es h rest = All-cons P e es (h refl) rest
 kept_if P false e es h rest = rest

@@ -14,12 +14,6 @@ use Rattle.solver_sets.proofs.TieLaws as set_tie_laws
 pub ties_rise : ties.TiesRise
 ties_rise = set_tie_laws.ties_rise
 
-pub ties_are_within : ties.TiesAreWithin
-ties_are_within = set_tie_laws.ties_named
-
-pub movers_have_labels : ties.MoversHaveLabels
-movers_have_labels = set_tie_laws.movers_have_labels
-
 pub ties_have_labels : ties.TiesHaveLabels
 ties_have_labels = set_tie_laws.ties_have_labels
 
@@ -74,20 +68,8 @@ keys_can_change = set_collide_laws.keys_can_change
 pub few_begin : ties.FewBegin
 few_begin = set_collide_laws.few_begin
 
-pub waking_keeps : sleeping.WakingKeeps constraint_number
-waking_keeps = wake_kept_lemmas.waking_keeps constraint_number
-
-pub resting_keeps : sleeping.RestingKeeps constraint_number
-resting_keeps = wake_kept_lemmas.resting_keeps constraint_number
-
 pub ending_keeps : sleeping.EndingKeeps constraint_number
 ending_keeps = wake_kept_lemmas.ending_keeps constraint_number
-
-pub beginning_keeps : sleeping.BeginningKeeps constraint_number
-beginning_keeps = wake_kept_lemmas.beginning_keeps constraint_number
-
-pub changing_keeps : sleeping.ChangingKeeps constraint_number
-changing_keeps = wake_kept_lemmas.changing_keeps constraint_number
 
 pub changes_lead_to : sleeping.ChangesLeadTo constraint_number
 changes_lead_to = wake_between_lemmas.changes_lead_to constraint_number
@@ -97,9 +79,6 @@ going_keeps = wake_phase_lemmas.going_keeps constraint_number
 
 pub making_keeps : sleeping.MakingKeeps constraint_number
 making_keeps = wake_phase_lemmas.making_keeps constraint_number
-
-pub splitting_keeps : sleeping.SplittingKeeps constraint_number
-splitting_keeps = wake_phase_lemmas.splitting_keeps constraint_number
 
 pub sleep_phase_keeps : sleeping.SleepPhaseKeeps constraint_number
 sleep_phase_keeps = wake_phase_lemmas.sleeping_keeps constraint_number
@@ -121,9 +100,6 @@ awake_stay_awake = wake_law_lemmas.awake_stay_awake constraint_number
 
 pub the_named_are_awake : sleeping.TheNamedAreAwake constraint_number
 the_named_are_awake = wake_law_lemmas.the_named_are_awake constraint_number
-
-pub waking_leaves_the_awake : sleeping.WakingLeavesTheAwake constraint_number
-waking_leaves_the_awake = wake_law_lemmas.waking_leaves_the_awake constraint_number
 
 pub empty_is_consistent : sleeping.EmptyIsConsistent constraint_number
 empty_is_consistent = wake_phase_lemmas.empty_consistent constraint_number

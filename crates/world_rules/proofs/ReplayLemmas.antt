@@ -25,13 +25,6 @@ exact (Ok a) old (Err e) new h never = absurd (never (ap Err h.0))
 exact (Err due) old (Ok reply) new h never = absurd h
 exact (Err due) old (Err e) new h never = record { answer = ap Err h.0; world = h.1 }
 
--- where it is wanting, nothing has changed
-pub unchanged : (due : Result Applied Refusal) (old : World) (r : Result Reply Refusal) (new : World) → Answers due old r new → r ≡ Err NoMemory → new ≡ old
-unchanged (Ok a) old (Ok reply) new h e = cc
-unchanged (Ok a) old (Err d) new h e = h.1
-unchanged (Err due) old (Ok reply) new h e = absurd h
-unchanged (Err due) old (Err d) new h e = h.1
-
 -- ---- one more turn of the loop over the commands
 
 command_at : (cs : List Command) (i : ℕ) (c : Command) → i < length cs → c ≡ get_or cs i c → drop i cs ≡ c ∷ drop (i + 1) cs

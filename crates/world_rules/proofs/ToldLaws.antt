@@ -272,10 +272,6 @@ unfolding told
 told_stays labels bodies all h =
     told_from_stays 0 labels bodies all (λ k m b e at. let same : k ≡ m = omega (arith, e) in subst (λ (s : ℕ). b.asleep ≡ sleeping_name (label_at labels s)) same (h k b at))
 
--- told twice is told once
-pub told_again : (labels : Labels) (bodies : List (Option Body)) → AreBodies bodies → AreTied bodies labels → told labels (told labels bodies) ≡ told labels bodies
-told_again labels bodies all tied = told_stays labels (told labels bodies) (told_are_bodies labels bodies all) (told_are_told labels bodies all tied)
-
 -- ---- bodies told again by other labels
 
 awake_if : (m : Bool) (a : Option ℕ) → m ≡ true → a ≡ None → cond m (is_none a) false ≡ true
@@ -286,66 +282,3 @@ awake_if false a e f = cc
 none_of : (a : Option ℕ) → is_some a ≡ false → a ≡ None
 none_of None e = refl
 none_of (Some name) e = cc
-
-told_up : (b : Body) → is_mover b ≡ true → is_awake (told_by None b) ≡ true
-told_up b m = by (is_some b.asleep) refl
-  where
-    by : (t : Bool) → is_some b.asleep ≡ t → is_awake (cond t (roused b) b) ≡ true
-    by true e = awake_if (is_mover b) None m refl
-    by false e = awake_if (is_mover b) b.asleep m (none_of b.asleep e)
-
-twice_up : (b : Body) → told_by None (told_by None b) ≡ told_by None b
-twice_up b = by (is_some b.asleep) refl
-  where
-    by : (t : Bool) → is_some b.asleep ≡ t → told_by None (cond t (roused b) b) ≡ cond t (roused b) b
-    by true e = refl
-    by false e = λ j. cond (e j) (roused b) b
-
--- one that is put to rest again and then woken was at rest
-roused_again : (name : ℕ) (b : Body) → IsBody b → is_mover b ≡ true → (is_awake b ≡ true → Some name ≡ None) → told_by None (body_at_rest name b) ≡ told_by None b
-roused_again name b is m h = by b.asleep refl
-  where
-    by : (o : Option ℕ) → b.asleep ≡ o → roused (body_at_rest name b) ≡ cond (is_some o) (roused b) b
-    by None e = let no = h (awake_if (is_mover b) b.asleep m e) in cc
-    by (Some n) e = let rest = is.rest (awake_not (is_mover b) b.asleep n e) in
-        λ j. record b { motion = record b.motion { p = no_vector b.motion.p rest.x rest.y j; l = sym rest.l j }; asleep = None; timer = 0 }
-
-over_mover : (first second : Option ℕ) (b : Body) → IsBody b → is_mover b ≡ true → (is_awake b ≡ true → first ≡ None) → (is_awake (told_by first b) ≡ true → second ≡ None) → told_by second (told_by first b) ≡ told_by second b
-over_mover (Some a) (Some c) b is m h k = refl
-over_mover (Some a) None b is m h k = roused_again a b is m h
-over_mover None second b is m h k = subst (λ (n : Option ℕ). told_by n (told_by None b) ≡ told_by n b) (sym (k (told_up b m))) (twice_up b)
-
-over_one : (first second : Option Label) (b : Body) → IsBody b → (is_awake b ≡ true → sleeping_name first ≡ None) → (is_awake (told_body first b) ≡ true → sleeping_name second ≡ None) → told_body second (told_body first b) ≡ told_body second b
-over_one first second b is h k = by (is_mover b) refl
-  where
-    same : (t : Bool) → is_mover b ≡ t → told_body first b ≡ cond t (told_by (sleeping_name first) b) b
-    same t e = ap (λ (u : Bool). cond u (told_by (sleeping_name first) b) b) e
-
-    mover_first : is_mover b ≡ true → is_mover (told_by (sleeping_name first) b) ≡ true
-    mover_first e = ap is_mover (sym (same true e)) ∙ (told_is first b).mover ∙ e
-
-    by : (t : Bool) → is_mover b ≡ t → told_body second (told_body first b) ≡ told_body second b
-    by false e = ap (told_body second) (same false e)
-    by true e =
-        let one : told_body first b ≡ told_by (sleeping_name first) b = same true e in
-        let two : told_body second (told_by (sleeping_name first) b) ≡ told_by (sleeping_name second) (told_by (sleeping_name first) b) = ap (λ (u : Bool). cond u (told_by (sleeping_name second) (told_by (sleeping_name first) b)) (told_by (sleeping_name first) b)) (mover_first e) in
-        let three : told_body second b ≡ told_by (sleeping_name second) b = ap (λ (u : Bool). cond u (told_by (sleeping_name second) b) b) e in
-        ap (told_body second) one ∙ two ∙ over_mover (sleeping_name first) (sleeping_name second) b is e h (λ up. k (ap is_awake one ∙ up)) ∙ sym three
-
-over_in : (first second : Option Label) (o : Option Body) → ((b : Body) → o ≡ Some b → IsBody b) → ((b : Body) → o ≡ Some b → is_awake b ≡ true → sleeping_name first ≡ None)
-    → ((b : Body) → option_map (told_body first) o ≡ Some b → is_awake b ≡ true → sleeping_name second ≡ None) → option_map (told_body second) (option_map (told_body first) o) ≡ option_map (told_body second) o
-over_in first second None all h k = refl
-over_in first second (Some b) all h k = ap Some (over_one first second b (all b refl) (h b refl) (k (told_body first b) refl))
-
-over_from : (n : ℕ) (first second : Labels) (bodies : List (Option Body)) → AreBodies bodies → StayAwakeFrom n bodies first → StayAwakeFrom n (told_from n first bodies) second → told_from n second (told_from n first bodies) ≡ told_from n second bodies
-over_from n first second [] all h k = refl
-over_from n first second (o ∷ bodies) all h k =
-    let one = over_in (label_at first n) (label_at second n) o (λ b e. all zero b (ap Some e)) (λ b e. h zero n b (omega arith) e) (λ b e. k zero n b (omega arith) e) in
-    let rest = over_from (suc n) first second bodies (λ i b e. all (suc i) b e) (tail_stays n o bodies first h) (tail_stays n (option_map (told_body (label_at first n)) o) (told_from (suc n) first bodies) second k) in
-    λ j. one j ∷ rest j
-
--- ---- a body that is told to sleep has no momentum
-
-no_part : (m : Bool) → cond m zero_vector zero_vector ≡ zero_vector
-no_part true = refl
-no_part false = refl

@@ -34,33 +34,6 @@ few n h = grind (arith, nat_tests)
 pub due_in_range : (workers : ℕ) (p : Plain) (ticks : ℤ) → (nat_le 1 workers && nat_le workers 64) ≡ true → nat_le (2 ^ 40) p.calls ≡ false → step_due workers p ticks ≡ apply p (Step ticks)
 due_in_range workers p ticks h k = due_by (nat_lt p.calls (2 ^ 40)) (nat_le 1 workers && nat_le workers 64) (apply p (Step ticks)) (few p.calls k) h
 
-worn_by : (t u : Bool) (x : Result Applied Refusal) → t ≡ false → cond t (cond u x (Err OutOfRange)) (Err WornOut) ≡ Err WornOut
-worn_by true u x h = absurd (cc h)
-worn_by false u x h = refl
-
-pub due_worn : (workers : ℕ) (p : Plain) (ticks : ℤ) → nat_le (2 ^ 40) p.calls ≡ true → step_due workers p ticks ≡ Err WornOut
-due_worn workers p ticks h =
-    let worn : nat_lt p.calls (2 ^ 40) ≡ false = grind (arith, nat_tests) in
-    worn_by (nat_lt p.calls (2 ^ 40)) (nat_le 1 workers && nat_le workers 64) (apply p (Step ticks)) worn
-
-many_by : (t u : Bool) (x : Result Applied Refusal) → t ≡ true → u ≡ false → cond t (cond u x (Err OutOfRange)) (Err WornOut) ≡ Err OutOfRange
-many_by true true x h k = absurd (cc k)
-many_by true false x h k = refl
-many_by false u x h k = absurd (cc h)
-
-pub due_many : (workers : ℕ) (p : Plain) (ticks : ℤ) → (nat_le 1 workers && nat_le workers 64) ≡ false → nat_le (2 ^ 40) p.calls ≡ false → step_due workers p ticks ≡ Err OutOfRange
-due_many workers p ticks h k = many_by (nat_lt p.calls (2 ^ 40)) (nat_le 1 workers && nat_le workers 64) (apply p (Step ticks)) (few p.calls k) h
-
-long_by : (t u b : Bool) (a : Applied) → t ≡ true → b ≡ false → cond t (cond u (cond t (cond b (Ok a) (Err OutOfRange)) (Err WornOut)) (Err OutOfRange)) (Err WornOut) ≡ Err OutOfRange
-long_by true true true a h k = absurd (cc k)
-long_by true true false a h k = refl
-long_by true false b a h k = refl
-long_by false u b a h k = absurd (cc h)
-
-pub due_long : (workers : ℕ) (p : Plain) (ticks : ℤ) → is_between (pos 1) (pos 8) ticks ≡ false → nat_le (2 ^ 40) p.calls ≡ false → step_due workers p ticks ≡ Err OutOfRange
-due_long workers p ticks h k =
-    long_by (nat_lt p.calls (2 ^ 40)) (nat_le 1 workers && nat_le workers 64) (is_between (pos 1) (pos 8) ticks) (step_done p (unsigned_abs ticks) (collided p.bodies p.joints p.contacts)) (few p.calls k) h
-
 -- ---- a start of threads that is refused
 
 within_by : (b : Bool) (e : Refusal) → b ≡ true → MatchBool b (IsStartRefusal e) (e ≡ OutOfRange) → IsStartRefusal e
