@@ -10,8 +10,8 @@ ghost use Rattle.joint_rows.specs.Rows.{IsJointRow};
 use crate::assertions::{same, same_items};
 use fixed_geom::{Rot, Vec2};
 use joint_rows::{
-    Joint, JointAfter, JointBodies, JointRow, joint_row, solve_joint, solve_joint_64, warm_joint,
-    warm_joint_64,
+    Joint, JointAfter, JointBodies, JointRow, MomentumPair, Pushed64, joint_row, solve_centres_64,
+    solve_joint, solve_joint_64, warm_centres_64, warm_joint, warm_joint_64,
 };
 use momenta::{
     BodyState, Ends, Exerted64, MassData, Momenta64, MomentaPair64, Motion, reciprocals_of,
@@ -236,6 +236,60 @@ fn a_pass_in_64_bits_is_the_pass(rt: HostRuntime) {
     let wanted = [
         after_64(-1, at(1, 0), at(-1, 0)),
         after_64(-5, at(5, 0), at(-5, 0)),
+        None,
+    ];
+    same_items(&rt, &left, &wanted);
+}
+
+/// What a pass between the centres leaves of the momenta of two bodies.
+fn pushed_64(total: i64, a: Vec2, b: Vec2) -> Option<Pushed64> {
+    Some(Pushed64 {
+        now: MomentumPair { a, b },
+        total,
+    })
+}
+
+/// What a pass between the centres leaves of two movers, the second of which has the momentum `q`.
+fn solved_centres(q: Vec2) -> Option<Pushed64>
+    requires { IsWithin (2 ^ 60) q }
+{
+    let ends = two_movers(ORIGIN, q);
+    solve_centres_64(&row_of(joint(984, 0), &ends), &ends.a, &ends.b)
+}
+
+/// The row of a joint of two movers that holds the first one by a point beside its centre.
+fn beside_the_centre(ends: &Ends) -> JointRow
+    requires states { AreStates ends.now }
+    requires mover { (ends.now.a.movable ≡ true) ⊎ (ends.now.b.movable ≡ true) }
+    ensures { IsJointRow result }
+{
+    let off = Joint {
+        from: Vec2 { x: 0, y: 8 },
+        to: ORIGIN,
+        length: 984,
+        impulse: -5,
+    };
+    row_of(off, ends)
+}
+
+/// Between the centres a pass changes the momenta alone. Great momenta have none, and no joint that holds another point.
+#[test]
+fn a_pass_between_centres_is_the_pass(rt: HostRuntime) {
+    let ends = two_movers(ORIGIN, ORIGIN);
+    let kept = row_of(joint(1000, -5), &ends);
+    let off = beside_the_centre(&ends);
+    let left = [
+        solved_centres(ORIGIN),
+        warm_centres_64(&kept, &ends.a, &ends.b),
+        solved_centres(Vec2 { x: 1 << 50, y: 0 }),
+        solve_centres_64(&off, &ends.a, &ends.b),
+        warm_centres_64(&off, &ends.a, &ends.b),
+    ];
+    let wanted = [
+        pushed_64(-1, at(1, 0), at(-1, 0)),
+        pushed_64(-5, at(5, 0), at(-5, 0)),
+        None,
+        None,
         None,
     ];
     same_items(&rt, &left, &wanted);

@@ -8,6 +8,8 @@ use Rattle.momenta.specs.declared.state.Ends.{Ends}
 use Rattle.momenta.specs.declared.line_64.MomentaPair64.{MomentaPair64}
 use Rattle.momenta.specs.ImpulseBounds.{AreStates, AreSameBodies, IsMomentumKept}
 use Rattle.momenta.specs.Line64.{both_ends, ends_with}
+use Rattle.joint_rows.specs.declared.centres_64.MomentumPair.{MomentumPair}
+use Rattle.joint_rows.specs.Centres64.{with_own_turning}
 use Rattle.colour_solver_base.specs.RowsAfter.{RowAfter}
 use Rattle.colour_solver.specs.declared.row_visits.Slots.{Slots}
 use Rattle.colour_solver.specs.States.{AreAllStates, AreSameStates, nobody, total}
@@ -22,6 +24,10 @@ with_ends at states r e = slice_set (slice_set states (at r).a e.a) (at r).b e.b
 -- the two bodies with these momenta
 abbrev pub ends_64 : {R : Type 0} → (R → Slots) → List BodyState → R → MomentaPair64 → Ends
 ends_64 at states r n = ends_with (slice_index_or states (at r).a nobody) (slice_index_or states (at r).b nobody) n
+
+-- the same, their angular momenta being as they are
+abbrev pub centres_64 : {R : Type 0} → (R → Slots) → List BodyState → R → MomentumPair → Ends
+centres_64 at states r n = ends_64 at states r (with_own_turning (slice_index_or states (at r).a nobody) (slice_index_or states (at r).b nobody) n)
 
 -- the visit of one row, the bodies standing so
 abbrev pub visit_of : {R : Type 0} → (R → Slots) → (R → Ends → RowAfter R) → List BodyState → R → RowAfter R
@@ -90,3 +96,7 @@ pub record IsVisit64 {R : Type 0} (is : R → Type 0) (t : RowAfter R) (a b : Bo
   pub states : AreStates (ends_with a b n)
   pub same : AreSameBodies (both_ends a b) (ends_with a b n)
   pub kept : IsMomentumKept (both_ends a b) (ends_with a b n)
+
+-- the same of a visit between the centres, which leaves their angular momenta alone
+abbrev pub IsCentreVisit64 : {R : Type 0} → (R → Type 0) → RowAfter R → BodyState → BodyState → R → MomentumPair → Type 0
+IsCentreVisit64 {R} is t a b r n = IsVisit64 is t a b r (with_own_turning a b n)

@@ -13,13 +13,24 @@ use colour_solver_base::{
     solve_row, solve_row_64, warm_row, warm_row_64,
 };
 use joint_rows::{
-    JointRow, has_no_impulse, solve_joint, solve_joint_64, warm_joint, warm_joint_64,
+    JointRow, MomentumPair, Pushed64, has_no_impulse, solve_centres_64, solve_joint,
+    solve_joint_64, warm_centres_64, warm_joint, warm_joint_64,
 };
 use momenta::{BodyState, Ends, Exerted64, MomentaPair64};
 
 /// Writes what a visit in 64 bits has made of a joint's impulse into its row. Answers the momenta of its bodies.
 #[inline(always)]
 fn put_impulse(row: &mut JointRow, visited: Exerted64) -> MomentaPair64
+    ensures row { row.new ≡ with_impulse row.old visited.total }
+    ensures now { result ≡ visited.now }
+{
+    row.impulse = visited.total;
+    visited.now
+}
+
+/// Writes what a visit between the centres has made of a joint's impulse into its row. Answers the momenta of its bodies.
+#[inline(always)]
+fn put_pushed(row: &mut JointRow, visited: Pushed64) -> MomentumPair
     ensures row { row.new ≡ with_impulse row.old visited.total }
     ensures now { result ≡ visited.now }
 {
@@ -71,6 +82,19 @@ impl Visit<JointRow> for Warm {
     }
 
     #[inline(always)]
+    fn visit_centres_64(
+        &self,
+        row: &mut JointRow,
+        a: &BodyState,
+        b: &BodyState,
+    ) -> Option<MomentumPair> {
+        match warm_centres_64(row, a, b) {
+            None => None,
+            Some(visited) => Some(put_pushed(row, visited)),
+        }
+    }
+
+    #[inline(always)]
     fn visit(&self, row: &mut JointRow, ends: &mut Ends) {
         warm_joint(row, ends);
     }
@@ -98,6 +122,16 @@ impl Visit<ContactRow> for Warm {
     }
 
     #[inline(always)]
+    fn visit_centres_64(
+        &self,
+        row: &mut ContactRow,
+        a: &BodyState,
+        b: &BodyState,
+    ) -> Option<MomentumPair> {
+        None
+    }
+
+    #[inline(always)]
     fn visit(&self, row: &mut ContactRow, ends: &mut Ends) {
         warm_row(row, ends);
     }
@@ -120,6 +154,19 @@ impl Visit<JointRow> for Solve {
         match solve_joint_64(row, a, b) {
             None => None,
             Some(visited) => Some(put_impulse(row, visited)),
+        }
+    }
+
+    #[inline(always)]
+    fn visit_centres_64(
+        &self,
+        row: &mut JointRow,
+        a: &BodyState,
+        b: &BodyState,
+    ) -> Option<MomentumPair> {
+        match solve_centres_64(row, a, b) {
+            None => None,
+            Some(visited) => Some(put_pushed(row, visited)),
         }
     }
 
@@ -151,6 +198,16 @@ impl Visit<ContactRow> for Solve {
     }
 
     #[inline(always)]
+    fn visit_centres_64(
+        &self,
+        row: &mut ContactRow,
+        a: &BodyState,
+        b: &BodyState,
+    ) -> Option<MomentumPair> {
+        None
+    }
+
+    #[inline(always)]
     fn visit(&self, row: &mut ContactRow, ends: &mut Ends) {
         solve_row(row, ends);
     }
@@ -174,6 +231,16 @@ impl Visit<JointRow> for Bounce {
     }
 
     #[inline(always)]
+    fn visit_centres_64(
+        &self,
+        row: &mut JointRow,
+        a: &BodyState,
+        b: &BodyState,
+    ) -> Option<MomentumPair> {
+        None
+    }
+
+    #[inline(always)]
     fn visit(&self, row: &mut JointRow, ends: &mut Ends) {}
 }
 
@@ -192,6 +259,16 @@ impl Visit<ContactRow> for Bounce {
         a: &BodyState,
         b: &BodyState,
     ) -> Option<MomentaPair64> {
+        None
+    }
+
+    #[inline(always)]
+    fn visit_centres_64(
+        &self,
+        row: &mut ContactRow,
+        a: &BodyState,
+        b: &BodyState,
+    ) -> Option<MomentumPair> {
         None
     }
 

@@ -8,12 +8,12 @@ ghost use Rattle.joint_rows.specs.Rows.{IsJointRow};
 ghost use Rattle.momenta.specs.Line64.{both_ends};
 ghost use Rattle.colour_solver_base.specs.Rows.{IsRow};
 ghost use Rattle.colour_solver.specs.ConstraintVisits.{contact_slots, joint_slots};
-ghost use Rattle.colour_solver.specs.RowVisits.{IsVisit64};
+ghost use Rattle.colour_solver.specs.RowVisits.{IsCentreVisit64, IsVisit64};
 ghost use Rattle.colour_solver.specs.Phases.{constraint_visit, contact_visit, joint_visit};
 
 use crate::{Bounce, ConstraintRow, Solve, Visit, Warm};
 use colour_solver_base::ContactRow;
-use joint_rows::JointRow;
+use joint_rows::{JointRow, MomentumPair};
 use momenta::{BodyState, Ends, MomentaPair64};
 
 /// A pass over constraints.
@@ -60,6 +60,27 @@ fn joint_64(phase: Phase, row: &mut JointRow, a: &BodyState, b: &BodyState) -> O
         Phase::Warm => Warm.visit_64(row, a, b),
         Phase::Solve => Solve.visit_64(row, a, b),
         Phase::Bounce => Bounce.visit_64(row, a, b),
+    }
+}
+
+#[inline(always)]
+fn joint_centres_64(
+    phase: Phase,
+    row: &mut JointRow,
+    a: &BodyState,
+    b: &BodyState,
+) -> Option<MomentumPair>
+    requires row { IsJointRow row.old }
+    requires first { IsState a.now }
+    requires second { IsState b.now }
+    ensures value { IfSome result (IsCentreVisit64 IsJointRow (joint_visit phase row.old (both_ends a.now b.now)) a.now b.now row.new) }
+    ensures slots { joint_slots row.new ≡ joint_slots row.old }
+    ensures none { result ≡ None → row.new ≡ row.old }
+{
+    match phase {
+        Phase::Warm => Warm.visit_centres_64(row, a, b),
+        Phase::Solve => Solve.visit_centres_64(row, a, b),
+        Phase::Bounce => Bounce.visit_centres_64(row, a, b),
     }
 }
 
@@ -138,6 +159,19 @@ impl Visit<ConstraintRow> for Phase {
         match row {
             ConstraintRow::Joint(joint) => joint_64(*self, joint, a, b),
             ConstraintRow::Contact(contact) => contact_64(*self, contact, a, b),
+        }
+    }
+
+    #[inline(always)]
+    fn visit_centres_64(
+        &self,
+        row: &mut ConstraintRow,
+        a: &BodyState,
+        b: &BodyState,
+    ) -> Option<MomentumPair> {
+        match row {
+            ConstraintRow::Joint(joint) => joint_centres_64(*self, joint, a, b),
+            ConstraintRow::Contact(_) => None,
         }
     }
 

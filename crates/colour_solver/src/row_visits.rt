@@ -9,10 +9,11 @@ ghost use Rattle.colour_solver_base.specs.RowsAfter.{RowAfter};
 ghost use Rattle.fixed_geom.specs.Vectors.{IsWithin, minus, plus};
 ghost use Rattle.colour_solver.specs.Colour.{ColoursAreAtOnce};
 ghost use Rattle.colour_solver.specs.States.{AreAllStates, AreSameStates, as_vector, total};
-ghost use Rattle.colour_solver.specs.RowVisits.{AreRowsOn, IsPassed, IsRowOn, IsVisit64, after, between, ends_64, ends_of, got, got_by, visit_of, with_ends};
+ghost use Rattle.colour_solver.specs.RowVisits.{AreRowsOn, IsPassed, IsCentreVisit64, IsRowOn, IsVisit64, after, between, centres_64, ends_64, ends_of, got, got_by, visit_of, with_ends};
 
 use body_handles::MAX_SLOTS;
 use fixed_geom::Vec2;
+use joint_rows::MomentumPair;
 use momenta::{BodyState, Ends, Gain, Momenta64, MomentaPair64, NOTHING, gain_between, plus};
 
 /// Where the two bodies of a row stand.
@@ -52,6 +53,16 @@ pub trait Visit<R: Row> {
         requires first { IsState a.now }
         requires second { IsState b.now }
         ensures value { IfSome result (IsVisit64 R.is_row (visit self.now row.old (both_ends a.now b.now)) a.now b.now row.new) }
+        ensures slots { R.slots row.new ≡ R.slots row.old }
+        ensures none { result ≡ None → row.new ≡ row.old };
+
+    /// The same visit in 64 bits of a row between the centres of its bodies: their angular momenta stay as they are, and the answer has the
+    /// momenta alone. Where the row isn't one, or there is no room, it stays as it is.
+    fn visit_centres_64(&self, row: &mut R, a: &BodyState, b: &BodyState) -> Option<MomentumPair>
+        requires row { R.is_row row.old }
+        requires first { IsState a.now }
+        requires second { IsState b.now }
+        ensures value { IfSome result (IsCentreVisit64 R.is_row (visit self.now row.old (both_ends a.now b.now)) a.now b.now row.new) }
         ensures slots { R.slots row.new ≡ R.slots row.old }
         ensures none { result ≡ None → row.new ≡ row.old };
 
@@ -175,6 +186,74 @@ fn visit_row_64<R: Row, T: Visit<R>>(
     visit.visit_64(row, &states[slots.a as usize], &states[slots.b as usize])
 }
 
+/// The visit of one row that has something to do: in 64 bits, where there is room. Answers what the immovable body has given, if one is.
+#[inline(always)]
+fn visit_in_place<R: Row, T: Visit<R>>(states: &mut Vec<BodyState>, row: &mut R, visit: &T) -> Gain
+    requires states { AreAllStates states.old.items }
+    requires row { IsRowOn R.slots R.is_row (length states.old.items) row.old }
+    ensures states { states.new.items ≡ after R.slots (T.visit visit.now) states.old.items row.old }
+    ensures row { row.new ≡ (visit_of R.slots (T.visit visit.now) states.old.items row.old).row }
+    ensures got { as_vector result ≡ got (ends_of R.slots states.old.items row.old) (visit_of R.slots (T.visit visit.now) states.old.items row.old).ends }
+    ensures all_states { AreAllStates states.new.items }
+    ensures below { IsRowOn R.slots R.is_row (length states.new.items) row.new }
+    ensures long { length states.new.items ≡ length states.old.items }
+    ensures same { AreSameStates states.old.items states.new.items }
+    ensures momentum { total states.new.items ≡ plus (total states.old.items) (as_vector result) }
+    ensures small { IsGain (2 ^ 62) result }
+{
+    let slots = row.slots();
+    match visit_row_64(states, row, visit) {
+        None => visit_bodies(states, row, visit),
+        Some(now) => put_visit(states, slots, now),
+    }
+}
+
+/// Puts this momentum into a body.
+#[inline(always)]
+fn put_momentum(body: &mut BodyState, p: Vec2)
+    ensures { body.new ≡ with_momenta body.old (record { p = p; l = body.old.motion.l }) }
+{
+    body.motion.p = p;
+}
+
+/// Puts the momenta that a visit between their centres has given the bodies in these slots in their places. Answers what the immovable one
+/// has given, if one is.
+#[inline(always)]
+fn put_centres(states: &mut Vec<BodyState>, slots: Slots, now: MomentumPair) -> Gain
+    requires states { AreAllStates states.old.items }
+    requires first { slots.a < length states.old.items }
+    requires second { slots.b < length states.old.items }
+    requires apart { slots.a ≢ slots.b }
+    requires after { AreStates (centres_64 (λ s. s) states.old.items slots now) }
+    ensures states { states.new.items ≡ with_ends (λ s. s) states.old.items slots (centres_64 (λ s. s) states.old.items slots now) }
+    ensures got { as_vector result ≡ got (ends_of (λ s. s) states.old.items slots) (centres_64 (λ s. s) states.old.items slots now) }
+    ensures small { IsGain (2 ^ 62) result }
+{
+    let a = slots.a as usize;
+    let b = slots.b as usize;
+    let given = got(&states[a], &states[b], now.a, now.b);
+    put_momentum(&mut states[a], now.a);
+    put_momentum(&mut states[b], now.b);
+    given
+}
+
+/// The visit of one row between the centres of its bodies, in 64 bits, where there is room.
+#[inline(always)]
+fn visit_row_centres_64<R: Row, T: Visit<R>>(
+    states: &[BodyState],
+    row: &mut R,
+    visit: &T,
+) -> Option<MomentumPair>
+    requires states { AreAllStates states.now }
+    requires row { IsRowOn R.slots R.is_row (length states.now) row.old }
+    ensures value { IfSome result (IsCentreVisit64 R.is_row (visit_of R.slots (T.visit visit.now) states.now row.old) (ends_of R.slots states.now row.old).a (ends_of R.slots states.now row.old).b row.new) }
+    ensures slots { R.slots row.new ≡ R.slots row.old }
+    ensures none { result ≡ None → row.new ≡ row.old }
+{
+    let slots = row.slots();
+    visit.visit_centres_64(row, &states[slots.a as usize], &states[slots.b as usize])
+}
+
 /// The visit of one row with its two bodies among `states`, as the definition has it. Answers what an immovable body has given
 /// (mass·u/tick), by which the movers' momentum grows.
 #[inline(always)]
@@ -195,9 +274,9 @@ pub fn solve_one<R: Row, T: Visit<R>>(states: &mut Vec<BodyState>, row: &mut R, 
         return NOTHING;
     }
     let slots = row.slots();
-    match visit_row_64(states, row, visit) {
-        None => visit_bodies(states, row, visit),
-        Some(now) => put_visit(states, slots, now),
+    match visit_row_centres_64(states, row, visit) {
+        None => visit_in_place(states, row, visit),
+        Some(now) => put_centres(states, slots, now),
     }
 }
 

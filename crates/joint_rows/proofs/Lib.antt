@@ -1,2 +1,3 @@
 pub mod JointRows
 mod Laws64
+mod CentreLaws

@@ -6,6 +6,7 @@
 //! and clamped impulse with a warm start, and a bias velocity that takes the error away.
 #![tactic(auto)]
 
+mod centres_64;
 mod joint;
 mod laws;
 mod limits;
@@ -13,6 +14,7 @@ mod row;
 mod row_64;
 mod solve;
 
+pub use centres_64::{MomentumPair, Pushed64, solve_centres_64, warm_centres_64};
 pub use joint::Joint;
 pub use laws::rows_are_joints;
 pub use limits::{

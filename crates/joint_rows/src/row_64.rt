@@ -17,7 +17,7 @@ use momenta::{
 
 /// The impulse of a joint in a solver pass, its bodies having the momenta `now`.
 #[inline(always)]
-fn solve_with_64(
+pub(crate) fn solve_with_64(
     row: &JointRow,
     a: &BodyState,
     b: &BodyState,
@@ -60,7 +60,7 @@ pub fn solve_joint_64(row: &JointRow, a: &BodyState, b: &BodyState) -> Option<Ex
 
 /// The warm start of a joint, its bodies having the momenta `now`.
 #[inline(always)]
-fn warm_with_64(
+pub(crate) fn warm_with_64(
     row: &JointRow,
     a: &BodyState,
     b: &BodyState,
