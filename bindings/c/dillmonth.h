@@ -232,8 +232,8 @@ dm_status dm_twist(dm_world *world, dm_handle body, int64_t by);                
   * the opposite one at it. Up to 2^40 it is met, up to 2^60 to the nearest 2^20. 2, 6, 8, 5, 9; 10 and 1 may also come between the two, and the first stays */
 dm_status dm_twist_to(dm_world *world, dm_handle body, int64_t spin);                         /* a mover's spin, by the twist inertia * spin / 2^30 - l. As dm_twist */
 dm_status dm_set_target(dm_world *world, dm_handle body, dm_vec at, dm_rot facing, int64_t ticks); /* the course that leads a kinematic body to a pose in a
-  * step of so many ticks, which it keeps after it: the way, and the tangent of the angle, by the ticks. In one tick it is met. In several a turn of 10 degrees
-  * comes out a hundredth too large, and one of 40 a fifth. 2, 15, 8; 5 also for a quarter of a turn or more */
+  * step of so many ticks, which it keeps after it: the way by the ticks, and the spin that turns by the angle in them. The place is met to half a u a tick, and
+  * the facing as near as a spin comes to it: to some 2^-30 of a turn a tick. 2, 15, 8; 5 also for a quarter of a turn or more */
 DM_KEEP dm_status dm_step(dm_world *world, int64_t ticks, uint64_t *step);                    /* 1 to 8 ticks; *step: its number, from 1. 5.
   * A world books what its momentum gains. A program calls dm_settle now and then, as after each step: that takes no memory, and changes
   * nothing that a call answers, nor the digest. Without it up to some hundred bytes are kept for each step. */

@@ -82,6 +82,11 @@ static void without_a_world(void) {
   dm_close(&world);
 }
 
+static int is_near(dm_rot one, dm_rot other, int64_t parts) {
+  int64_t c = one.c - other.c, s = one.s - other.s;
+  return c <= parts && -c <= parts && s <= parts && -s <= parts;
+}
+
 /* Motions that are set: what they give, and what they are refused for. */
 static void in_motion(void) {
   dm_world world = DM_NONE;
@@ -105,10 +110,39 @@ static void in_motion(void) {
   WANT(dm_push_to(&world, ball, (dm_vec){INT64_MAX, INT64_MIN}) == DM_OUT_OF_RANGE);
   WANT(dm_twist(&world, ball, INT64_MIN) == DM_OUT_OF_RANGE && dm_twist_to(&world, ball, INT64_MAX) == DM_OUT_OF_RANGE && dm_twist(&world, lift, 1) == DM_NOT_A_MOVER);
   WANT(dm_set_target(&world, lift, (dm_vec){21 * METRE, 4000}, tenth, 8) == DM_DONE && dm_step(&world, 8, &step) == DM_DONE && dm_body(&world, lift, &view) == DM_DONE);
-  WANT(view.pose.at.x == 21 * METRE && view.pose.at.y == 4000 && view.pose.facing.s > tenth.s * 0.98 && view.pose.facing.s < tenth.s * 1.02);
+  WANT(view.pose.at.x == 21 * METRE && view.pose.at.y == 4000 && is_near(view.pose.facing, tenth, 8));
   WANT(dm_set_target(&world, lift, (dm_vec){21 * METRE, 0}, half, 1) == DM_OUT_OF_RANGE && dm_set_target(&world, lift, (dm_vec){0, 0}, tenth, 9) == DM_OUT_OF_RANGE);
   WANT(dm_set_target(&world, lift, (dm_vec){0, 0}, (dm_rot){0, 0}, 1) == DM_OUT_OF_RANGE && dm_set_target(&world, ball, (dm_vec){0, 0}, tenth, 1) == DM_NOT_KINEMATIC);
   WANT(dm_set_target(&world, lift, (dm_vec){0, INT64_MIN}, tenth, INT64_MIN) == DM_OUT_OF_RANGE && dm_set_target(&world, nobody, (dm_vec){0, 0}, tenth, 1) == DM_STALE_HANDLE);
+  dm_close(&world);
+}
+
+/* A turn of several ticks ends at its target, but for some parts in 2^30 a tick; one that would be faster than a spin may be is refused. */
+static void to_facings(void) {
+  dm_world world = DM_NONE;
+  dm_handle lift;
+  dm_shape shape = {DM_CIRCLE, 0, {0, 0}, {0, 0}, METRE, 0, 0, 1, UINT64_MAX};
+  dm_body_def def = {DM_KINEMATIC, 0, {0, 0}, {1 << 30, 0}, 0, 0, {0, 0}, 0};
+  dm_course course;
+  dm_view view;
+  uint64_t step = 0;
+  int met = 0, refused = 0;
+  WANT(dm_open(&world, (dm_vec){0, 0}) == DM_DONE && dm_create_body(&world, &def, &shape, 1, &lift) == DM_DONE);
+  for (int64_t ticks = 1; ticks <= 8; ticks++)
+    for (int degrees = -95; degrees <= 95; degrees += 5) {
+      int from = degrees * 3, is_far = degrees < -14 * ticks || degrees > 14 * ticks || degrees <= -90 || degrees >= 90;
+      dm_rot start = dm_degrees(from), end = dm_degrees(from + degrees);
+      WANT(dm_set_pose(&world, lift, (dm_vec){METRE, 0}, start) == DM_DONE);
+      dm_status status = dm_set_target(&world, lift, (dm_vec){METRE, 0}, end, ticks);
+      WANT(status == (is_far ? DM_OUT_OF_RANGE : DM_DONE));
+      if (is_far) refused++;
+      else {
+        WANT(dm_step(&world, ticks, &step) == DM_DONE && dm_body(&world, lift, &view) == DM_DONE && dm_motion(&world, lift, &course) == DM_DONE);
+        WANT(is_near(view.pose.facing, end, ticks + 2) && view.pose.at.x == METRE && (course.spin > 0) == (degrees > 0));
+        met++;
+      }
+    }
+  WANT(met > 150 && refused > 100);
   dm_close(&world);
 }
 
@@ -449,6 +483,7 @@ int main(void) {
   in_a_batch();
   in_a_journal();
   in_motion();
+  to_facings();
   in_all_steps();
   puts("each call answers as it should");
   return 0;

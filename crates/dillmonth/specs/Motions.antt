@@ -1,8 +1,9 @@
 -- Trusted: The velocity and the spin of a body, and what brings it to others.
-use Rattle.std.specs.Prelude.{◌+◌, ◌^◌, Bool, ◌&&◌, cond, Option, Some, None, nat_le, ℤ, pos, ◌-ℤ◌, ◌*ℤ◌, unsigned_abs, int_le, int_lt, ◌≤ℤ◌}
-use Rattle.fixed_geom.specs.Facings.{IsFacing, direction, is_facing}
+use Rattle.std.specs.Prelude.{ℕ, zero, suc, ◌+◌, ◌^◌, Bool, ◌&&◌, cond, Option, Some, None, nat_le, ℤ, pos, ◌+ℤ◌, ◌-ℤ◌, ◌*ℤ◌, unsigned_abs, int_le, int_lt, ◌≤ℤ◌}
+use Rattle.fixed_geom.specs.Facings.{IsFacing, direction, is_facing, turn}
 use Rattle.fixed_geom.specs.Numbers.{rdiv}
 use Rattle.fixed_geom.specs.Vectors.{IsWithin, cross, dot, is_within, unit_length, zero_vector}
+use Rattle.fixed_geom.specs.declared.facings.Rot.{Rot}
 use Rattle.fixed_geom.specs.declared.vectors.Vec2.{Vec2}
 use Rattle.momenta.specs.Motions.{limited, spin, velocity}
 use Rattle.momenta.specs.declared.motion.Motion.{Motion}
@@ -35,10 +36,37 @@ push_to (Some b) v = record { x = push_part (b.mass.mass *ℤ v.x -ℤ b.motion.
 abbrev pub no_way : Course
 no_way = record { velocity = record { x = pos (2 ^ 20 + 1); y = pos 0 }; spin = pos 0 }
 
--- the spin that turns one direction into another in so many ticks, by the tangent of the angle between them; beyond its limit where that is a quarter of a
--- turn or more
+-- the share of each of n ticks in the tangent of the angle between two directions; beyond the limit of a spin where that is a quarter of a turn or more
 abbrev pub spin_between : Vec2 → Vec2 → ℤ → ℤ
 spin_between from to n = cond (int_lt (pos 0) (dot from to)) (limited (2 ^ 28 + 1) (rdiv (rdiv (cross from to *ℤ unit_length) (dot from to)) n)) (pos (2 ^ 28 + 1))
+
+-- the facing after n ticks of a spin
+abbrev pub turned : ℕ → ℤ → Rot → Rot
+turned zero w q = q
+turned (suc n) w q = turn (turned n w q) w
+
+-- what the turn of n ticks of a spin lacks to a facing, as the share of each
+abbrev pub missed : Rot → Rot → ℤ → ℤ → ℤ
+missed from to n w = spin_between (direction (turned (unsigned_abs n) w from)) (direction to) n
+
+-- a number times the square of a tangent
+abbrev pub by_square : ℤ → ℤ → ℤ
+by_square m w = rdiv (m *ℤ rdiv (w *ℤ w) unit_length) unit_length
+
+-- a spin with what its turn missed made up for: a tangent grows by the angle times one and its own square
+abbrev pub made_up : ℤ → ℤ → ℤ
+made_up w m = w +ℤ (m +ℤ by_square m w)
+
+-- a spin whose turn of n ticks misses a facing by less: a step of Newton's method from one that a body may have
+unfoldable pub corrected : Rot → Rot → ℤ → ℤ → ℤ
+corrected from to n w = made_up (limited (2 ^ 28) w) (missed from to n (limited (2 ^ 28) w))
+
+abbrev pub is_sharp : Rot → Rot → Bool
+is_sharp from to = int_lt (pos 0) (dot (direction from) (direction to))
+
+-- the spin that turns one facing into another in n ticks: four steps from the share of a tick; beyond its limit for a quarter of a turn or more
+abbrev pub spin_to : Rot → Rot → ℤ → ℤ
+spin_to from to n = cond (is_sharp from to) (limited (2 ^ 28 + 1) (corrected from to n (corrected from to n (corrected from to n (corrected from to n (spin_between (direction from) (direction to) n)))))) (pos (2 ^ 28 + 1))
 
 -- a pose that a body may have, and a number of ticks that a step may take
 abbrev pub is_target : Pose → ℤ → Bool
@@ -54,7 +82,7 @@ pub record IsTarget (to : Pose) (n : ℤ) : Type 0 where
 abbrev pub course_between : Motion → Pose → ℤ → Course
 course_between s to n = record {
   velocity = record { x = rdiv (to.x.x -ℤ s.x.x) n; y = rdiv (to.x.y -ℤ s.x.y) n };
-  spin = spin_between (direction s.rot) (direction to.rot) n;
+  spin = spin_to s.rot to.rot n;
 }
 
 abbrev pub course_from : Motion → Pose → ℤ → Course

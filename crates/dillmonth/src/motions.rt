@@ -1,17 +1,17 @@
 //! The velocity and the spin of a body, and what brings it to others: numbers alone, with no world.
 
-ghost use Rattle.std.specs.Prelude.{◌≡◌, ◌+◌, ◌≤◌, ◌^◌, IfSome, IsTrue, pos, ◌-ℤ◌, ◌*ℤ◌, ◌<ℤ◌, unsigned_abs};
+ghost use Rattle.std.specs.Prelude.{◌≡◌, ◌+◌, ◌≤◌, ◌^◌, IfSome, IsTrue, pos, ◌+ℤ◌, ◌-ℤ◌, ◌*ℤ◌, ◌<ℤ◌, unsigned_abs};
 ghost use Rattle.std.specs.Option.{option_copied};
 ghost use Rattle.fixed_geom.specs.Facings.{IsFacing, direction};
 ghost use Rattle.fixed_geom.specs.Numbers.{rdiv};
 ghost use Rattle.fixed_geom.specs.Vectors.{IsWithin, unit_length};
 ghost use Rattle.momenta.specs.Motions.{IsMass, IsMotion, limited, spin, velocity};
 ghost use Rattle.plain_world.specs.Bodies.{IsBody};
-ghost use Rattle.dillmonth.specs.Motions.{IsTarget, course_between, course_from, course_to, is_target, lever, motion_of, push_part, push_to, spin_between, twist_from, twist_push, twist_to};
+ghost use Rattle.dillmonth.specs.Motions.{IsTarget, by_square, corrected, course_between, course_from, course_to, is_sharp, is_target, lever, made_up, missed, motion_of, push_part, push_to, spin_between, spin_to, turned, twist_from, twist_push, twist_to};
 
 use fixed_geom::{
     MAX_POSITION, MAX_SPIN, Rot, UNIT, Vec2, cross, dot, is_facing, is_within, product, rdiv,
-    rdiv_64, scaled,
+    rdiv_64, scaled, turn,
 };
 use momenta::{MAX_SPEED, MassData, Motion, spin, velocity};
 use plain_world::{Body, Course, Kind, NO_COURSE};
@@ -96,7 +96,8 @@ const NO_WAY: Course = Course {
 
 /// A spin: one that is beyond its limit stays beyond it, so that it is refused.
 fn spin_part(spin: i128) -> i64
-    ensures { result ≡ limited (2 ^ 28 + 1) spin }
+    ensures value { result ≡ limited (2 ^ 28 + 1) spin }
+    ensures size { unsigned_abs result ≤ 2 ^ 28 + 1 }
 {
     if spin > i128::from(BEYOND_SPIN) {
         BEYOND_SPIN
@@ -120,18 +121,20 @@ fn spin_of(across: i128, along: i128, ticks: i64) -> i64
     requires across { unsigned_abs across ≤ 2 ^ 64 }
     requires positive { pos 0 <ℤ along }
     requires ticks { pos 0 <ℤ ticks }
-    ensures { result ≡ limited (2 ^ 28 + 1) (rdiv (rdiv (across *ℤ unit_length) along) ticks) }
+    ensures value { result ≡ limited (2 ^ 28 + 1) (rdiv (rdiv (across *ℤ unit_length) along) ticks) }
+    ensures size { unsigned_abs result ≤ 2 ^ 28 + 1 }
 {
     let tangent = rdiv(scaled_up(across), along);
     spin_part(rdiv(tangent, i128::from(ticks)))
 }
 
-/// The spin that turns one direction into another in so many ticks, by the tangent of the angle between them.
+/// The share of each of so many ticks in the tangent of the angle between two directions.
 fn spin_between(from: Vec2, to: Vec2, ticks: i64) -> i64
     requires from { IsWithin (2 ^ 31) from }
     requires to { IsWithin (2 ^ 31) to }
     requires ticks { pos 0 <ℤ ticks }
-    ensures { result ≡ spin_between from to ticks }
+    ensures value { result ≡ spin_between from to ticks }
+    ensures size { unsigned_abs result ≤ 2 ^ 28 + 1 }
 {
     let along = dot(from, to);
     if along > 0 {
@@ -150,6 +153,120 @@ fn direction(facing: Rot) -> Vec2
     Vec2 {
         x: facing.c,
         y: facing.s,
+    }
+}
+
+/// The facing after so many ticks of a spin.
+fn turned(facing: Rot, spin: i64, ticks: i64) -> Rot
+    requires facing { IsFacing facing }
+    requires spin { unsigned_abs spin ≤ 2 ^ 28 }
+    ensures value { result ≡ turned (unsigned_abs ticks) spin facing }
+    ensures facing { IsFacing result }
+{
+    let mut now = facing;
+    for tick in 0..ticks.unsigned_abs() {
+        now = turn(now, spin);
+    }
+    now
+}
+
+/// What the turn of so many ticks of a spin lacks to a facing, as `spin_between` has it.
+fn missed(from: Rot, to: Rot, ticks: i64, spin: i64) -> i64
+    requires from { IsFacing from }
+    requires to { IsFacing to }
+    requires ticks { pos 0 <ℤ ticks }
+    requires spin { unsigned_abs spin ≤ 2 ^ 28 }
+    ensures value { result ≡ missed from to ticks spin }
+    ensures size { unsigned_abs result ≤ 2 ^ 28 + 1 }
+{
+    spin_between(direction(turned(from, spin, ticks)), direction(to), ticks)
+}
+
+/// A spin that a body may have: one beyond the limit is put on it.
+fn possible_spin(spin: i128) -> i64
+    ensures value { result ≡ limited (2 ^ 28) spin }
+    ensures size { unsigned_abs result ≤ 2 ^ 28 }
+{
+    if spin > i128::from(MAX_SPIN) {
+        MAX_SPIN
+    } else if spin < -i128::from(MAX_SPIN) {
+        -MAX_SPIN
+    } else {
+        spin as i64
+    }
+}
+
+/// A number times the square of a tangent.
+fn by_square(missed: i64, spin: i64) -> i64
+    requires missed { unsigned_abs missed ≤ 2 ^ 28 + 1 }
+    requires spin { unsigned_abs spin ≤ 2 ^ 28 }
+    ensures { result ≡ by_square missed spin }
+{
+    scaled(missed, scaled(spin, spin))
+}
+
+/// The sum of two numbers of 64 bits.
+fn sum_of(first: i64, second: i64) -> i128
+    ensures value { result ≡ first +ℤ second }
+    ensures size { unsigned_abs result ≤ 2 ^ 64 }
+{
+    i128::from(first) + i128::from(second)
+}
+
+/// A spin with what its turn missed made up for. A tangent grows by its angle times one and its own square.
+fn made_up(spin: i64, missed: i64) -> i128
+    requires spin { unsigned_abs spin ≤ 2 ^ 28 }
+    requires missed { unsigned_abs missed ≤ 2 ^ 28 + 1 }
+    ensures { result ≡ made_up spin missed }
+{
+    i128::from(spin) + sum_of(missed, by_square(missed, spin))
+}
+
+/// A spin whose turn of so many ticks misses a facing by less than that of another one does: a step of Newton's method.
+#[tactic(auto, unfolding(crate::specs::Motions::corrected))]
+fn corrected(from: Rot, to: Rot, ticks: i64, spin: i128) -> i128
+    requires from { IsFacing from }
+    requires to { IsFacing to }
+    requires ticks { pos 0 <ℤ ticks }
+    ensures { result ≡ corrected from to ticks spin }
+{
+    let possible = possible_spin(spin);
+    made_up(possible, missed(from, to, ticks, possible))
+}
+
+/// Whether the angle between two facings is less than a quarter of a turn.
+fn is_sharp(from: Rot, to: Rot) -> bool
+    requires from { IsFacing from }
+    requires to { IsFacing to }
+    ensures { result ≡ is_sharp from to }
+{
+    dot(direction(from), direction(to)) > 0
+}
+
+/// A spin that is corrected four times.
+fn much_corrected(from: Rot, to: Rot, ticks: i64, spin: i128) -> i128
+    requires from { IsFacing from }
+    requires to { IsFacing to }
+    requires ticks { pos 0 <ℤ ticks }
+    ensures { result ≡ corrected from to ticks (corrected from to ticks (corrected from to ticks (corrected from to ticks spin))) }
+{
+    let twice = corrected(from, to, ticks, corrected(from, to, ticks, spin));
+    corrected(from, to, ticks, corrected(from, to, ticks, twice))
+}
+
+/// The spin that turns one facing into another in so many ticks: the share of a tick in the tangent of the angle, corrected four times. Tests find none that
+/// comes nearer, but for those next to it.
+fn spin_to(from: Rot, to: Rot, ticks: i64) -> i64
+    requires from { IsFacing from }
+    requires to { IsFacing to }
+    requires ticks { pos 0 <ℤ ticks }
+    ensures { result ≡ spin_to from to ticks }
+{
+    if is_sharp(from, to) {
+        let first = spin_between(direction(from), direction(to), ticks);
+        spin_part(much_corrected(from, to, ticks, i128::from(first)))
+    } else {
+        BEYOND_SPIN
     }
 }
 
@@ -193,7 +310,7 @@ fn course_between(motion: &Motion, to: Pose, ticks: i64) -> Course
             x: way_part(motion.x.x, to.x.x, ticks),
             y: way_part(motion.x.y, to.x.y, ticks),
         },
-        spin: spin_between(direction(motion.rot), direction(to.rot), ticks),
+        spin: spin_to(motion.rot, to.rot, ticks),
     }
 }
 

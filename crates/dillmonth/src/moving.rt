@@ -123,9 +123,10 @@ fn steer_body_to(alloc: Global, desk: &mut Desk, body: Handle, to: Pose, ticks: 
     answer_to(alloc, desk, Command::SetVelocity(body, course)).status
 }
 
-/// Gives a kinematic body the velocity and the spin that lead it to a pose in a step of so many ticks: the way by the ticks, and the tangent of the angle between
-/// the facings by the ticks, each to the nearest. So a small angle is met, and a larger one nearly. It keeps that course after the step. Refused as
-/// `dm_set_velocity`: 5 where no body may have the pose, the ticks aren't 1 to 8, the angle is a quarter of a turn or more, or the course is beyond its limits.
+/// Gives a kinematic body the velocity and the spin that lead it to a pose in a step of so many ticks: the way by the ticks, to the nearest, and the spin whose
+/// turn of so many ticks ends at the facing, as near as a whole number comes to it. It keeps that course after the step. An impulse is booked for no body.
+/// Refused as `dm_set_velocity`: 5 where no body may have the pose, the ticks aren't 1 to 8, the angle is a quarter of a turn or more, or the course is beyond
+/// its limits.
 #[unsafe(no_mangle)]
 pub extern "C" fn dm_set_target(
     alloc: Global,
