@@ -49,9 +49,9 @@ plain_said c =
 abbrev pub command_said : List CShape → CCommand → Result Command ℕ
 command_said shapes c =
     if c.unused == 0 then
-      (if c.kind == 0 then creation_said c (span_of c shapes)
-      else if c.kind == 2 then joined (joint_said c.joint)
-      else known (plain_said c))
+    (if c.kind == 0 then creation_said c (span_of c shapes)
+    else if c.kind == 2 then joined (joint_said c.joint)
+    else known (plain_said c))
     else Err OUT_OF_RANGE
 
 -- the answer to one command of a batch: that of the rules, or why it says none, or want of memory for its shapes
