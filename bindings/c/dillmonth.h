@@ -300,6 +300,8 @@ DM_KEEP dm_status dm_shapes(const dm_world *world, dm_handle body, dm_shape *out
 DM_KEEP dm_status dm_joints_of(const dm_world *world, dm_handle body, dm_handle *out, size_t out_len, size_t *count); /* of a body, by slot. 32, 2, 1 */
 DM_KEEP dm_status dm_contacts_of(const dm_world *world, dm_handle body, dm_contact *out, size_t out_len, size_t *count); /* ascending; all contacts are
   * looked at. 32, 2, 1 */
+uint32_t dm_colour_of(const dm_world *world, dm_shape_id first, dm_shape_id second); /* of the contact of two shapes, as its dm_pair has them, while it acts: 0 to 23, 24
+  * in the overflow; else DM_NO_COLOUR */
 dm_handle dm_body_in(const dm_world *world, uint32_t slot);                          /* the id of the body in a slot, as of an event; else { 0, 0 } */
 dm_handle dm_joint_in(const dm_world *world, uint32_t slot);                         /* the same of joints */
 size_t dm_joints(const dm_world *world, dm_handle *out, size_t out_len);             /* all joints, by slot: answers how many there are */

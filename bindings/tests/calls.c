@@ -56,6 +56,7 @@ static void without_a_world(void) {
   WANT(dm_shapes(&world, made, &shape, 1, &count) == DM_NO_WORLD && dm_joints_of(&world, made, &made, 1, &count) == DM_NO_WORLD);
   WANT(dm_contacts_of(&world, made, &contact, 1, &count) == DM_NO_WORLD && count == 9);
   WANT(dm_body_in(&world, 0).generation == 0 && dm_joint_in(&world, 0).generation == 0 && dm_joints(&world, &made, 1) == 0);
+  WANT(dm_colour_of(&world, id, id) == DM_NO_COLOUR);
   WANT(dm_count(&world, &counts) == DM_NO_WORLD && dm_total_of(&world, 0, &sum) == DM_NO_WORLD && dm_total(&world, &sum) == DM_NO_WORLD);
   WANT(dm_ray_through(&world, (dm_vec){0, 0}, (dm_vec){1, 1}, &all, &hit) == DM_NO_WORLD);
   WANT(dm_ray_all(&world, (dm_vec){0, 0}, (dm_vec){1, 1}, &all, &count) == DM_NO_WORLD && dm_hits_found(&world, &hit, 1) == 0);
@@ -296,6 +297,10 @@ static void what_there_is(void) {
   WANT(dm_body_in(&world, 5).generation == 1 && dm_body_in(&world, 6).generation == 0 && dm_joint_in(&world, joint.slot).generation == joint.generation);
   WANT(dm_contacts_of(&world, (dm_handle){1, 1}, contacts, 32, &count) == DM_DONE && count >= 1);
   for (size_t i = 0; i < count; i++) WANT(contacts[i].pair.first.slot == 1 || contacts[i].pair.second.slot == 1);
+  uint32_t colour = dm_colour_of(&world, contacts[0].pair.first, contacts[0].pair.second);
+  WANT(contacts[0].points > 0 ? colour <= 24 : colour == DM_NO_COLOUR);
+  WANT(dm_colour_of(&world, contacts[0].pair.second, contacts[0].pair.first) == DM_NO_COLOUR);
+  WANT(dm_colour_of(&world, contacts[0].pair.first, (dm_shape_id){contacts[0].pair.second.slot, 256}) == DM_NO_COLOUR);
   WANT(dm_count(&world, &counts) == DM_DONE && counts.bodies == 6 && counts.joints == 1 && counts.touching <= counts.contacts && counts.islands >= 1);
   WANT(dm_total(&world, &sum) == DM_DONE);
   uint64_t x = 0, y = 0;

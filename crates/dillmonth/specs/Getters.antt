@@ -3,12 +3,16 @@ use Rattle.std.specs.Prelude.{◌≡◌, ℕ, zero, suc, ◌++◌, ◌/◌, ◌%
 use Rattle.std.specs.Int.{cast_signed, cast_unsigned, w64, w128}
 use Rattle.body_handles.specs.declared.handle.Handle.{Handle}
 use Rattle.body_handles.specs.declared.slot_table.SlotEntry.{SlotEntry}
-use Rattle.contacts.specs.declared.constraint.Constraint.TheVariants.{Joint}
+use Rattle.contacts.specs.declared.constraint.Constraint.TheVariants.{Joint, Contact}
+use Rattle.contacts_base.specs.declared.key.ContactKey.{ContactKey}
+use Rattle.contacts_base.specs.declared.key.ShapeId.{ShapeId}
 use Rattle.dillmonth.specs.Forms.{handle_said, handle_shown, nobody, vector_shown}
 use Rattle.dillmonth.specs.Lists.{contact_shown, list_of, written}
+use Rattle.dillmonth.specs.OnShape.{id_said}
 use Rattle.dillmonth.specs.declared.forms.CContact.{CContact}
 use Rattle.dillmonth.specs.declared.forms.CHandle.{CHandle}
 use Rattle.dillmonth.specs.declared.forms.CShape.{CShape}
+use Rattle.dillmonth.specs.declared.forms.CShapeId.{CShapeId}
 use Rattle.dillmonth.specs.declared.getter_forms.CBodyInfo.{CBodyInfo}
 use Rattle.dillmonth.specs.declared.getter_forms.CCounts.{CCounts}
 use Rattle.dillmonth.specs.declared.getter_forms.CJointView.{CJointView}
@@ -114,6 +118,23 @@ joints_shown w h = option_map (λ (b : Body). map handle_shown (joints_at h.slot
 -- of the contacts that a body has, ascending by key
 abbrev pub contacts_shown : Plain → CHandle → Option (List CContact)
 contacts_shown w h = option_map (λ (b : Body). map contact_shown (contacts_at h.slot w.contacts)) (body_named w (handle_said h))
+
+-- ---- colours
+
+-- the name of a contact, where both of its shapes have names
+abbrev pub key_of : Option ShapeId → Option ShapeId → Option ContactKey
+key_of None second = None
+key_of (Some first) None = None
+key_of (Some first) (Some second) = Some (record { first = first; second = second })
+
+-- the colour of the contact of this name, if there is one that acts
+abbrev pub contact_colour : Plain → Option ContactKey → Option ℕ
+contact_colour w None = None
+contact_colour w (Some key) = colour_of (Contact key) w.colours
+
+abbrev pub colour_in : Option Desk → CShapeId → CShapeId → ℕ
+colour_in None first second = number_or_none None
+colour_in (Some desk) first second = number_or_none (contact_colour desk.world.plain (key_of (id_said first) (id_said second)))
 
 -- ---- ids by slot
 

@@ -1,17 +1,21 @@
-//! What a body and a joint are, and which joints and contacts a body has. Nothing here changes a world.
+//! What a body and a joint are, which joints and contacts a body has, and the colour of a contact. Nothing here changes a world.
 
 ghost use Rattle.std.specs.Prelude.{◌≡◌, ◌≤◌, ◌^◌, IfSome, cond, length, option_map};
 ghost use Rattle.body_handles.specs.declared.slot_table.TheConstants.{MAX_SLOTS};
 ghost use Rattle.dillmonth.specs.Forms.{handle_said, handle_shown};
-ghost use Rattle.dillmonth.specs.Getters.{AreContactsIn, AreJointsIn, AreShapesIn, AreWritten, AreWrittenOrWanting, IsInfoIn, IsJointIn, IsWritten, body_in, contacts_shown, id_shown, ids_up, info_of, info_shown, joint_ids, joint_in, joint_of, joint_shown, joints_in, joints_shown, kind_shown, number_or_none, shapes_shown};
+ghost use Rattle.dillmonth.specs.Getters.{AreContactsIn, AreJointsIn, AreShapesIn, AreWritten, AreWrittenOrWanting, IsInfoIn, IsJointIn, IsWritten, body_in, colour_in, contact_colour, contacts_shown, id_shown, ids_up, info_of, info_shown, joint_ids, joint_in, joint_of, joint_shown, joints_in, joints_shown, key_of, kind_shown, number_or_none, shapes_shown};
 ghost use Rattle.dillmonth.specs.Lists.{written};
 ghost use Rattle.plain_world.specs.Plain.{colour_of};
 
-use crate::forms::{CContact, CHandle, CJointDef, CShape, handle_of, show_handle, show_vector};
+use crate::forms::{
+    CContact, CHandle, CJointDef, CShape, CShapeId, handle_of, show_handle, show_vector,
+};
 use crate::getter_forms::{CBodyInfo, CJointView};
 use crate::held::{CWorld, put, take};
+use crate::on_shape::id_of;
 use crate::shown::{write_all, write_next};
 use crate::statuses::{DONE, NO_WORLD, status_of};
+use contacts_base::{ContactKey, ShapeId};
 use plain_world::{Body, Kind};
 use std::alloc::Global;
 use world_core::{Constraint, Handle, WorldCore};
@@ -255,6 +259,61 @@ pub extern "C" fn dm_body_in(alloc: Global, world: &mut CWorld, slot: u32) -> CH
     }
 }
 
+// ---- colours
+
+/// The colour of a constraint, if it acts.
+fn colour_number(colour: Option<u8>) -> u32
+    ensures { result ≡ number_or_none colour }
+{
+    match colour {
+        None => NONE,
+        Some(colour) => u32::from(colour),
+    }
+}
+
+/// The name of a contact, where both of its shapes have names.
+fn key_of(first: Option<ShapeId>, second: Option<ShapeId>) -> Option<ContactKey>
+    ensures { result ≡ key_of first second }
+{
+    match (first, second) {
+        (None, _) => None,
+        (Some(_), None) => None,
+        (Some(first), Some(second)) => Some(ContactKey { first, second }),
+    }
+}
+
+/// The colour of the contact of this name, if it acts.
+fn colour_of(world: &WorldCore, key: Option<ContactKey>) -> Option<u8>
+    ensures { result ≡ contact_colour world.now.plain key }
+{
+    match key {
+        None => None,
+        Some(key) => world.colour_of(Constraint::Contact(key)),
+    }
+}
+
+/// The colour of the contact of two shapes, the lesser name first, while it acts: while they touch, and one of their bodies is a mover that is awake. It is 24
+/// in the overflow, and 2^32 - 1 where no contact of theirs acts.
+#[unsafe(no_mangle)]
+pub extern "C" fn dm_colour_of(
+    alloc: Global,
+    world: &mut CWorld,
+    first: CShapeId,
+    second: CShapeId,
+) -> u32
+    ensures kept { world.new.desk ≡ world.old.desk }
+    ensures colour { result ≡ colour_in world.old.desk first second }
+{
+    match take(alloc, world) {
+        None => NONE,
+        Some(desk) => {
+            let colour = colour_of(&desk.world, key_of(id_of(first), id_of(second)));
+            put(world, desk);
+            colour_number(colour)
+        }
+    }
+}
+
 // ---- joints
 
 /// The id of the joint in a slot; one that names nothing where there is none.
@@ -320,16 +379,6 @@ pub extern "C" fn dm_joints(alloc: Global, world: &mut CWorld, out: &mut [CHandl
             put(world, desk);
             count
         }
-    }
-}
-
-/// The colour of a constraint, if it acts.
-fn colour_number(colour: Option<u8>) -> u32
-    ensures { result ≡ number_or_none colour }
-{
-    match colour {
-        None => NONE,
-        Some(colour) => u32::from(colour),
     }
 }
 

@@ -41,7 +41,8 @@ pub use frame_reading::{
 pub use frames::{CFrame, dm_frame_drop, dm_frame_take};
 pub use getter_forms::{CBodyInfo, CCounts, CJointView, CSum};
 pub use getters::{
-    dm_body_in, dm_contacts_of, dm_info, dm_joint, dm_joint_in, dm_joints, dm_joints_of, dm_shapes,
+    dm_body_in, dm_colour_of, dm_contacts_of, dm_info, dm_joint, dm_joint_in, dm_joints,
+    dm_joints_of, dm_shapes,
 };
 pub use held::CWorld;
 pub use keeping::{

@@ -50,7 +50,7 @@ fn show_shape_hit(hit: Option<ShapeHit>) -> CShapeHit
 }
 
 /// The name of a shape, where its index has room in 8 bits.
-fn id_of(id: CShapeId) -> Option<ShapeId>
+pub(crate) fn id_of(id: CShapeId) -> Option<ShapeId>
     ensures { result ≡ id_said id }
 {
     if id.index > 255 {
