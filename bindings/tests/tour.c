@@ -104,11 +104,11 @@ static void look_closer(void) {
   dm_joint_view joint;
   dm_shape shape;
   dm_handle id;
-  dm_contact contact;
+  dm_contact contact, of_floor[16];
   dm_counts counts;
   dm_sum gravity, total;
   dm_hit hits[16];
-  size_t shapes = 0, joints = 0, contacts = 0, hit = 0, found = 0;
+  size_t shapes = 0, joints = 0, contacts = 0, hit = 0, found = 0, under = 0, coloured = 0;
   WANT(dm_info(&world, balls[0], &info) == DM_DONE && dm_shapes(&world, balls[0], &shape, 1, &shapes) == DM_DONE);
   WANT(dm_joints_of(&world, balls[0], &id, 1, &joints) == DM_DONE && dm_contacts_of(&world, balls[0], &contact, 1, &contacts) == DM_DONE);
   printf("a body of kind %" PRIu32 ", mass %" PRId64 ", radius %" PRId64 ", with %zu shapes, %zu joints, %zu contacts, in island %" PRIu32 "\n", info.kind,
@@ -117,6 +117,9 @@ static void look_closer(void) {
   printf("a joint of %" PRIu32 ".%" PRIu32 " and %" PRIu32 ".%" PRIu32 ", length %" PRId64 ", impulse %" PRId64 "\n", joint.def.a.slot, joint.def.a.generation,
          joint.def.b.slot, joint.def.b.generation, joint.def.length, joint.impulse);
   WANT(dm_count(&world, &counts) == DM_DONE && dm_total_of(&world, DM_BY_GRAVITY, &gravity) == DM_DONE && dm_total(&world, &total) == DM_DONE);
+  WANT(dm_contacts_of(&world, dm_body_in(&world, 0), of_floor, 16, &under) == DM_DONE && under <= 16);
+  for (size_t i = 0; i < under; i++) coloured += dm_colour_of(&world, of_floor[i].pair.first, of_floor[i].pair.second) != DM_NO_COLOUR;
+  printf("%zu contacts of the floor, of which %zu have a colour\n", under, coloured);
   printf("%zu bodies, %zu awake, %zu joints, %zu contacts, %zu touching, %zu islands, %zu colours\n", counts.bodies, counts.awake, counts.joints, counts.contacts,
          counts.touching, counts.islands, counts.colours);
   printf("gravity gave %" PRId64 ", all gave %" PRId64 ", by rules %" PRIu32 "\n", (int64_t)gravity.y_low, (int64_t)total.y_low, dm_rules());
@@ -154,12 +157,15 @@ static void follow(void) {
   WANT(dm_events_clear(&world, 1) == DM_DONE);
   WANT(dm_push_to(&world, balls[2], (dm_vec){0, 6000}) == DM_DONE && dm_twist_to(&world, balls[2], 2000000) == DM_DONE);
   WANT(dm_twist(&world, balls[3], 1000000000000) == DM_DONE);
-  WANT(dm_set_target(&world, platform, (dm_vec){METRE, 6 * METRE}, (dm_rot){1 << 30, 0}, 4) == DM_DONE);
+  WANT(dm_set_target(&world, platform, (dm_vec){METRE, 6 * METRE}, dm_degrees(30), 4) == DM_DONE);
   WANT(dm_push_to(&world, platform, (dm_vec){0, 0}) == DM_NOT_A_MOVER && dm_set_target(&world, balls[2], (dm_vec){0, 0}, (dm_rot){1 << 30, 0}, 4) == DM_NOT_KINEMATIC);
   WANT(dm_motion(&world, balls[2], &course) == DM_DONE && dm_body(&world, balls[2], &view) == DM_DONE);
   printf("a velocity of %" PRId64 ", %" PRId64 " and a spin of %" PRId64 ", tag %" PRIu64 "\n", course.velocity.x, course.velocity.y, course.spin, view.tag);
   WANT(dm_motion(&world, platform, &course) == DM_DONE && dm_motion(&world, nobody, &course) == DM_STALE_HANDLE);
   printf("a course of %" PRId64 ", %" PRId64 " and %" PRId64 "\n", course.velocity.x, course.velocity.y, course.spin);
+  play(1);
+  WANT(dm_body(&world, platform, &view) == DM_DONE);
+  printf("after its four ticks at %" PRId64 ", %" PRId64 ", facing %" PRId64 ", %" PRId64 "\n", view.pose.at.x, view.pose.at.y, view.pose.facing.c, view.pose.facing.s);
   play(60);
   WANT(dm_events(&world, events, 64, &told) == DM_DONE && told >= 1 && told <= 64);
   for (size_t i = 0; i < told; i++) of_kind[events[i].kind]++;

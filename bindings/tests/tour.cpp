@@ -1,5 +1,6 @@
 // The calls of tour.c, by the owner for C++.
 #include "dillmonth.hpp"
+#include <algorithm>
 #include <cinttypes>
 #include <cstdio>
 
@@ -115,6 +116,9 @@ void look_closer(scene &scene) {
   dm_joint_view joint = world.joint(world.joints().at(0)).value();
   std::printf("a joint of %" PRIu32 ".%" PRIu32 " and %" PRIu32 ".%" PRIu32 ", length %" PRId64 ", impulse %" PRId64 "\n", joint.def.a.slot,
               joint.def.a.generation, joint.def.b.slot, joint.def.b.generation, joint.def.length, joint.impulse);
+  const std::vector<dm_contact> under = world.contacts(world.body_in(0));
+  const auto coloured = std::count_if(under.begin(), under.end(), [&](const dm_contact &contact) { return world.colour_of(contact.pair).has_value(); });
+  std::printf("%zu contacts of the floor, of which %zu have a colour\n", under.size(), std::size_t(coloured));
   dm_counts counts = world.count();
   std::printf("%zu bodies, %zu awake, %zu joints, %zu contacts, %zu touching, %zu islands, %zu colours\n", counts.bodies, counts.awake, counts.joints,
               counts.contacts, counts.touching, counts.islands, counts.colours);
@@ -163,13 +167,16 @@ void follow(scene &scene) {
   world.push_to(balls[2], {0, 6000});
   world.twist_to(balls[2], 2000000);
   world.twist(balls[3], 1000000000000);
-  world.set_target(platform, dm::at(1, 6), {DM_ONE, 0}, 4);
+  world.set_target(platform, dm::at(1, 6), dm::degrees(30), 4);
   if (world.try_push_to(platform, {0, 0}) != DM_NOT_A_MOVER || world.try_set_target(balls[2], {0, 0}, {DM_ONE, 0}, 4) != DM_NOT_KINEMATIC) throw dm::refused(DM_BAD_KIND);
   dm_course course = world.motion(balls[2]).value();
   std::printf("a velocity of %" PRId64 ", %" PRId64 " and a spin of %" PRId64 ", tag %" PRIu64 "\n", course.velocity.x, course.velocity.y, course.spin,
               world.body(balls[2])->tag);
   course = world.motion(platform).value();
   std::printf("a course of %" PRId64 ", %" PRId64 " and %" PRId64 "\n", course.velocity.x, course.velocity.y, course.spin);
+  play(world, 1);
+  const dm_pose reached = world.body(platform)->pose;
+  std::printf("after its four ticks at %" PRId64 ", %" PRId64 ", facing %" PRId64 ", %" PRId64 "\n", reached.at.x, reached.at.y, reached.facing.c, reached.facing.s);
   play(world, 60);
   std::size_t of_kind[4] = {0, 0, 0, 0};
   const std::vector<dm_event> events = world.events();

@@ -91,6 +91,8 @@ def look_closer(world, balls):
           f"{len(world.contacts_of(balls[0]))} contacts, in island {info.island}")
     a, b = joint.joint.a, joint.joint.b
     print(f"a joint of {a.slot}.{a.generation} and {b.slot}.{b.generation}, length {joint.joint.length}, impulse {joint.impulse}")
+    under = world.contacts_of(world.body_in(0))
+    print(f"{len(under)} contacts of the floor, of which {sum(world.colour_of(contact.pair) is not None for contact in under)} have a colour")
     counts = world.count()
     print(f"{counts.bodies} bodies, {counts.awake} awake, {counts.joints} joints, {counts.contacts} contacts, {counts.touching} touching, "
           f"{counts.islands} islands, {counts.colours} colours")
@@ -129,13 +131,16 @@ def follow(world, balls, platform):
     world.push_to(balls[2], (0, 6000))
     world.twist_to(balls[2], 2000000)
     world.twist(balls[3], 1000000000000)
-    world.set_target(platform, (METRE, 6 * METRE), ticks=4)
+    world.set_target(platform, (METRE, 6 * METRE), degrees(30), ticks=4)
     assert status_of(lambda: world.push_to(platform, (0, 0))) == (6, 0) and status_of(lambda: world.set_target(balls[2], (0, 0), ticks=4)) == (15, 0)
     course, view = world.motion(balls[2]), world.body(balls[2])
     print(f"a velocity of {course.velocity.x}, {course.velocity.y} and a spin of {course.spin}, tag {view.tag}")
     course = world.motion(platform)
     assert world.motion(Handle(9, 9)) is None
     print(f"a course of {course.velocity.x}, {course.velocity.y} and {course.spin}")
+    play(world, 1)
+    reached = world.body(platform).pose
+    print(f"after its four ticks at {reached.at.x}, {reached.at.y}, facing {reached.facing.c}, {reached.facing.s}")
     play(world, 60)
     events = list(world.events())
     of_kind = [sum(event.kind == kind for event in events) for kind in EventKind]

@@ -125,6 +125,9 @@ fn look_closer(scene: &Scene) -> Result<(), Refused> {
     let view = world.joint(world.joints()[0]).expect("the joint is there");
     let (a, b) = (view.joint.a.0, view.joint.b.0);
     println!("a joint of {}.{} and {}.{}, length {}, impulse {}", a.slot, a.generation, b.slot, b.generation, view.joint.length, view.impulse);
+    let under = world.contacts_of(world.body_in(0).expect("the floor is there"))?;
+    let coloured = under.iter().filter(|contact| world.colour_of(contact.pair).is_some()).count();
+    println!("{} contacts of the floor, of which {coloured} have a colour", under.len());
     let Counts { bodies, awake, joints, contacts, touching, islands, colours } = world.count()?;
     println!("{bodies} bodies, {awake} awake, {joints} joints, {contacts} contacts, {touching} touching, {islands} islands, {colours} colours");
     println!("gravity gave {}, all gave {}, by rules {}", world.total_of(Cause::Gravity).1, world.total().1, dillmonth::rules());
@@ -175,13 +178,16 @@ fn follow(scene: &mut Scene) -> Result<(), Refused> {
     world.push_to(balls[2], at(0, 6000))?;
     world.twist_to(balls[2], 2_000_000)?;
     world.twist(balls[3], 1_000_000_000_000)?;
-    world.set_target(platform, at(METRE, 6 * METRE), UPRIGHT, 4)?;
+    world.set_target(platform, at(METRE, 6 * METRE), Rot::degrees(30.0), 4)?;
     assert_eq!(world.push_to(platform, at(0, 0)), Err(Refused::NotAMover));
     assert_eq!(world.set_target(balls[2], at(0, 0), UPRIGHT, 4), Err(Refused::NotKinematic));
     let (course, view) = (world.motion(balls[2]).expect("the ball is there"), world.body(balls[2]).expect("the ball is there"));
     println!("a velocity of {}, {} and a spin of {}, tag {}", course.velocity.x, course.velocity.y, course.spin, view.tag);
     let course = world.motion(platform).expect("the platform is there");
     println!("a course of {}, {} and {}", course.velocity.x, course.velocity.y, course.spin);
+    play(world, 1)?;
+    let reached = world.body(platform).expect("the platform is there").pose;
+    println!("after its four ticks at {}, {}, facing {}, {}", reached.at.x, reached.at.y, reached.facing.c, reached.facing.s);
     play(world, 60)?;
     let events = world.events()?;
     let count = |is: fn(&Happening) -> bool| events.iter().filter(|event| is(&event.happening)).count();
