@@ -42,12 +42,20 @@ static void apply_them(dm_world *world, const uint8_t *bytes, size_t count) {
   memcpy(shapes, bytes, head);
   size_t some = (count - head) / sizeof *commands < 64 ? (count - head) / sizeof *commands : 64;
   memcpy(commands, bytes + head, some * sizeof *commands);
-  for (size_t i = 0; i < some; i++) commands[i].kind %= 16;
+  for (size_t i = 0; i < some; i++) { /* mostly without what is refused before all else */
+    commands[i].kind %= 16;
+    commands[i].unused = commands[i].unused == 1;
+    commands[i].body.unused = commands[i].body.unused == 1;
+    commands[i].joint.unused = commands[i].joint.unused == 1;
+  }
   digest_t before = digest_of(world);
   keep_them(commands, some, shapes);
   WANT(dm_apply_all(world, commands, some, shapes, 8, answers, 64) == some);
   int done = 0;
-  for (size_t i = 0; i < some; i++) done |= answers[i].status == DM_DONE;
+  for (size_t i = 0; i < some; i++) {
+    done |= answers[i].status == DM_DONE;
+    WANT(!commands[i].unused || answers[i].status == DM_OUT_OF_RANGE);
+  }
   WANT(done || same(before, digest_of(world)));
 }
 
@@ -70,10 +78,17 @@ static void ask(dm_world *world, const uint8_t *bytes, size_t count) {
   memcpy(&asked, bytes, count < sizeof asked ? count : sizeof asked);
   asked.id.slot %= 8;
   asked.filter.without.slot %= 8;
+  asked.filter.unused = asked.filter.unused == 1;
   WANT((dm_info(world, asked.id, &info) == DM_DONE) == (dm_body_in(world, asked.id.slot).generation == asked.id.generation && asked.id.generation != 0));
   if (dm_shapes(world, asked.id, shapes, 8, &found) == DM_DONE) WANT(found == info.shapes && found >= 1);
   if (dm_joints_of(world, asked.id, joints, 8, &found) == DM_DONE) WANT(found <= dm_joints(world, joints, 0));
-  if (dm_contacts_of(world, asked.id, contacts, 8, &found) == DM_DONE) WANT(dm_contacts(world, &all) == DM_DONE && found <= all);
+  if (dm_contacts_of(world, asked.id, contacts, 8, &found) == DM_DONE) {
+    WANT(dm_contacts(world, &all) == DM_DONE && found <= all);
+    for (size_t i = 0; i < found && i < 8; i++) {
+      uint32_t colour = dm_colour_of(world, contacts[i].pair.first, contacts[i].pair.second);
+      WANT(colour == DM_NO_COLOUR || (colour <= 24 && contacts[i].points > 0));
+    }
+  }
   if (dm_joint(world, asked.id, &joint) == DM_DONE) WANT(dm_joint_in(world, asked.id.slot).generation == asked.id.generation);
   WANT(dm_count(world, &counts) == DM_DONE && counts.bodies == dm_poses(world, &pose, 0) && counts.joints == dm_joints(world, joints, 0));
   WANT((dm_total_of(world, asked.number, &sum) == DM_DONE) == (asked.number < 6) && dm_total(world, &sum) == DM_DONE);
@@ -114,6 +129,20 @@ static void look_at_a_frame(dm_world *world, const uint8_t *bytes, size_t count)
   dm_frame_drop(&frame);
 }
 
+/* A target of so many ticks is met in a copy that lets them pass. */
+static void meet(const dm_world *world, dm_handle body, dm_rot facing, int64_t ticks) {
+  dm_world copied = DM_NONE;
+  dm_view view;
+  uint64_t step = 0;
+  WANT(dm_copy(world, &copied) == DM_DONE);
+  if (dm_step(&copied, ticks, &step) == DM_DONE) {
+    WANT(dm_body(&copied, body, &view) == DM_DONE);
+    int64_t c = view.pose.facing.c - facing.c, s = view.pose.facing.s - facing.s;
+    WANT(c <= ticks + 6 && -c <= ticks + 6 && s <= ticks + 6 && -s <= ticks + 6);
+  }
+  dm_close(&copied);
+}
+
 /* Motions that are set by numbers of any bytes, tags and events: a refused call leaves the digest as it was, and what is told is what happened. */
 static void steer(dm_world *world, const uint8_t *bytes, size_t count) {
   struct { dm_handle id; dm_vec vec; dm_rot rot; int64_t number, ticks; uint64_t tag; } asked;
@@ -134,6 +163,7 @@ static void steer(dm_world *world, const uint8_t *bytes, size_t count) {
   if (dm_push_to(world, asked.id, asked.vec)) WANT(same(before, digest_of(world)));
   before = digest_of(world);
   if (dm_set_target(world, asked.id, asked.vec, asked.rot, asked.ticks)) WANT(same(before, digest_of(world)));
+  else meet(world, asked.id, asked.rot, asked.ticks);
   before = digest_of(world);
   if (dm_twist(world, asked.id, asked.number)) WANT(same(before, digest_of(world)));
   before = digest_of(world);
