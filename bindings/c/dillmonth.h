@@ -11,8 +11,8 @@
  *   2. One call at a time for each world. A world may go from thread to thread, ordered by a lock, a join or the like. Worlds of
  *      their own need no order: so a program uses several threads by a world each. No call from a signal handler, nor in the forked
  *      child of a process with threads.
- *   3. Each pointer is good for its type and count, and isn't null, also where the count is 0 (pass any aligned address). What a call
- *      writes overlaps nothing else that it was passed. dm_copy gets two worlds.
+ *   3. Each pointer is good for its type and count, and isn't null. An array with the count 0 may be NULL: proofs speak of an address, and tests of
+ *      each call show this. What a call writes overlaps nothing else that it was passed. dm_copy gets two worlds.
  *   4. malloc, realloc and free are of one allocator, and align as C says.
  *   5. A call has 256 KB of stack (EMBEDDING_C.md).
  *   6. An object of type dm_world isn't const, also where a call takes a const dm_world *: such a call changes nothing that another one can

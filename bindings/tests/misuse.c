@@ -111,6 +111,43 @@ static void wrong_filters(void) {
   WANT(count == 77 && hit.is_hit == 7);
 }
 
+/* An array of no items may be NULL. */
+static void no_arrays(dm_handle ball) {
+  dm_box box = {{-DM_METRE, -DM_METRE}, {DM_METRE, DM_METRE}};
+  dm_filter all = {{0, 0}, 0, 0, 0};
+  dm_vec from = {0, 50 * DM_METRE}, along = {0, -60 * DM_METRE};
+  dm_body_def def = dm_static_def(dm_at(0, 50));
+  dm_shape shape = dm_circle_shape(DM_METRE);
+  dm_command command;
+  dm_answer answer;
+  dm_handle made = DM_NOBODY;
+  dm_frame frame = DM_NO_FRAME;
+  dm_pose pose;
+  dm_pair pair;
+  uint32_t clause = 7;
+  size_t count = 77, bytes = 0;
+  memset(&command, 0, sizeof command);
+  command.body = def, command.shapes_count = 1;
+  REFUSED(dm_create_body(&world, &def, NULL, 0, &made), DM_BAD_SHAPE);
+  REFUSED(dm_load(&world, NULL, 0, &clause), DM_BAD_TEXT);
+  WANT(dm_apply_all(&world, NULL, 0, &shape, 1, &answer, 1) == 0 && dm_apply_all(&world, &command, 1, &shape, 1, NULL, 0) == 0);
+  WANT(dm_apply_all(&world, &command, 1, NULL, 0, &answer, 1) == 1 && answer.status == DM_BAD_SPAN);
+  WANT(dm_apply_all(&world, NULL, 0, NULL, 0, NULL, 0) == 0);
+  WANT(dm_poses(&world, NULL, 0) == dm_poses(&world, &pose, 1) && dm_moved(&world, NULL, 0) == dm_moved(&world, &pose, 1));
+  WANT(dm_begun(&world, NULL, 0) == dm_begun(&world, &pair, 1) && dm_ended(&world, NULL, 0) == dm_ended(&world, &pair, 1));
+  WANT(dm_slept(&world, NULL, 0) == dm_slept(&world, &made, 1) && dm_woke(&world, NULL, 0) == dm_woke(&world, &made, 1));
+  WANT(dm_joints(&world, NULL, 0) == 0);
+  WANT(dm_shapes(&world, ball, NULL, 0, &count) == DM_DONE && count == 1 && dm_joints_of(&world, ball, NULL, 0, &count) == DM_DONE && count == 0);
+  WANT(dm_contacts_of(&world, ball, NULL, 0, &count) == DM_DONE && dm_events(&world, NULL, 0, &count) == DM_DONE && count == 0);
+  WANT(dm_region(&world, &box, &count) == DM_DONE && dm_region_found(&world, NULL, 0) == count);
+  WANT(dm_ray_all(&world, from, along, &all, &count) == DM_DONE && dm_hits_found(&world, NULL, 0) == count);
+  WANT(dm_contacts(&world, &count) == DM_DONE && dm_contacts_listed(&world, NULL, 0) == count);
+  WANT(dm_frame_take(&world, &frame) == DM_DONE && dm_frame_region(frame, &box, NULL, 0, &count) == DM_DONE);
+  dm_frame_drop(&frame);
+  WANT(dm_save(&world, &bytes) == DM_DONE && dm_saved(&world, NULL, 0) == bytes && dm_digest(&world, NULL, 0) == DM_DONE);
+  WANT(same(before, digest_of(&world)));
+}
+
 static void wrong_texts(void) {
   enum { DEEP = 1000000 };
   uint32_t clause = 0;
@@ -154,6 +191,7 @@ static void *run(void *nothing) {
   wrong_bodies(ball, floor, lift, gone);
   wrong_batches(ball);
   wrong_filters();
+  no_arrays(ball);
   wrong_texts();
   foreign_ids(floor);
   a_closed_world();
