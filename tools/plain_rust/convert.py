@@ -1,19 +1,21 @@
 #!/usr/bin/env python3
 """Writes a plain Rust copy of the crates up to `world_queries`, so that a change can be timed before it is proved.
 
-    tools/plain_rust/convert.py OUT [--repository TOP]
+    tools/plain_rust/convert.py OUT [--repository TOP] [--workers]
 
 OUT becomes a workspace of cargo: each crate without its contracts, and a program `drive` that times steps and rays. Contracts,
 ghost items and models are dropped, and `shim` beside this script stands for the parts of the kit's library that the crates
-use. Saving and loading are left out. Written again after an edit, only files that differ are written.
+use. Saving and loading are left out. Written again after an edit, only files that differ are written. With --workers the copy has
+`world_workers` and what it stands on as well, over `crew` and `rtrb` beside this script, and `drive` makes steps by workers.
 
     cd OUT && cargo build --offline --release
     bench/scenes SCENES --scenes pyramid --sizes 1000 --steps 100
-    tools/plain_rust/compact.py < SCENES/pyramid_1000_100 | OUT/target/release/drive [--each] [--sum]
+    tools/plain_rust/compact.py < SCENES/pyramid_1000_100 | OUT/target/release/drive [--each] [--sum] [--workers=N [--all]]
 
 `drive` prints the processor time of the steps and of the rays; --each prints each step's, and --sum a number over all motions,
 events and hits, which stays the same where two versions answer alike. On a busy machine count instructions in place of time, as by
-`valgrind --tool=callgrind`.
+`valgrind --tool=callgrind`. With --workers=N it prints the time by the clock, of steps by N workers; with --all also those steps are
+solved by parts that aren't worth it.
 """
 
 import argparse
@@ -22,6 +24,9 @@ from pathlib import Path
 
 HERE = Path(__file__).resolve().parent
 TOP_CRATE = "world_queries"
+TOP_OF_WORKERS = "world_workers"
+# Crates of the repository and of the kit that a crate of plain Rust beside this script stands for, and on what it stands.
+STOOD_FOR = {"crew": ["fixed_geom"], "rtrb": []}
 # What only saving and loading need, and what stands in the code of other crates for them.
 SAVING = {"world_file_base", "world_file"}
 SAVING_FILES = {("body_handles", "ids.rt"), ("world_core", "world/loading.rt"), ("world_core", "world/saving.rt")}
@@ -47,6 +52,8 @@ DROPPED = [
 WRITTEN = [
     (re.compile(r"\buse (?:std::alloc|smallvec)::"), "use shim::"),
     (re.compile(r"\buse std::num::\{"), "use shim::{"),
+    (re.compile(r"\buse std::(?:sync::(?=Wait;|Arc;|\{Arc)|snapshot::|thread::(?=\{))"), "use shim::"),
+    (re.compile(r"\bthread::scope(?=\(|_env)"), "shim::scope"),
     (re.compile(r", Error\)\]"), ")]"),
     (re.compile(r": Copy \+ Drop\b"), ": Copy"),
     (re.compile(r": Drop\b"), ""),
@@ -57,14 +64,14 @@ PACKAGE = '[package]\nname = "{name}"\nversion = "0.1.0"\nedition = "2024"\n\n[d
 WORKSPACE = '[workspace]\nresolver = "2"\nmembers = [{members}]\n\n[profile.release]\nlto = "fat"\ncodegen-units = 1\npanic = "abort"\ndebug = 1\n'
 
 
-def crates_of(repository):
-    """The crates that are copied, each with those of them on which it stands."""
-    below = {}
+def crates_of(repository, tops):
+    """The crates that are copied for these, each with those of them on which it stands."""
+    below = dict(STOOD_FOR)
     for line in (repository / "crates.txt").read_text(encoding="utf-8").splitlines():
         name, colon, rest = line.partition("#")[0].partition(":")
-        if colon:
+        if colon and name.strip() not in STOOD_FOR:
             below[name.strip()] = rest.split()
-    found, waiting = set(), [TOP_CRATE]
+    found, waiting = set(), list(tops)
     while waiting:
         crate = waiting.pop()
         if crate in below and crate not in SAVING and crate not in found:
@@ -104,13 +111,18 @@ def converted(text, is_root):
     for pattern, other in WRITTEN:
         text = pattern.sub(other, text)
     inner = re.match(r"(?:(?://!|#!\[)[^\n]*\n|\n)*", text).end()
-    return (QUIET if is_root else "") + text[:inner] + "use shim::{Box, Vec};\n" + text[inner:]
+    return (QUIET if is_root else "") + text[:inner] + "use shim::{AllocGlobal, Box, Vec};\n" + text[inner:]
 
 
 def write_changed(path, text):
     path.parent.mkdir(parents=True, exist_ok=True)
     if not path.is_file() or path.read_text(encoding="utf-8") != text:
         path.write_text(text, encoding="utf-8")
+
+
+def copy_file(name, out):
+    """Copies a file that is plain Rust already."""
+    write_changed(out / name, (HERE / name).read_text(encoding="utf-8"))
 
 
 def write_package(folder, name, below):
@@ -133,14 +145,21 @@ def main():
     words = argparse.ArgumentParser(description=__doc__, formatter_class=argparse.RawDescriptionHelpFormatter)
     words.add_argument("out", type=Path)
     words.add_argument("--repository", type=Path, default=HERE.parent.parent)
+    words.add_argument("--workers", action="store_true")
     given = words.parse_args()
-    crates = crates_of(given.repository)
+    crates = crates_of(given.repository, [TOP_CRATE, TOP_OF_WORKERS] if given.workers else [TOP_CRATE])
     for crate, below in crates.items():
-        write_crate(given.repository, given.out, crate, below)
-    for name in ("Cargo.toml", "src/lib.rs"):
-        write_changed(given.out / "shim" / name, (HERE / "shim" / name).read_text(encoding="utf-8"))
+        if crate in STOOD_FOR:
+            copy_file(f"{crate}/src/lib.rs", given.out)
+            write_package(given.out / crate, crate, below)
+        else:
+            write_crate(given.repository, given.out, crate, below)
+    for name in ("Cargo.toml", "src/lib.rs", "src/threads.rs"):
+        copy_file(f"shim/{name}", given.out)
     write_package(given.out / "drive", "drive", crates)
-    write_changed(given.out / "drive" / "src" / "main.rs", (HERE / "drive.rs").read_text(encoding="utf-8"))
+    steps = "workers.rs" if given.workers else "alone.rs"
+    for name, place in (("main.rs", "main.rs"), (steps, "steps.rs")):
+        write_changed(given.out / "drive" / "src" / place, (HERE / "drive" / name).read_text(encoding="utf-8"))
     members = ", ".join(f'"{crate}"' for crate in [*crates, "shim", "drive"])
     write_changed(given.out / "Cargo.toml", WORKSPACE.format(members=members))
 

@@ -1,7 +1,10 @@
 //! Stands for what the crates use of the kit's library, so that they compile as plain Rust. Memory is never refused.
 
+mod threads;
+
 use std::mem::MaybeUninit;
 use std::ops::{Deref, DerefMut};
+pub use threads::{AllocGlobal, Arc, Runtime, Scope, ScopeEnv, Snapshot, Threads, Wait, scope, scope_env};
 
 /// The allocator; it only has to be passed along.
 #[derive(Clone, Copy, Debug, PartialEq, Eq)]
@@ -14,7 +17,9 @@ pub struct AllocError;
 
 /// What couldn't be taken in is handed back.
 #[derive(Debug)]
-pub struct AllocFailed<T>(pub T);
+pub struct AllocFailed<T> {
+    pub value: T,
+}
 
 impl<T> From<AllocFailed<T>> for AllocError {
     fn from(_: AllocFailed<T>) -> AllocError {
@@ -52,6 +57,12 @@ impl<T> Vec<T> {
     pub fn push(&mut self, item: T) -> Result<(), AllocFailed<T>> {
         self.0.push(item);
         Ok(())
+    }
+
+    /// For an item for which there is room.
+    #[inline(always)]
+    pub fn push_reserved(&mut self, item: T) {
+        self.0.push(item);
     }
 
     #[inline(always)]

@@ -3,6 +3,8 @@
 //! `--each` prints that of each step, in nanoseconds; `--sum` prints a number over all motions and events after each step, and
 //! over all hits.
 
+mod steps;
+
 use shim::Global;
 use std::io::Read;
 use std::str::FromStr;
@@ -82,12 +84,16 @@ unsafe extern "C" {
     fn clock_gettime(clock: i32, time: *mut Time) -> i32;
 }
 
+/// The time by a clock of the system, in nanoseconds.
+fn time_by(clock: i32) -> i64 {
+    let mut time = Time { seconds: 0, nanoseconds: 0 };
+    unsafe { clock_gettime(clock, &mut time) };
+    time.seconds * 1_000_000_000 + time.nanoseconds
+}
+
 /// The processor time of this thread, in nanoseconds.
 fn processor_time() -> i64 {
-    const OF_THIS_THREAD: i32 = 3;
-    let mut time = Time { seconds: 0, nanoseconds: 0 };
-    unsafe { clock_gettime(OF_THIS_THREAD, &mut time) };
-    time.seconds * 1_000_000_000 + time.nanoseconds
+    time_by(3)
 }
 
 const PRIME: u64 = 0x100000001b3;
@@ -130,16 +136,16 @@ impl Rays {
     }
 }
 
-/// Applies a command, and gives the processor time that it took.
-fn timed(world: &mut WorldCore, command: &Command) -> i64 {
-    let before = processor_time();
-    let _ = world.apply(command);
-    processor_time() - before
+/// Does it, and gives the processor time that it took; by workers the time that has passed.
+fn timed<T>(work: impl FnOnce() -> T) -> i64 {
+    const THAT_PASSES: i32 = 1;
+    let time = || if steps::are_by_clock() { time_by(THAT_PASSES) } else { processor_time() };
+    let before = time();
+    let _ = work();
+    time() - before
 }
 
-fn main() {
-    let mut text = String::new();
-    std::io::stdin().read_to_string(&mut text).expect("standard input can be read");
+fn run(text: &str, stepper: &mut steps::Stepper) {
     let asks = |word: &str| std::env::args().any(|given| given == word);
     let (each, summed) = (asks("--each"), asks("--sum"));
     let mut world = WorldCore::new(Global, Vec2 { x: 0, y: 0 }).expect("an empty world");
@@ -151,8 +157,8 @@ fn main() {
             continue;
         }
         let command = line.command();
-        let time = timed(&mut world, &command);
-        if let Command::Step(_) = command {
+        if let Command::Step(ticks) = command {
+            let time = timed(|| stepper(&mut world, ticks));
             steps.push(time);
             if each {
                 println!("{time}");
@@ -161,7 +167,7 @@ fn main() {
                 sum = mixed(sum, &world);
             }
         } else {
-            others += time;
+            others += timed(|| world.apply(&command));
         }
     }
     let mean = steps.iter().sum::<i64>() as f64 / 1e3 / steps.len().max(1) as f64;
@@ -171,4 +177,10 @@ fn main() {
         print!("; rays: {}, mean {:.0} ns", rays.count, rays.time as f64 / rays.count as f64);
     }
     println!("{}", if summed { format!("; sum {:x}", sum ^ rays.sum) } else { String::new() });
+}
+
+fn main() {
+    let mut text = String::new();
+    std::io::stdin().read_to_string(&mut text).expect("standard input can be read");
+    steps::with_steps(&mut |stepper| run(&text, stepper));
 }
