@@ -16,7 +16,7 @@ ghost use Rattle.part_solver.specs.ReadingBack.{AreBack, AreCursors, IsReadBack,
 ghost use Rattle.part_solver.specs.Walking.{owner_of};
 
 use crate::seat::Part;
-use crate::walk::part_of;
+use crate::walk::{part_of, row_at};
 use colour_solver::{Row, Rows, Slots};
 use colour_solver_base::ContactRow;
 use joint_rows::JointRow;
@@ -73,14 +73,14 @@ fn owner(owners: Owners, slots: Slots, index: usize, coloured: usize) -> u32
 
 /// The joint with that number among those of a part; another one where there is none.
 #[inline(always)]
-fn joint_in(parts: &[Part], part: u32, number: usize, other: JointRow) -> JointRow
-    ensures { result ≡ slice_index_or (joints_among (run_at parts.now part).rows) number other }
+fn joint_in<'a>(parts: &'a [Part], part: u32, number: usize, other: &'a JointRow) -> &'a JointRow
+    ensures { result.now ≡ slice_index_or (joints_among (run_at parts.now part).rows) number other.now }
 {
     match parts.get(part as usize) {
         None => other,
         Some(part) => match part.joints().get(number) {
             None => other,
-            Some(joint) => *joint,
+            Some(joint) => joint,
         },
     }
 }
@@ -110,24 +110,29 @@ fn read_joints(
 {
     cursors_move();
     for index in start..end {
-        let row = joints.rows[index];
+        let row = row_at(joints.rows, index);
         let part = owner(owners, row.slots(), index, joints.coloured);
         let number = next_of(cursors, part);
         let back = joint_in(owners.parts, part, number, row);
-        out.push_joint(back);
+        out.push_joint(*back);
     }
 }
 
 /// The contact with that number among those of a part; another one where there is none.
 #[inline(always)]
-fn contact_in(parts: &[Part], part: u32, number: usize, other: ContactRow) -> ContactRow
-    ensures { result ≡ slice_index_or (contacts_among (run_at parts.now part).rows) number other }
+fn contact_in<'a>(
+    parts: &'a [Part],
+    part: u32,
+    number: usize,
+    other: &'a ContactRow,
+) -> &'a ContactRow
+    ensures { result.now ≡ slice_index_or (contacts_among (run_at parts.now part).rows) number other.now }
 {
     match parts.get(part as usize) {
         None => other,
         Some(part) => match part.contacts().get(number) {
             None => other,
-            Some(contact) => *contact,
+            Some(contact) => contact,
         },
     }
 }
@@ -155,11 +160,11 @@ fn read_contacts(
 {
     cursors_move();
     for index in start..end {
-        let row = contacts.rows[index];
+        let row = row_at(contacts.rows, index);
         let part = owner(owners, row.slots(), index, contacts.coloured);
         let number = next_of(cursors, part);
         let back = contact_in(owners.parts, part, number, row);
-        out.push_contact(back);
+        out.push_contact(*back);
     }
 }
 

@@ -32,15 +32,20 @@ pub(crate) struct Homes<'a> {
     number: u32,
 }
 
-/// The part of a row: where its first mover is at home.
+/// The part of a row: where its first mover is at home. Where both bodies are of one part, nobody has to look at the bodies.
 #[inline(always)]
 pub(crate) fn part_of(slots: Slots, states: &[BodyState], home: &[u32]) -> u32
     ensures { result ≡ owner_of states.now home.now true slots }
 {
+    let first = part_at(home, slots.a as usize);
+    let second = part_at(home, slots.b as usize);
+    if first == second {
+        return first;
+    }
     if is_mover(states, slots.a as usize) {
-        part_at(home, slots.a as usize)
+        first
     } else {
-        part_at(home, slots.b as usize)
+        second
     }
 }
 
@@ -143,7 +148,7 @@ fn fetch_row(
 
 /// The row at a place.
 #[inline(always)]
-fn row_at<T>(rows: &[T], index: usize) -> &T
+pub(crate) fn row_at<T>(rows: &[T], index: usize) -> &T
     requires { index < length rows.now }
     ensures { result.now ≡ slice_index_or rows.now index result.now }
 {

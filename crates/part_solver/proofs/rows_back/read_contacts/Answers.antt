@@ -30,10 +30,10 @@ loop-index-preserved c =
     let known = c.loop-index.invariant in
     let old = c.loop-index.cursors.items in
     let q = c.owner-part.result in
-    let back = c.contact_in-back.result in
+    let back = c.contact_in-back.result.now in
     let lt : i < length all = omega (arith, c.loop-index-test.true, c.requires.inside) in
     let there : q < length old = subst (λ n. q < n) (sym known.as_many) (owner_below home ss (length c.args.cursors.now.items) n i q c.slots.result c.requires.homes c.owner-part.ensures.coloured c.owner-part.ensures.left) in
-    let done = row_read contact_slots home ss n all (λ k. contacts_among (run_at c.args.owners.parts.now k).rows) i q c.next_of-number.result c.slots.result _ _ back old c.next_of-number.new.cursors.items c.contact_in-back.ensures c.cursors_move.ensures lt refl c.slots.ensures there c.owner-part.ensures.coloured c.owner-part.ensures.left c.next_of-number.ensures.number c.next_of-number.ensures.further known.cursors in
+    let done = row_read contact_slots home ss n all (λ k. contacts_among (run_at c.args.owners.parts.now k).rows) i q c.next_of-number.result c.slots.result _ _ back old c.next_of-number.new.cursors.items c.contact_in-back.ensures c.cursors_move.ensures lt c.row_at-row.ensures c.slots.ensures there c.owner-part.ensures.coloured c.owner-part.ensures.left c.next_of-number.ensures.number c.next_of-number.ensures.further known.cursors in
     record {
       left = λ now is long.
           left_more Contact now c.args.start i back c.args.out.now.left c.loop-index.out.left c.push_contact.new.self.left (search rules) (omega (arith, lt, long)) (done.read now is long) (known.left now is long) c.push_contact.ensures.left;
