@@ -68,7 +68,8 @@ check("a target", moving.motion(lift).velocity.x === METRE / 8n && thrown(() => 
 check("movers alone", [() => moving.pushTo(lift, at(0, 0)), () => moving.twist(lift, 1), () => moving.twistTo(lift, 1)].every((call) => thrown(call).status === 6));
 moving.clearEvents();
 moving.step(8);
-check("it is met", moving.body(lift).at.x === metres(6) && moving.body(lift).at.y === metres(5));
+const met = moving.body(lift), aim = degrees(10), away = (one, other) => Math.abs(Number(one - other));
+check("it is met", met.at.x === metres(6) && met.at.y === metres(5) && away(met.facing.c, aim.c) <= 10 && away(met.facing.s, aim.s) <= 10);
 moving.pushTo(coin, at(0, 0)); // it falls straight down, and comes to rest
 moving.twistTo(coin, 0);
 while (moving.slept().length === 0 && moving.steps() < 2000n) moving.step(1);
@@ -76,6 +77,9 @@ const told = moving.events(), [begun] = told, slept = told.at(-1);
 check("events of all steps", begun.kind === "begun" && begun.step < slept.step && slept.step === moving.steps() && slept.kind === "slept" && slept.body === coin);
 check("an event's bodies", begun.first === ground && begun.second === coin && begun.firstTag === 0n && begun.secondTag === ALL && slept.tag === ALL);
 check("an event's contact", begun.contact.points.length === 1 && begun.contact.points[0].normalImpulse > 0n && begun.contact.normal.y === 1n << 30n);
+const { a, b } = begun.contact, asleep = moving.colourOf(a, b);
+moving.wake(coin);
+check("a contact's colour", asleep === null && moving.colourOf(a, b) < 24 && moving.colourOf(b, a) === null && moving.colourOf([9, 0], [9, 1]) === null);
 moving.clearEvents(false);
 moving.step(1);
 check("no events are kept", moving.events().length === 0);
