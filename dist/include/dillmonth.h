@@ -11,8 +11,8 @@
  *   2. One call at a time for each world. A world may go from thread to thread, ordered by a lock, a join or the like. Worlds of
  *      their own need no order: so a program uses several threads by a world each. No call from a signal handler, nor in the forked
  *      child of a process with threads.
- *   3. Each pointer is good for its type and count, and isn't null, also where the count is 0 (pass any aligned address). What a call
- *      writes overlaps nothing else that it was passed. dm_copy gets two worlds.
+ *   3. Each pointer is good for its type and count, and isn't null. An array with the count 0 may be NULL: proofs speak of an address, and tests of
+ *      each call show this. What a call writes overlaps nothing else that it was passed. dm_copy gets two worlds.
  *   4. malloc, realloc and free are of one allocator, and align as C says.
  *   5. A call has 256 KB of stack (EMBEDDING_C.md).
  *   6. An object of type dm_world isn't const, also where a call takes a const dm_world *: such a call changes nothing that another one can
@@ -54,7 +54,7 @@ enum {
   DM_STALE_HANDLE = 2,     /* the id names nothing that lives */
   DM_TOO_MANY = 3,         /* no slot can be given out */
   DM_BAD_SHAPE = 4,        /* no shape or more than eight, or one that isn't allowed */
-  DM_OUT_OF_RANGE = 5,     /* a number outside its limit */
+  DM_OUT_OF_RANGE = 5,     /* a number outside its limit; an `unused` that isn't 0 */
   DM_NOT_A_MOVER = 6,      /* the body isn't dynamic */
   DM_SAME_BODY = 7,        /* both ends of a joint are one body */
   DM_BODY_DISABLED = 8,
@@ -70,7 +70,7 @@ enum {
 };
 typedef uint32_t dm_status;
 
-/* ---- values ---- */
+/* ---- values. `unused` is 0 in what a call answers. In what a call is given it has to be 0: else the call answers 5, also where there is no world ---- */
 typedef struct { void *at; } dm_world;
 #define DM_NONE { 0 }
 
@@ -211,8 +211,8 @@ DM_KEEP dm_status dm_copy(const dm_world *from, dm_world *to); /* a world of its
 dm_status dm_settle(dm_world *world);                          /* sums up what was booked. 32. See dm_step */
 
 /* ---- commands: one call of the world each. What a pointer names is written only where the status is 0. Each may answer 32 (no world),
- * 10 before all else, and 1 after all else. A body to be made is read first: so 33 and 34, and 1 where memory is wanting for its shapes, come
- * before these; and so does 1 where memory is wanting for the events of the last step (dm_events_clear). ---- */
+ * 10 before all else, and 1 after all else. A body or a joint to be made is read first: so 34, 5 for its `unused` and 33, and 1 where memory is
+ * wanting for its shapes, come before these; and so does 1 where memory is wanting for the events of the last step (dm_events_clear). ---- */
 DM_KEEP dm_status dm_create_body(dm_world *world, const dm_body_def *def, const dm_shape *shapes, size_t shapes_len, dm_handle *made); /* 33, 4, 5, 3 */
 dm_status dm_destroy_body(dm_world *world, dm_handle body);                                   /* with its joints and, untold, its contacts. 2 */
 DM_KEEP dm_status dm_create_joint(dm_world *world, const dm_joint_def *def, dm_handle *made); /* 2, 7, 8, 5, 3 */
@@ -232,8 +232,8 @@ dm_status dm_twist(dm_world *world, dm_handle body, int64_t by);                
   * the opposite one at it. Up to 2^40 it is met, up to 2^60 to the nearest 2^20. 2, 6, 8, 5, 9; 10 and 1 may also come between the two, and the first stays */
 dm_status dm_twist_to(dm_world *world, dm_handle body, int64_t spin);                         /* a mover's spin, by the twist inertia * spin / 2^30 - l. As dm_twist */
 dm_status dm_set_target(dm_world *world, dm_handle body, dm_vec at, dm_rot facing, int64_t ticks); /* the course that leads a kinematic body to a pose in a
-  * step of so many ticks, which it keeps after it: the way, and the tangent of the angle, by the ticks. In one tick it is met. In several a turn of 10 degrees
-  * comes out a hundredth too large, and one of 40 a fifth. 2, 15, 8; 5 also for a quarter of a turn or more */
+  * step of so many ticks, which it keeps after it: the way by the ticks, and the spin that turns by the angle in them. The place is met to half a u a tick, and
+  * the facing as near as a spin comes to it: to some 2^-30 of a turn a tick. 2, 15, 8; 5 also for a quarter of a turn or more */
 DM_KEEP dm_status dm_step(dm_world *world, int64_t ticks, uint64_t *step);                    /* 1 to 8 ticks; *step: its number, from 1. 5.
   * A world books what its momentum gains. A program calls dm_settle now and then, as after each step: that takes no memory, and changes
   * nothing that a call answers, nor the digest. Without it up to some hundred bytes are kept for each step. */
@@ -300,6 +300,8 @@ DM_KEEP dm_status dm_shapes(const dm_world *world, dm_handle body, dm_shape *out
 DM_KEEP dm_status dm_joints_of(const dm_world *world, dm_handle body, dm_handle *out, size_t out_len, size_t *count); /* of a body, by slot. 32, 2, 1 */
 DM_KEEP dm_status dm_contacts_of(const dm_world *world, dm_handle body, dm_contact *out, size_t out_len, size_t *count); /* ascending; all contacts are
   * looked at. 32, 2, 1 */
+uint32_t dm_colour_of(const dm_world *world, dm_shape_id first, dm_shape_id second); /* of the contact of two shapes, as its dm_pair has them, while it acts: 0 to 23, 24
+  * in the overflow; else DM_NO_COLOUR */
 dm_handle dm_body_in(const dm_world *world, uint32_t slot);                          /* the id of the body in a slot, as of an event; else { 0, 0 } */
 dm_handle dm_joint_in(const dm_world *world, uint32_t slot);                         /* the same of joints */
 size_t dm_joints(const dm_world *world, dm_handle *out, size_t out_len);             /* all joints, by slot: answers how many there are */

@@ -417,6 +417,11 @@ class world {
   }
   [[nodiscard]] std::vector<dm_shape> shapes(body_id body) const { return all_of<dm_shape>(body, dm_shapes); }
   [[nodiscard]] std::vector<dm_contact> contacts(body_id body) const { return all_of<dm_contact>(body, dm_contacts_of); }
+  // The colour of a contact while it acts, 0 to 23, or 24 in the overflow.
+  [[nodiscard]] std::optional<std::uint32_t> colour_of(const dm_pair &pair) const {
+    const std::uint32_t colour = dm_colour_of(&held, pair.first, pair.second);
+    return colour == DM_NO_COLOUR ? std::nullopt : std::optional<std::uint32_t>(colour);
+  }
   [[nodiscard]] std::vector<joint_id> joints(body_id body) const {
     const std::vector<dm_handle> handles = all_of<dm_handle>(body, dm_joints_of);
     return {handles.begin(), handles.end()};

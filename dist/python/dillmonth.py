@@ -606,7 +606,7 @@ CALLS = {
     "dm_info": (U32, [W, Handle, POINTER(Info)]), "dm_shapes": (U32, [W, Handle, POINTER(Shape), S, POINTER(S)]),
     "dm_joints_of": (U32, [W, Handle, POINTER(Handle), S, POINTER(S)]),
     "dm_contacts_of": (U32, [W, Handle, POINTER(Contact), S, POINTER(S)]),
-    "dm_body_in": (Handle, [W, U32]), "dm_joint_in": (Handle, [W, U32]),
+    "dm_body_in": (Handle, [W, U32]), "dm_joint_in": (Handle, [W, U32]), "dm_colour_of": (U32, [W, ShapeId, ShapeId]),
     "dm_joints": (S, [W, POINTER(Handle), S]), "dm_joint": (U32, [W, Handle, POINTER(JointView)]),
     "dm_count": (U32, [W, POINTER(Counts)]), "dm_total_of": (U32, [W, U32, POINTER(Sum)]), "dm_total": (U32, [W, POINTER(Sum)]),
     "dm_rules": (U32, []),
@@ -982,6 +982,11 @@ class World:
     def contacts_of(self, body: Handle) -> Any:
         """The contacts of a body."""
         return self._all_of(self._calls.dm_contacts_of, body, Contact)
+
+    def colour_of(self, pair: Pair) -> Optional[int]:
+        """The colour of a contact while it acts: 0 to 23, or 24 in the overflow."""
+        colour = self._ask(self._calls.dm_colour_of, pair.first, pair.second)
+        return None if colour == NONE else colour
 
     def joints(self) -> Any:
         """All joints, by slot."""

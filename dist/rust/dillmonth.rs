@@ -146,6 +146,7 @@ extern "C" {
     fn dm_shapes(world: *mut Held, body: BodyId, out: *mut RawShape, room: usize, count: *mut usize) -> u32;
     fn dm_joints_of(world: *mut Held, body: BodyId, out: *mut JointId, room: usize, count: *mut usize) -> u32;
     fn dm_contacts_of(world: *mut Held, body: BodyId, out: *mut Contact, room: usize, count: *mut usize) -> u32;
+    fn dm_colour_of(world: *mut Held, first: ShapeId, second: ShapeId) -> u32;
     fn dm_body_in(world: *mut Held, slot: u32) -> BodyId;
     fn dm_joint_in(world: *mut Held, slot: u32) -> JointId;
     fn dm_joints(world: *mut Held, out: *mut JointId, room: usize) -> usize;
@@ -1148,6 +1149,12 @@ impl World {
     /// The contacts of a body.
     pub fn contacts_of(&self, body: BodyId) -> Result<Vec<Contact>, Refused> {
         self.all_of(body, dm_contacts_of)
+    }
+
+    /// The colour of a contact while it acts, 0 to 23, or 24 in the overflow.
+    pub fn colour_of(&self, pair: Pair) -> Option<u32> {
+        let colour = unsafe { dm_colour_of(self.raw(), pair.first, pair.second) };
+        (colour != u32::MAX).then_some(colour)
     }
 
     /// All joints, by slot.

@@ -227,6 +227,7 @@ export class World implements Commands<Handle, void, bigint> {
   shapes(body: Handle): BodyShape[];
   jointsOf(body: Handle): Handle[];
   contactsOf(body: Handle): Contact[];
+  colourOf(a: ShapeId, b: ShapeId): number | null;
   joints(): Handle[];
   joint(joint: Handle): JointView | null;
   bodyIn(slot: number): Handle | null;

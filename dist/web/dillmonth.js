@@ -53,6 +53,11 @@ function uint64(value) {
   return number;
 }
 
+/** The name of a shape as one number. */
+function shapeNumber([slot, index]) {
+  return uint64(BigInt(slot) | (BigInt(index) << 32n));
+}
+
 // ---- units ----
 
 const SCALE = 1048576;
@@ -700,9 +705,9 @@ export class World {
   }
 
   /** What a ray hits of one shape, as it lies now: the point and the normal of a hit. null where it misses, or where there is no such shape. */
-  rayOn([slot, index], from, along) {
-    const at = this.library.room(0, 96), shape = BigInt(slot) | (BigInt(index) << 32n);
-    const status = this.calls.dm_ray_on_shape(this.world, int64(from.x), int64(from.y), int64(along.x), int64(along.y), uint64(shape), BigInt(at));
+  rayOn(shape, from, along) {
+    const at = this.library.room(0, 96);
+    const status = this.calls.dm_ray_on_shape(this.world, int64(from.x), int64(from.y), int64(along.x), int64(along.y), shapeNumber(shape), BigInt(at));
     if (status === 2) return null;
     done(status);
     const reader = new Reader(this.library.view(), at), isHit = reader.u32() !== 0, fraction = reader.u32();
@@ -755,6 +760,11 @@ export class World {
   shapes(body) { return this.listOf(this.calls.dm_shapes, body, SHAPE_BYTES, (reader) => reader.shape()); }
   jointsOf(body) { return this.listOf(this.calls.dm_joints_of, body, ID_BYTES, (reader) => reader.u64()); }
   contactsOf(body) { return this.listOf(this.calls.dm_contacts_of, body, CONTACT_BYTES, (reader) => reader.contact()); }
+  /** The colour of the contact of two shapes, as a contact has them, while it acts: 0 to 23, or 24 in the overflow; else null. */
+  colourOf(a, b) {
+    const colour = this.calls.dm_colour_of(this.world, shapeNumber(a), shapeNumber(b)) >>> 0;
+    return colour === NONE ? null : colour;
+  }
   joints() { return this.list(this.calls.dm_joints, ID_BYTES, (reader) => reader.u64()); }
   /** Its ends, its anchors, its length, the impulse that it keeps, and its colour while it acts; null where the id names none. */
   joint(joint) { return this.seen(this.calls.dm_joint, joint, (reader) => reader.jointView()); }
