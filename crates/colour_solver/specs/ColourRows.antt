@@ -1,12 +1,10 @@
 -- Trusted: the rows of a step by colour: one list of joints and one of contacts, and where each colour ends in them.
-use Rattle.std.specs.Prelude.{◌≡◌, ℕ, ◌+◌, ◌-◌, ◌≤◌, List, [], ◌∷◌, ◌++◌, length, take, drop, map}
+use Rattle.std.specs.Prelude.{ℕ, ◌-◌, ◌≤◌, List, [], ◌∷◌, ◌++◌, take, drop, map}
 use Rattle.std.specs.List.{flat_map}
 use Rattle.joint_rows.specs.declared.row.JointRow.{JointRow}
 use Rattle.colour_solver_base.specs.declared.row.ContactRow.{ContactRow}
 use Rattle.colour_solver.specs.declared.constraint_row.ConstraintRow.{ConstraintRow}
 use Rattle.colour_solver.specs.declared.constraint_row.ConstraintRow.TheVariants.{Joint, Contact}
-use Rattle.colour_solver.specs.declared.colour_rows.RowPlace.{RowPlace}
-use Rattle.colour_solver.specs.ConstraintVisits.{contacts_among, joints_among}
 
 -- what contracts see: the rows of each colour, those of the colour that hasn't ended yet, and for how many more rows and colours there is room
 pub record ColourRows (R : Type 0) : Type 0 where
@@ -18,11 +16,6 @@ pub record ColourRows (R : Type 0) : Type 0 where
 -- the rows in solve order: colour after colour
 abbrev pub all_rows : {R : Type 0} → ColourRows R → List R
 all_rows r = flat_map (λ rs. rs) r.colours ++ r.left
-
--- a row's place: so many joints and so many contacts stand before it
-pub record IsPlace (rows : List ConstraintRow) (p : RowPlace) : Type 0 where
-  pub joints : p.joints ≡ length (joints_among (take (p.joints + p.contacts) rows))
-  pub contacts : p.contacts ≡ length (contacts_among (take (p.joints + p.contacts) rows))
 
 -- ---- how they are kept
 

@@ -11,9 +11,9 @@ ghost use Rattle.colour_solver.specs.Phases.{constraint_visit};
 ghost use Rattle.colour_solver.specs.RowVisits.{AreRowsOn, IsPassed, between, passed, rows_passed, share};
 ghost use Rattle.colour_solver.specs.ConstraintVisits.{AreRowsBelow, IsConstraintRow, both_visits, constraint_slots, contact_slots, contacts_among, is_joint, joint_slots, joints_among};
 ghost use Rattle.colour_solver.specs.declared.constraint_row.ConstraintRow.TheVariants.{Joint, Contact};
-ghost use Rattle.colour_solver.specs.ColourRows.{AreEnds, IsPlace, all_rows, cut, joints_first, last_end, left_of, rows_kept};
+ghost use Rattle.colour_solver.specs.ColourRows.{AreEnds, all_rows, cut, joints_first, last_end, left_of, rows_kept};
 
-use crate::{Bounce, ConstraintRow, Phase, Solve, Visit, Warm, pass_rows};
+use crate::{Bounce, Phase, Solve, Visit, Warm, pass_rows};
 use body_handles::MAX_SLOTS;
 use colour_solver_base::ContactRow;
 use fixed_geom::Refusal;
@@ -27,13 +27,6 @@ use std::marker::Model;
 struct ColourEnd {
     joints: usize,
     contacts: usize,
-}
-
-/// Where a row stands: how many joints and how many contacts stand before it.
-#[derive(Clone, Copy, Debug, PartialEq, Eq)]
-pub struct RowPlace {
-    pub joints: usize,
-    pub contacts: usize,
 }
 
 /// Rows by colour: in each its joints, and then its contacts. Contracts see those of each colour that has ended, those of the next one, and
@@ -85,15 +78,13 @@ fn end_of(ends: &[ColourEnd], colour: usize) -> ColourEnd
     ends[colour]
 }
 
-/// Puts a row into its place. Answers the next place.
+/// Puts a row into its place.
 #[inline(always)]
-fn put_row<T: Copy>(rows: &mut Vec<T>, place: usize, row: T) -> usize
+fn put_row<T: Copy>(rows: &mut Vec<T>, place: usize, row: T)
     requires { place < length rows.old.items }
-    ensures rows { rows.new.items ≡ slice_set rows.old.items place row }
-    ensures next { result ≡ place + 1 }
+    ensures { rows.new.items ≡ slice_set rows.old.items place row }
 {
     rows[place] = row;
-    place + 1
 }
 
 /// The rows from one place up to another.
@@ -415,27 +406,28 @@ impl Rows {
         }
     }
 
-    /// Puts a row that was visited elsewhere back into its place, which has a row of its kind. Answers where the next one stands.
+    /// Puts the row of a joint that was visited elsewhere in place of the one with that number among the joints.
     #[inline(always)]
-    pub fn put(&mut self, place: RowPlace, row: &ConstraintRow) -> RowPlace
-        requires inside { place.joints + place.contacts < length (all_rows self.old) }
-        requires place { IsPlace (all_rows self.old) place }
-        requires kind { is_joint row.now ≡ is_joint (slice_index_or (all_rows self.old) (place.joints + place.contacts) row.now) }
-        ensures rows { all_rows self.new ≡ slice_set (all_rows self.old) (place.joints + place.contacts) row.now }
-        ensures place { IsPlace (all_rows self.new) result }
-        ensures next { result.joints + result.contacts ≡ place.joints + place.contacts + 1 }
+    pub fn put_joint(&mut self, number: usize, row: &JointRow)
+        requires { number < length (joints_among (all_rows self.old)) }
+        ensures joints { joints_among (all_rows self.new) ≡ slice_set (joints_among (all_rows self.old)) number row.now }
+        ensures contacts { contacts_among (all_rows self.new) ≡ contacts_among (all_rows self.old) }
+        ensures kinds { map is_joint (all_rows self.new) ≡ map is_joint (all_rows self.old) }
         ensures counts { map length self.new.colours ≡ map length self.old.colours }
     {
-        match row {
-            ConstraintRow::Joint(joint) => RowPlace {
-                joints: put_row(&mut self.joints, place.joints, *joint),
-                contacts: place.contacts,
-            },
-            ConstraintRow::Contact(contact) => RowPlace {
-                joints: place.joints,
-                contacts: put_row(&mut self.contacts, place.contacts, *contact),
-            },
-        }
+        put_row(&mut self.joints, number, *row);
+    }
+
+    /// Puts the row of a contact that was visited elsewhere in place of the one with that number among the contacts.
+    #[inline(always)]
+    pub fn put_contact(&mut self, number: usize, row: &ContactRow)
+        requires { number < length (contacts_among (all_rows self.old)) }
+        ensures contacts { contacts_among (all_rows self.new) ≡ slice_set (contacts_among (all_rows self.old)) number row.now }
+        ensures joints { joints_among (all_rows self.new) ≡ joints_among (all_rows self.old) }
+        ensures kinds { map is_joint (all_rows self.new) ≡ map is_joint (all_rows self.old) }
+        ensures counts { map length self.new.colours ≡ map length self.old.colours }
+    {
+        put_row(&mut self.contacts, number, *row);
     }
 
     /// The rows of all joints, in solve order.

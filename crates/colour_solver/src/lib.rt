@@ -19,7 +19,7 @@ mod row_visits;
 mod step_solver;
 mod ticks;
 
-pub use colour_rows::{RowPlace, Rows};
+pub use colour_rows::Rows;
 pub use constraint_passes::Passes;
 pub use constraint_row::ConstraintRow;
 pub use constraint_visits::{Bounce, Solve, Warm};

@@ -2,7 +2,7 @@
 use Rattle.std.proofs.Common.{◌≡◌, ◌≢◌, ℕ, zero, suc, ◌+◌, ◌-◌, ◌<◌, ◌≤◌, ◌^◌, Bool, true, false, cond, List, [], ◌∷◌, ◌++◌, filter, length, map, take, drop, get_or, set, nat_eq, inl, inr, arith, refl, subst, sym, ap, ap₂, ◌∙◌}
 use Rattle.std.proofs.lemmas.Bool.{cases_lt}
 use Rattle.std.proofs.lemmas.Bool.Decides.{nat_tests}
-use Rattle.std.proofs.lemmas.List.{append_assoc, get_or-drop, get_or-set_other, get_or-set_same, length-drop, length-map, length-set, map-append, take_more}
+use Rattle.std.proofs.lemmas.List.{get_or-set_other, get_or-set_same, length-map, length-set}
 use Rattle.momenta.specs.declared.state.BodyState.{BodyState}
 use Rattle.colour_solver.specs.declared.row_visits.Slots.{Slots}
 use Rattle.joint_rows.specs.declared.row.JointRow.{JointRow}
@@ -11,7 +11,6 @@ use Rattle.colour_solver.specs.declared.constraint_row.ConstraintRow.{Constraint
 use Rattle.colour_solver.specs.Colour.{is_mover}
 use Rattle.colour_solver.specs.ColourRows.{ColourRows, all_rows}
 use Rattle.colour_solver.specs.ConstraintVisits.{contact_slots, contacts_among, joint_slots, joints_among}
-use Rattle.colour_solver.specs.RowVisits.{between}
 use Rattle.part_runs.specs.Hidden.{ArePartsBelow, part_at, part_of}
 use Rattle.part_runs.specs.Laws.{CursorsMove}
 use Rattle.part_runs.specs.ReadBack.{AreRowsBack, cursor}
@@ -119,27 +118,6 @@ read_one owners now part i q number other row cursors back lt is at_cursor there
     ∙ ap (λ (n : ℕ). get_or (part q) n other) (at_cursor ∙ known q there)
     ∙ (λ j. get_or (part (is j)) (cursor owners (is j) i) other)
     ∙ sym (back i other lt)
-
--- ---- the rows from one number up to another
-
-between_from : {R : Type 0} (xs : List R) (s m i : ℕ) (x : R) → i ≡ s + m → i < length xs → x ≡ get_or xs i x → take (m + 1) (drop s xs) ≡ take m (drop s xs) ++ x ∷ []
-between_from {R} xs s m i x e lt is =
-    let there : m < length (drop s xs) = let long = length-drop s xs in omega (arith, e, lt, long) in
-    take_more (drop s xs) m x there ∙ ap (λ (y : R). take m (drop s xs) ++ y ∷ []) (get_or-drop s xs m x ∙ ap (λ (n : ℕ). get_or xs n x) (sym e) ∙ sym is)
-
-between_more : {R : Type 0} (xs : List R) (s i : ℕ) (x : R) → s ≤ i → i < length xs → x ≡ get_or xs i x → between s (i + 1) xs ≡ between s i xs ++ x ∷ []
-between_more {R} xs s i x le lt is =
-    let one : (i + 1) - s ≡ (i - s) + 1 = omega (arith, le) in
-    let at : i ≡ s + (i - s) = omega (arith, le) in
-    ap (λ (n : ℕ). take n (drop s xs)) one ∙ between_from xs s (i - s) i x at lt is
-
-pub left_more : {R X : Type 0} (f : R → X) (xs : List R) (s i : ℕ) (x : R) (first out new : List X) → s ≤ i → i < length xs → x ≡ get_or xs i x → out ≡ first ++ map f (between s i xs) → new ≡ out ++ f x ∷ [] → new ≡ first ++ map f (between s (i + 1) xs)
-left_more {R} {X} f xs s i x first out new le lt is known made =
-    made
-    ∙ ap (λ (l : List X). l ++ f x ∷ []) known
-    ∙ append_assoc first (map f (between s i xs)) (f x ∷ [])
-    ∙ ap (λ (l : List X). first ++ l) (sym (map-append f (between s i xs) (x ∷ [])))
-    ∙ ap (λ (l : List R). first ++ map f l) (sym (between_more xs s i x le lt is))
 
 -- a cursor that is moved on still fits
 pub small_cursor : (owners : List ℕ) (i q e : ℕ) (cursors : List ℕ) → AreCursors owners i cursors → q < length cursors → i < e → e < 2 ^ 64 → get_or cursors q 0 + 1 < 2 ^ 64

@@ -38,7 +38,6 @@ pub(crate) struct StepMemory {
     benches: Vec<Lists>,
     awake: Vec<u32>,
     carried: Vec<u32>,
-    rows: Rows,
     joint_cursors: Vec<usize>,
     contact_cursors: Vec<usize>,
 }
@@ -99,17 +98,6 @@ fn reserve_parts(parts: &mut Vec<Part>, count: usize) -> Result<(), Refusal>
     parts.clear();
     parts.reserve(count)?;
     Ok(())
-}
-
-/// Makes room for rows and colours where none are. Refused 1 where memory is wanting.
-fn reserve_rows(rows: &mut Rows, count: usize, colours: usize) -> Result<(), Refusal>
-    ensures colours { OnOk result (rows.new.colours ≡ []) }
-    ensures left { OnOk result (rows.new.left ≡ []) }
-    ensures room { OnOk result (count ≤ rows.new.room) }
-    ensures more { OnOk result (colours ≤ rows.new.more) }
-{
-    rows.clear();
-    rows.reserve(count, colours)
 }
 
 /// Takes the lists of parts and of seats back.
@@ -203,7 +191,6 @@ impl StepMemory {
             benches: Vec::new(alloc),
             awake: Vec::new(alloc),
             carried: Vec::new(alloc),
-            rows: Rows::new(alloc),
             joint_cursors: Vec::new(alloc),
             contact_cursors: Vec::new(alloc),
         }
@@ -226,10 +213,6 @@ impl StepMemory {
         ensures parts_room { OnOk result (parts ≤ vec_capacity self.new.parts) }
         ensures awake { OnOk result (self.new.awake.items ≡ awake.now) }
         ensures carried { OnOk result (self.new.carried.items ≡ carried.now) }
-        ensures no_colours { OnOk result (self.new.rows.colours ≡ []) }
-        ensures no_rows { OnOk result (self.new.rows.left ≡ []) }
-        ensures room { OnOk result (rows ≤ self.new.rows.room) }
-        ensures more { OnOk result (colours ≤ self.new.rows.more) }
         ensures joint_cursors { OnOk result (length self.new.joint_cursors.items ≡ parts) }
         ensures contact_cursors { OnOk result (length self.new.contact_cursors.items ≡ parts) }
         ensures joint_zeros { OnOk result ((k : ℕ) → slice_index_or self.new.joint_cursors.items k 0 ≡ 0) }
@@ -242,7 +225,6 @@ impl StepMemory {
         reserve_parts(&mut self.parts, parts)?;
         copy_slots(&mut self.awake, awake)?;
         copy_slots(&mut self.carried, carried)?;
-        reserve_rows(&mut self.rows, rows, colours)?;
         clear_cursors(&mut self.joint_cursors, parts)?;
         clear_cursors(&mut self.contact_cursors, parts)
     }
@@ -271,7 +253,6 @@ fn take_step(
     ensures seats { lists.new.seats ≡ lists.old.seats }
     ensures parts { lists.new.parts ≡ lists.old.parts }
     ensures benches { lists.new.benches ≡ lists.old.benches }
-    ensures spare { lists.new.rows ≡ lists.old.rows }
     ensures joint_cursors { lists.new.joint_cursors ≡ lists.old.joint_cursors }
     ensures contact_cursors { lists.new.contact_cursors ≡ lists.old.contact_cursors }
 {
@@ -299,7 +280,6 @@ fn put_step(
     ensures rows { rows.new ≡ step.rows }
     ensures home { home.new.items ≡ step.home }
     ensures parts { lists.new.parts ≡ lists.old.parts }
-    ensures spare { lists.new.rows ≡ lists.old.rows }
     ensures joint_cursors { lists.new.joint_cursors ≡ lists.old.joint_cursors }
     ensures contact_cursors { lists.new.contact_cursors ≡ lists.old.contact_cursors }
 {
@@ -332,7 +312,6 @@ fn seat_parts(
     ensures seated { OnOk result (AreSeated (arc_value step.now) 0 lists.new.seats.items) }
     ensures as_many { OnOk result (length lists.new.seats.items ≡ length lists.old.benches.items) }
     ensures parts { lists.new.parts ≡ lists.old.parts }
-    ensures spare { lists.new.rows ≡ lists.old.rows }
     ensures joint_cursors { lists.new.joint_cursors ≡ lists.old.joint_cursors }
     ensures contact_cursors { lists.new.contact_cursors ≡ lists.old.contact_cursors }
 {
@@ -363,7 +342,6 @@ fn run_parts<R: Wait, G: Gate>(
     requires parts_room { length lists.old.benches.items ≤ vec_capacity lists.old.parts }
     ensures runs { result ≡ true → (k : ℕ) → k < length lists.new.parts.items → run_at lists.new.parts.items k ≡ part_ran (arc_value step.now) k }
     ensures as_many { result ≡ true → length lists.new.parts.items ≡ length lists.old.benches.items }
-    ensures spare { lists.new.rows ≡ lists.old.rows }
     ensures joint_cursors { lists.new.joint_cursors ≡ lists.old.joint_cursors }
     ensures contact_cursors { lists.new.contact_cursors ≡ lists.old.contact_cursors }
 {
@@ -403,7 +381,6 @@ fn solve_parts<R: Wait, G: Gate>(
     ensures home { home.new.items ≡ home.old.items }
     ensures runs { result ≡ true → (k : ℕ) → k < length lists.new.parts.items → run_at lists.new.parts.items k ≡ part_ran (record { states = states.old.items; rows = rows.old; home = home.old.items; gravity = gravity; count = count }) k }
     ensures as_many { result ≡ true → length lists.new.parts.items ≡ length lists.old.benches.items }
-    ensures spare { lists.new.rows ≡ lists.old.rows }
     ensures joint_cursors { lists.new.joint_cursors.items ≡ lists.old.joint_cursors.items }
     ensures contact_cursors { lists.new.contact_cursors.items ≡ lists.old.contact_cursors.items }
 {
@@ -439,10 +416,6 @@ fn read_back(
 ) -> Option<Outcome>
     requires few { length lists.old.parts.items ≤ MOST_PARTS }
     requires homes { ArePartsBelow (part_at home.now) (length lists.old.parts.items) }
-    requires no_colours { lists.old.rows.colours ≡ [] }
-    requires no_rows { lists.old.rows.left ≡ [] }
-    requires room { length (all_rows rows.old) ≤ lists.old.rows.room }
-    requires more { length rows.old.colours ≤ lists.old.rows.more }
     requires joint_cursors { length lists.old.joint_cursors.items ≡ length lists.old.parts.items }
     requires contact_cursors { length lists.old.contact_cursors.items ≡ length lists.old.parts.items }
     requires joint_zeros { (k : ℕ) → slice_index_or lists.old.joint_cursors.items k 0 ≡ 0 }
@@ -468,10 +441,8 @@ fn read_back(
         owners,
         &mut lists.joint_cursors,
         &mut lists.contact_cursors,
-        &mut lists.rows,
     );
     read_bodies(states, &lists.parts, home);
-    mem::swap(rows, &mut lists.rows);
     Some(Outcome {
         sums,
         long_waits: count_waits(&lists.parts),

@@ -1,14 +1,12 @@
-//! The rows of a step, read back from its parts: each is the next one of its part.
+//! The rows of a step, read back from its parts where they stand: each is the next one of its part.
 
-ghost use Rattle.std.specs.Prelude.{◌≡◌, ◌+◌, ◌-◌, ◌++◌, ◌<◌, ◌≤◌, ◌^◌, List, [], length, map, slice_index_or, slice_set, true};
+ghost use Rattle.std.specs.Prelude.{◌≡◌, ◌+◌, ◌<◌, ◌≤◌, ◌^◌, List, length, map, slice_index_or, slice_set, true};
 ghost use Rattle.std.specs.List.{flat_map};
 ghost use Rattle.joint_rows.specs.declared.row.JointRow.{JointRow as TheJointRow};
 ghost use Rattle.colour_solver_base.specs.declared.row.ContactRow.{ContactRow as TheContactRow};
-ghost use Rattle.colour_solver.specs.ColourRows.{all_rows, joints_first};
-ghost use Rattle.colour_solver.specs.ConstraintVisits.{contact_slots, contacts_among, joint_slots, joints_among};
-ghost use Rattle.colour_solver.specs.RowVisits.{between};
+ghost use Rattle.colour_solver.specs.ColourRows.{all_rows};
+ghost use Rattle.colour_solver.specs.ConstraintVisits.{contact_slots, contacts_among, is_joint, joint_slots, joints_among};
 ghost use Rattle.colour_solver.specs.declared.constraint_row.ConstraintRow.{ConstraintRow as TheConstraintRow};
-ghost use Rattle.colour_solver.specs.declared.constraint_row.ConstraintRow.TheVariants.{Contact, Joint};
 ghost use Rattle.part_runs.specs.Hidden.{ArePartsBelow, part_at};
 ghost use Rattle.part_runs.specs.ReadBack.{AreRowsBack};
 ghost use Rattle.part_solver.specs.Parts.{run_at};
@@ -21,7 +19,7 @@ use colour_solver::{Row, Rows, Slots};
 use colour_solver_base::ContactRow;
 use joint_rows::JointRow;
 use momenta::BodyState;
-use part_runs::laws::cursors_move;
+use part_runs::laws::{cursors_move, kinds_determine_rows};
 
 /// The number of a part's next row, which is one further then.
 #[inline(always)]
@@ -44,20 +42,6 @@ pub(crate) struct Owners<'a> {
     pub(crate) home: &'a [u32],
 }
 
-/// Joints, of which the first `coloured` have colours.
-#[derive(Clone, Copy)]
-struct Joints<'a> {
-    rows: &'a [JointRow],
-    coloured: usize,
-}
-
-/// Contacts, of which the first `coloured` have colours.
-#[derive(Clone, Copy)]
-struct Contacts<'a> {
-    rows: &'a [ContactRow],
-    coloured: usize,
-}
-
 /// The part of the row with that number in a list of which so many rows have colours.
 #[inline(always)]
 fn owner(owners: Owners, slots: Slots, index: usize, coloured: usize) -> u32
@@ -71,109 +55,100 @@ fn owner(owners: Owners, slots: Slots, index: usize, coloured: usize) -> u32
     }
 }
 
-/// The joint with that number among those of a part; another one where there is none.
+/// The joints of a part.
 #[inline(always)]
-fn joint_in<'a>(parts: &'a [Part], part: u32, number: usize, other: &'a JointRow) -> &'a JointRow
-    ensures { result.now ≡ slice_index_or (joints_among (run_at parts.now part).rows) number other.now }
+fn joints_of(parts: &[Part], part: u32) -> &[JointRow]
+    ensures { result.now ≡ joints_among (run_at parts.now part).rows }
 {
     match parts.get(part as usize) {
-        None => other,
-        Some(part) => match part.joints().get(number) {
-            None => other,
-            Some(joint) => joint,
-        },
+        None => &[],
+        Some(part) => part.joints(),
     }
 }
 
-/// Reads the joints from one number up to another back into the colour that hasn't ended.
-fn read_joints(
-    joints: Joints,
-    start: usize,
-    end: usize,
-    owners: Owners,
-    cursors: &mut Vec<usize>,
-    out: &mut Rows,
-)
-    requires ascend { start ≤ end }
-    requires inside { end ≤ length joints.rows.now }
-    requires room { end - start ≤ out.old.room }
-    requires first { contacts_among out.old.left ≡ [] }
+/// Puts the joint with that number among those of a part in place of the one with the number `index` among all; of none where there is none.
+#[inline(always)]
+fn put_joint(rows: &mut Rows, index: usize, own: &[JointRow], number: usize)
+    requires { index < length (joints_among (all_rows rows.old)) }
+    ensures joints { (d : TheJointRow) → joints_among (all_rows rows.new) ≡ slice_set (joints_among (all_rows rows.old)) index (slice_index_or own.now number (slice_index_or (joints_among (all_rows rows.old)) index d)) }
+    ensures contacts { contacts_among (all_rows rows.new) ≡ contacts_among (all_rows rows.old) }
+    ensures kinds { map is_joint (all_rows rows.new) ≡ map is_joint (all_rows rows.old) }
+    ensures counts { map length rows.new.colours ≡ map length rows.old.colours }
+{
+    match own.get(number) {
+        None => {}
+        Some(joint) => rows.put_joint(index, joint),
+    }
+}
+
+/// Reads all joints back, of which the first `coloured` have colours.
+fn read_joints(rows: &mut Rows, coloured: usize, owners: Owners, cursors: &mut Vec<usize>)
     requires homes { ArePartsBelow (part_at owners.home.now) (length cursors.old.items) }
-    requires cursors { AreCursors (owners_cut joint_slots owners.home.now owners.states.now joints.coloured joints.rows.now) start cursors.old.items }
-    ensures left { (now : List TheJointRow) → AreRowsBack (owners_cut joint_slots owners.entry.home.now owners.entry.states.now joints.entry.coloured joints.entry.rows.now) (λ k. joints_among (run_at owners.entry.parts.now k).rows) now → length now ≡ length joints.entry.rows.now → out.new.left ≡ out.old.left ++ map Joint (between start end now) }
-    ensures first { contacts_among out.new.left ≡ [] }
-    ensures colours { out.new.colours ≡ out.old.colours }
-    ensures room { out.old.room ≤ out.new.room + (end - start) }
-    ensures more { out.new.more ≡ out.old.more }
-    ensures cursors { AreCursors (owners_cut joint_slots owners.entry.home.now owners.entry.states.now joints.entry.coloured joints.entry.rows.now) end cursors.new.items }
-    ensures as_many { length cursors.new.items ≡ length cursors.old.items }
+    requires cursors { AreCursors (owners_cut joint_slots owners.home.now owners.states.now coloured (joints_among (all_rows rows.old))) 0 cursors.old.items }
+    ensures joints { (now : List TheJointRow) → AreRowsBack (owners_cut joint_slots owners.entry.home.now owners.entry.states.now coloured (joints_among (all_rows rows.old))) (λ k. joints_among (run_at owners.entry.parts.now k).rows) now → length now ≡ length (joints_among (all_rows rows.old)) → joints_among (all_rows rows.new) ≡ now }
+    ensures contacts { contacts_among (all_rows rows.new) ≡ contacts_among (all_rows rows.old) }
+    ensures kinds { map is_joint (all_rows rows.new) ≡ map is_joint (all_rows rows.old) }
+    ensures counts { map length rows.new.colours ≡ map length rows.old.colours }
 {
     cursors_move();
-    for index in start..end {
-        let row = row_at(joints.rows, index);
-        let part = owner(owners, row.slots(), index, joints.coloured);
+    for index in 0..rows.joints().len() {
+        let part = owner(
+            owners,
+            row_at(rows.joints(), index).slots(),
+            index,
+            coloured,
+        );
         let number = next_of(cursors, part);
-        let back = joint_in(owners.parts, part, number, row);
-        out.push_joint(*back);
+        put_joint(rows, index, joints_of(owners.parts, part), number);
     }
 }
 
-/// The contact with that number among those of a part; another one where there is none.
+/// The contacts of a part.
 #[inline(always)]
-fn contact_in<'a>(
-    parts: &'a [Part],
-    part: u32,
-    number: usize,
-    other: &'a ContactRow,
-) -> &'a ContactRow
-    ensures { result.now ≡ slice_index_or (contacts_among (run_at parts.now part).rows) number other.now }
+fn contacts_of(parts: &[Part], part: u32) -> &[ContactRow]
+    ensures { result.now ≡ contacts_among (run_at parts.now part).rows }
 {
     match parts.get(part as usize) {
-        None => other,
-        Some(part) => match part.contacts().get(number) {
-            None => other,
-            Some(contact) => contact,
-        },
+        None => &[],
+        Some(part) => part.contacts(),
     }
 }
 
-/// Reads the contacts from one number up to another back into the colour that hasn't ended.
-fn read_contacts(
-    contacts: Contacts,
-    start: usize,
-    end: usize,
-    owners: Owners,
-    cursors: &mut Vec<usize>,
-    out: &mut Rows,
-)
-    requires ascend { start ≤ end }
-    requires inside { end ≤ length contacts.rows.now }
-    requires room { end - start ≤ out.old.room }
+/// Puts the contact with that number among those of a part in place of the one with the number `index` among all; of none where there is none.
+#[inline(always)]
+fn put_contact(rows: &mut Rows, index: usize, own: &[ContactRow], number: usize)
+    requires { index < length (contacts_among (all_rows rows.old)) }
+    ensures contacts { (d : TheContactRow) → contacts_among (all_rows rows.new) ≡ slice_set (contacts_among (all_rows rows.old)) index (slice_index_or own.now number (slice_index_or (contacts_among (all_rows rows.old)) index d)) }
+    ensures joints { joints_among (all_rows rows.new) ≡ joints_among (all_rows rows.old) }
+    ensures kinds { map is_joint (all_rows rows.new) ≡ map is_joint (all_rows rows.old) }
+    ensures counts { map length rows.new.colours ≡ map length rows.old.colours }
+{
+    match own.get(number) {
+        None => {}
+        Some(contact) => rows.put_contact(index, contact),
+    }
+}
+
+/// Reads all contacts back, of which the first `coloured` have colours.
+fn read_contacts(rows: &mut Rows, coloured: usize, owners: Owners, cursors: &mut Vec<usize>)
     requires homes { ArePartsBelow (part_at owners.home.now) (length cursors.old.items) }
-    requires cursors { AreCursors (owners_cut contact_slots owners.home.now owners.states.now contacts.coloured contacts.rows.now) start cursors.old.items }
-    ensures left { (now : List TheContactRow) → AreRowsBack (owners_cut contact_slots owners.entry.home.now owners.entry.states.now contacts.entry.coloured contacts.entry.rows.now) (λ k. contacts_among (run_at owners.entry.parts.now k).rows) now → length now ≡ length contacts.entry.rows.now → out.new.left ≡ out.old.left ++ map Contact (between start end now) }
-    ensures colours { out.new.colours ≡ out.old.colours }
-    ensures room { out.old.room ≤ out.new.room + (end - start) }
-    ensures more { out.new.more ≡ out.old.more }
-    ensures cursors { AreCursors (owners_cut contact_slots owners.entry.home.now owners.entry.states.now contacts.entry.coloured contacts.entry.rows.now) end cursors.new.items }
-    ensures as_many { length cursors.new.items ≡ length cursors.old.items }
+    requires cursors { AreCursors (owners_cut contact_slots owners.home.now owners.states.now coloured (contacts_among (all_rows rows.old))) 0 cursors.old.items }
+    ensures contacts { (now : List TheContactRow) → AreRowsBack (owners_cut contact_slots owners.entry.home.now owners.entry.states.now coloured (contacts_among (all_rows rows.old))) (λ k. contacts_among (run_at owners.entry.parts.now k).rows) now → length now ≡ length (contacts_among (all_rows rows.old)) → contacts_among (all_rows rows.new) ≡ now }
+    ensures joints { joints_among (all_rows rows.new) ≡ joints_among (all_rows rows.old) }
+    ensures kinds { map is_joint (all_rows rows.new) ≡ map is_joint (all_rows rows.old) }
+    ensures counts { map length rows.new.colours ≡ map length rows.old.colours }
 {
     cursors_move();
-    for index in start..end {
-        let row = row_at(contacts.rows, index);
-        let part = owner(owners, row.slots(), index, contacts.coloured);
+    for index in 0..rows.contacts().len() {
+        let part = owner(
+            owners,
+            row_at(rows.contacts(), index).slots(),
+            index,
+            coloured,
+        );
         let number = next_of(cursors, part);
-        let back = contact_in(owners.parts, part, number, row);
-        out.push_contact(*back);
+        put_contact(rows, index, contacts_of(owners.parts, part), number);
     }
-}
-
-/// Of the rows that have no colour the joints come first. The function does nothing; its contract is the law.
-#[inline(always)]
-fn know_joints_first(rows: &Rows)
-    ensures { joints_first (joints_among rows.now.left) (contacts_among rows.now.left) ≡ rows.now.left }
-{
-    let _ = rows.joints_left();
 }
 
 /// How many joints have colours.
@@ -190,60 +165,22 @@ fn coloured_contacts(rows: &Rows) -> usize
     rows.contacts().len() - rows.contacts_left().len()
 }
 
-/// Reads all rows back, each into its colour, where no rows are.
+/// Reads all rows back, each into its place.
 pub(crate) fn read_rows(
-    rows: &Rows,
+    rows: &mut Rows,
     owners: Owners,
     joint_cursors: &mut Vec<usize>,
     contact_cursors: &mut Vec<usize>,
-    out: &mut Rows,
 )
-    requires colours { out.old.colours ≡ [] }
-    requires left { out.old.left ≡ [] }
-    requires room { length (all_rows rows.now) ≤ out.old.room }
-    requires more { length rows.now.colours ≤ out.old.more }
     requires joint_homes { ArePartsBelow (part_at owners.home.now) (length joint_cursors.old.items) }
     requires contact_homes { ArePartsBelow (part_at owners.home.now) (length contact_cursors.old.items) }
-    requires first_joints { AreCursors (joint_owners owners.home.now owners.states.now rows.now) 0 joint_cursors.old.items }
-    requires first_contacts { AreCursors (contact_owners owners.home.now owners.states.now rows.now) 0 contact_cursors.old.items }
-    ensures { (now : List TheConstraintRow) → AreBack owners.entry.home.now owners.entry.states.now rows.now owners.entry.parts.now now → IsReadBack rows.now now out.new }
+    requires first_joints { AreCursors (joint_owners owners.home.now owners.states.now rows.old) 0 joint_cursors.old.items }
+    requires first_contacts { AreCursors (contact_owners owners.home.now owners.states.now rows.old) 0 contact_cursors.old.items }
+    ensures { (now : List TheConstraintRow) → AreBack owners.entry.home.now owners.entry.states.now rows.old owners.entry.parts.now now → IsReadBack rows.old now rows.new }
 {
-    let joints = Joints {
-        rows: rows.joints(),
-        coloured: coloured_joints(rows),
-    };
-    let contacts = Contacts {
-        rows: rows.contacts(),
-        coloured: coloured_contacts(rows),
-    };
-    let all_joints = joints.rows.len();
-    let all_contacts = contacts.rows.len();
-    let mut joints_at = 0;
-    let mut contacts_at = 0;
-    for colour in 0..rows.colours() {
-        let joints_end = joints_at + rows.joints_in(colour).len();
-        let contacts_end = contacts_at + rows.contacts_in(colour).len();
-        read_joints(joints, joints_at, joints_end, owners, joint_cursors, out);
-        read_contacts(
-            contacts,
-            contacts_at,
-            contacts_end,
-            owners,
-            contact_cursors,
-            out,
-        );
-        out.end_colour();
-        joints_at = joints_end;
-        contacts_at = contacts_end;
-    }
-    know_joints_first(rows);
-    read_joints(joints, joints_at, all_joints, owners, joint_cursors, out);
-    read_contacts(
-        contacts,
-        contacts_at,
-        all_contacts,
-        owners,
-        contact_cursors,
-        out,
-    );
+    kinds_determine_rows();
+    let joints = coloured_joints(rows);
+    let contacts = coloured_contacts(rows);
+    read_joints(rows, joints, owners, joint_cursors);
+    read_contacts(rows, contacts, owners, contact_cursors);
 }

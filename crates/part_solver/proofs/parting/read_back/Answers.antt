@@ -25,5 +25,5 @@ returns-clause-solved c = λ t is.
     } in
     let ranges = subst (λ (l : List Solved). (k : ℕ) → k < length l → IsInRange (run_at l k)) c.deref.ensures.value known.ranges in
     let bodies = subst (λ (l : List Solved). AreBodiesBack (part_at home) states (λ k. (run_at l k).states) (run_of_all s).states) (sym c.deref-2.ensures.value) to.states in
-    step_solved s parts by c.parts_are_runs.ensures c.parts_step_all.ensures ranges added sums (c.are_small.ensures c.if-not-are_small.false) c.read_bodies.new.states.items c.swap.new.x
-    (c.read_bodies.ensures (run_of_all s).states bodies to.long) (rw c.swap.ensures.x_after (c.read_rows.ensures (run_of_all s).rows (rw (c.as_slice.ensures.value, c.as_slice-2.ensures.value) to.rows)))
+    step_solved s parts by c.parts_are_runs.ensures c.parts_step_all.ensures ranges added sums (c.are_small.ensures c.if-not-are_small.false) c.read_bodies.new.states.items c.read_rows.new.rows
+    (c.read_bodies.ensures (run_of_all s).states bodies to.long) (c.read_rows.ensures (run_of_all s).rows (rw (c.as_slice.ensures.value, c.as_slice-2.ensures.value) to.rows))

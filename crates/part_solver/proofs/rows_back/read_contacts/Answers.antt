@@ -1,45 +1,84 @@
-use Rattle.std.proofs.Common.{◌+◌, ◌<◌, Fits, w64, length, slice_index_or, arith, rules, refl, sym, subst, ap, ◌∙◌}
+use Rattle.std.proofs.Common.{◌≡◌, ◌+◌, ◌<◌, ◌≤◌, ◌^◌, ℕ, List, length, set, slice_index_or, arith, rules, refl, sym, subst, ap, ◌∙◌}
 use Rattle.std.proofs.lemmas.List.{length-set}
+use Rattle.colour_solver_base.specs.declared.row.ContactRow.{ContactRow}
+use Rattle.colour_solver.specs.ColourRows.{all_rows}
 use Rattle.colour_solver.specs.ConstraintVisits.{contact_slots, contacts_among}
-use Rattle.colour_solver.specs.declared.constraint_row.ConstraintRow.TheVariants.{Contact}
+use Rattle.part_runs.specs.ReadBack.{AreRowsBack}
 use Rattle.part_solver.specs.Parts.{run_at}
 use Rattle.part_solver.specs.ReadingBack.{owners_cut}
-use Rattle.part_solver.proofs.CursorLaws.{left_more, owner_below, row_read, small_cursor}
+use Rattle.part_solver.proofs.CursorLaws.{owner_below, row_read, small_cursor}
+use Rattle.part_solver.proofs.ReadLaws.{at_behind, read_all, read_on}
 use Rattle.part_solver.proofs.rows_back.read_contacts.Goals as goal
+
+pub loop-index-init : goal.loop-index-init
+loop-index-init c = record {
+  contacts = record { done = λ now is long. refl; behind = refl; long = refl };
+  joints = refl;
+  kinds = refl;
+  counts = refl;
+  cursors = c.requires.cursors;
+  as_many = refl;
+}
+
+pub row_at-requires : goal.row_at-requires
+row_at-requires c =
+    let all = ap length c.contacts-index-end.ensures in
+    let here = ap length c.contacts.ensures in
+    omega (arith, c.loop-index-test.true, all, here, c.loop-index.invariant.contacts.long)
+
+pub put_contact-requires : goal.put_contact-requires
+put_contact-requires c =
+    let all = ap length c.contacts-index-end.ensures in
+    omega (arith, c.loop-index-test.true, all, c.loop-index.invariant.contacts.long)
 
 pub next_of-number-requires-clause-there : goal.next_of-number-requires-clause-there
 next_of-number-requires-clause-there c =
     subst (λ n. c.owner-part.result < n) (sym c.loop-index.invariant.as_many)
-    (owner_below c.args.owners.home.now c.args.owners.states.now (length c.args.cursors.now.items) c.args.contacts.coloured c.loop-index.index c.owner-part.result c.slots.result c.requires.homes c.owner-part.ensures.coloured c.owner-part.ensures.left)
+    (owner_below c.args.owners.home.now c.args.owners.states.now (length c.args.cursors.now.items) c.args.coloured c.loop-index.index c.owner-part.result c.slots.result c.requires.homes c.owner-part.ensures.coloured c.owner-part.ensures.left)
 
 pub next_of-number-requires-clause-small : goal.next_of-number-requires-clause-small
 next_of-number-requires-clause-small c =
-    let fits : Fits w64 c.args.end = search rules in
+    let small : length c.contacts-index-end.result.now < 2 ^ 64 = search rules in
     let there : c.owner-part.result < length c.loop-index.cursors.items =
     subst (λ n. c.owner-part.result < n) (sym c.loop-index.invariant.as_many)
-    (owner_below c.args.owners.home.now c.args.owners.states.now (length c.args.cursors.now.items) c.args.contacts.coloured c.loop-index.index c.owner-part.result c.slots.result c.requires.homes c.owner-part.ensures.coloured c.owner-part.ensures.left) in
-    small_cursor (owners_cut contact_slots c.args.owners.home.now c.args.owners.states.now c.args.contacts.coloured c.args.contacts.rows.now) c.loop-index.index c.owner-part.result c.args.end c.loop-index.cursors.items c.loop-index.invariant.cursors there c.loop-index-test.true fits.fits
+    (owner_below c.args.owners.home.now c.args.owners.states.now (length c.args.cursors.now.items) c.args.coloured c.loop-index.index c.owner-part.result c.slots.result c.requires.homes c.owner-part.ensures.coloured c.owner-part.ensures.left) in
+    small_cursor (owners_cut contact_slots c.args.owners.home.now c.args.owners.states.now c.args.coloured (contacts_among (all_rows c.args.rows.now))) c.loop-index.index c.owner-part.result (length c.contacts-index-end.result.now) c.loop-index.cursors.items c.loop-index.invariant.cursors there c.loop-index-test.true small
 
 pub loop-index-preserved : goal.loop-index-preserved
 loop-index-preserved c =
     let home = c.args.owners.home.now in
     let ss = c.args.owners.states.now in
-    let n = c.args.contacts.coloured in
-    let all = c.args.contacts.rows.now in
+    let n = c.args.coloured in
+    let first = contacts_among (all_rows c.args.rows.now) in
+    let rows = contacts_among (all_rows c.loop-index.rows) in
+    let part = λ (k : ℕ). contacts_among (run_at c.args.owners.parts.now k).rows in
     let i = c.loop-index.index in
     let known = c.loop-index.invariant in
     let old = c.loop-index.cursors.items in
     let q = c.owner-part.result in
-    let back = c.contact_in-back.result.now in
-    let lt : i < length all = omega (arith, c.loop-index-test.true, c.requires.inside) in
+    let row = c.row_at.result.now in
+    let number = c.next_of-number.result in
+    let back = slice_index_or (part q) number row in
+    let all : length c.contacts-index-end.result.now ≡ length first = ap length c.contacts-index-end.ensures in
+    let lt : i < length first = omega (arith, c.loop-index-test.true, all) in
     let there : q < length old = subst (λ n. q < n) (sym known.as_many) (owner_below home ss (length c.args.cursors.now.items) n i q c.slots.result c.requires.homes c.owner-part.ensures.coloured c.owner-part.ensures.left) in
-    let done = row_read contact_slots home ss n all (λ k. contacts_among (run_at c.args.owners.parts.now k).rows) i q c.next_of-number.result c.slots.result _ _ back old c.next_of-number.new.cursors.items c.contact_in-back.ensures c.cursors_move.ensures lt c.row_at-row.ensures c.slots.ensures there c.owner-part.ensures.coloured c.owner-part.ensures.left c.next_of-number.ensures.number c.next_of-number.ensures.further known.cursors in
+    let here : row ≡ slice_index_or rows i row = c.row_at.ensures ∙ ap (λ (l : List ContactRow). slice_index_or l i row) c.contacts.ensures in
+    let stood : row ≡ slice_index_or first i row = here ∙ at_behind rows first i row known.contacts.behind in
+    let done = row_read contact_slots home ss n first part i q number c.slots.result row row back old c.next_of-number.new.cursors.items refl c.cursors_move.ensures lt stood c.slots.ensures there c.owner-part.ensures.coloured c.owner-part.ensures.left c.next_of-number.ensures.number c.next_of-number.ensures.further known.cursors in
+    let made : contacts_among (all_rows c.put_contact.new.rows) ≡ set rows i back =
+    c.put_contact.ensures.contacts row ∙ (λ j. set rows i (slice_index_or (c.contacts_of.ensures j) number (sym here j))) in
     record {
-      left = λ now is long.
-          left_more Contact now c.args.start i back c.args.out.now.left c.loop-index.out.left c.push_contact.new.self.left (search rules) (omega (arith, lt, long)) (done.read now is long) (known.left now is long) c.push_contact.ensures.left;
-      colours = c.push_contact.ensures.colours ∙ known.colours;
-      room = search rules;
-      more = c.push_contact.ensures.more ∙ known.more;
+      contacts = read_on (λ (now : List ContactRow). AreRowsBack (owners_cut contact_slots home ss n first) part now) first rows (contacts_among (all_rows c.put_contact.new.rows)) i row back known.contacts lt made done.read;
+      joints = c.put_contact.ensures.joints ∙ known.joints;
+      kinds = c.put_contact.ensures.kinds ∙ known.kinds;
+      counts = c.put_contact.ensures.counts ∙ known.counts;
       cursors = done.cursors_are;
       as_many = ap length c.next_of-number.ensures.further ∙ length-set old q (slice_index_or old q 0 + 1) ∙ known.as_many;
     }
+
+pub returns-clause-contacts : goal.returns-clause-contacts
+returns-clause-contacts c = λ now is long.
+    let first = contacts_among (all_rows c.args.rows.now) in
+    let all : length c.contacts-index-end.result.now ≡ length first = ap length c.contacts-index-end.ensures in
+    let inside : length first ≤ c.loop-index.index = omega (arith, c.loop-index-test.false, all) in
+    read_all first now (contacts_among (all_rows c.loop-index.rows)) c.loop-index.index inside long (c.loop-index.invariant.contacts.done now is long)
