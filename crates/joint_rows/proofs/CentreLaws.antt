@@ -1,31 +1,30 @@
 -- An impulse between the centres of two bodies turns neither: whatever their angular momenta, it makes the same of all else, and leaves them.
-use Rattle.std.proofs.Common.{◌≡◌, zero, suc, ◌^◌, ◌≤◌, Bool, true, false, cond, Option, Some, None, ℤ, pos, negsuc, neg_ℤ, ◌+ℤ◌, ◌-ℤ◌, ◌*ℤ◌, unsigned_abs, arith, refl, sym, ap, ap₂, ◌∙◌}
+use Rattle.std.proofs.Common.{◌≡◌, zero, suc, ◌^◌, ◌≤◌, Bool, ◌&&◌, true, false, cond, Option, Some, None, ℤ, pos, negsuc, neg_ℤ, ◌+ℤ◌, ◌-ℤ◌, unsigned_abs, arith, refl, sym, ap, ap₂, ◌∙◌}
 use Rattle.std.proofs.lemmas.Bool.{le-leb}
-use Rattle.std.proofs.lemmas.Int.{ints}
+use Rattle.std.proofs.lemmas.Bool.Decides.{Decides-int_eq}
+use Rattle.std.specs.Ordering.{int_eq}
 use lib.IntN.{zero-*ℤ, *ℤ-zero, +ℤ_idr}
 use Rattle.fixed_geom.specs.Numbers.{rdiv}
-use Rattle.fixed_geom.specs.Vectors.{cross, is_within, minus, opposite, plus, unit_length, zero_vector}
+use Rattle.fixed_geom.specs.Facings.{rotate}
+use Rattle.fixed_geom.specs.Vectors.{cross, opposite, plus, unit_length, zero_vector}
 use Rattle.fixed_geom.specs.declared.vectors.Vec2.{Vec2}
 use Rattle.momenta.specs.declared.motion.Motion.{Motion}
 use Rattle.momenta.specs.declared.state.BodyState.{BodyState}
 use Rattle.momenta.specs.declared.state.Ends.{Ends}
 use Rattle.momenta.specs.declared.line.Line.{Line}
 use Rattle.momenta.specs.declared.line.Exerted.{Exerted}
-use Rattle.momenta.specs.declared.line_64.MomentaPair64.{MomentaPair64}
 use Rattle.momenta.specs.declared.line_64.Exerted64.{Exerted64}
 use Rattle.momenta.specs.Motions.{spin, velocity}
 use Rattle.momenta.specs.Impulses.{along, between, both, exerted, fits, given, impulse_pair, or_dropped, or_kept, parting, solved_impulse, speed_along, taken, turned_by, velocity_at, wanted, warmed}
-use Rattle.momenta.specs.ImpulseBounds.{AreSameBodies, AreStates, IsMomentumKept, IsSameBody, IsState}
+use Rattle.momenta.specs.ImpulseBounds.{AreStates, IsSameBody, IsState}
 use Rattle.momenta.specs.Line64.{both_ends, ends_with, with_momenta}
-use Rattle.joint_rows.specs.declared.centres_64.MomentumPair.{MomentumPair}
-use Rattle.joint_rows.specs.declared.centres_64.Pushed64.{Pushed64}
 use Rattle.joint_rows.specs.declared.row.JointRow.{JointRow}
 use Rattle.joint_rows.specs.declared.solve.JointAfter.{JointAfter}
 use Rattle.joint_rows.specs.declared.limits.TheConstants.{MAX_JOINT_IMPULSE}
-use Rattle.joint_rows.specs.Joints.{joint_bias}
+use Rattle.joint_rows.specs.Joints.{arm, is_zero, joint_bias}
 use Rattle.joint_rows.specs.Rows.{joint_solved, joint_warmed, stretch_now}
 use Rattle.joint_rows.specs.Row64.{IsJointAfter64}
-use Rattle.joint_rows.specs.Centres64.{IsBetweenCentres, IsPushedAfter64, with_own_turning, without_turning}
+use Rattle.joint_rows.specs.Centres64.{IsBetweenCentres, IsPushedAfter64, without_turning}
 
 -- ---- other angular momenta
 
@@ -214,3 +213,23 @@ solved_own r a b ha hb c = joint_solved_alike r a.motion.l b.motion.l (ends_with
 
 pub warmed_own : (r : JointRow) (a b : BodyState) → IsState a → IsState b → IsBetweenCentres r.line → joint_warmed r (both_ends a b) ≡ joint_turning a.motion.l b.motion.l (joint_warmed r (ends_with a b (without_turning a b)))
 warmed_own r a b ha hb c = joint_warmed_alike r a.motion.l b.motion.l (ends_with a b (without_turning a b)) c (record { a = none_turning a.motion.l a a.motion.p ha.motion.l; b = none_turning b.motion.l b b.motion.p hb.motion.l })
+
+-- ---- an anchor at the centre
+
+turned_nowhere : (c s : ℤ) (v : Vec2) → v.x ≡ pos 0 → v.y ≡ pos 0 → zero_vector ≡ rotate (record { c = c; s = s }) v
+unfolding rdiv
+turned_nowhere c s v h k = rw (h, k, *ℤ-zero c, *ℤ-zero s) refl
+
+first_of : (t u : Bool) → (t && u) ≡ true → t ≡ true
+first_of true u h = refl
+first_of false u h = absurd (let no : false ≡ true = h in cc)
+
+second_of : (t u : Bool) → (t && u) ≡ true → u ≡ true
+second_of true u h = h
+second_of false u h = absurd (let no : false ≡ true = h in cc)
+
+pub arm_of_centre : (anchor : Vec2) (s : BodyState) → is_zero anchor ≡ true → zero_vector ≡ arm anchor s
+arm_of_centre anchor s h =
+    let x = first_of (int_eq anchor.x (pos 0)) (int_eq anchor.y (pos 0)) h in
+    let y = second_of (int_eq anchor.x (pos 0)) (int_eq anchor.y (pos 0)) h in
+    turned_nowhere s.motion.rot.c s.motion.rot.s anchor ((Decides-int_eq anchor.x (pos 0)).0 x) ((Decides-int_eq anchor.y (pos 0)).0 y)

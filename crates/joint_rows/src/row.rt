@@ -76,6 +76,7 @@ fn is_zero(d: Vec2) -> bool
 }
 
 /// The direction of a way (times 2^30) whose length is known: upwards where it leads nowhere.
+#[inline(always)]
 fn direction_along(d: Vec2, length: i64) -> Vec2
     requires length { length ≡ span d }
     requires nonnegative { pos 0 ≤ℤ length }
@@ -91,6 +92,7 @@ fn direction_along(d: Vec2, length: i64) -> Vec2
 }
 
 /// The line along a direction (times 2^30) through the points at these offsets from the two centres (u).
+#[inline(always)]
 fn line_along(direction: Vec2, ra: Vec2, rb: Vec2, ends: &Ends) -> Line
     requires direction { IsWithin (unsigned_abs UNIT) direction }
     requires first { IsWithin (unsigned_abs MAX_OFFSET) ra }
@@ -110,17 +112,20 @@ fn line_along(direction: Vec2, ra: Vec2, rb: Vec2, ends: &Ends) -> Line
     }
 }
 
-/// The row of a joint of two bodies, one of them movable at least, which stand as they do when the step begins.
+/// The row of a joint, the offsets of its anchors from the two centres being known.
 #[tactic(auto, unfolding(crate::specs::Rows::joint_row))]
-pub fn joint_row(bodies: JointBodies, joint: &Joint, ends: &Ends) -> JointRow
+#[inline(always)]
+fn row_at(bodies: JointBodies, joint: &Joint, ra: Vec2, rb: Vec2, ends: &Ends) -> JointRow
     requires joint { IsJoint joint.now }
+    requires first { ra ≡ arm joint.now.from ends.now.a }
+    requires second { rb ≡ arm joint.now.to ends.now.b }
+    requires first_within { IsWithin (2 ^ 25) ra }
+    requires second_within { IsWithin (2 ^ 25) rb }
     requires states { AreStates ends.now }
     requires mover { (ends.now.a.movable ≡ true) ⊎ (ends.now.b.movable ≡ true) }
     ensures value { result ≡ joint_row bodies ends.now joint.now }
     ensures row { IsJointRow result }
 {
-    let ra = arm(joint.from, &ends.a);
-    let rb = arm(joint.to, &ends.b);
     let apart = gap(ra, rb, ends);
     let distance = span(apart);
     JointRow {
@@ -129,4 +134,36 @@ pub fn joint_row(bodies: JointBodies, joint: &Joint, ends: &Ends) -> JointRow
         stretch: distance - joint.length,
         impulse: joint.impulse,
     }
+}
+
+/// The row of a joint between two centres: nothing has to be turned.
+#[inline(always)]
+fn row_between_centres(bodies: JointBodies, joint: &Joint, ends: &Ends) -> JointRow
+    requires joint { IsJoint joint.now }
+    requires from { is_zero joint.now.from ≡ true }
+    requires to { is_zero joint.now.to ≡ true }
+    requires states { AreStates ends.now }
+    requires mover { (ends.now.a.movable ≡ true) ⊎ (ends.now.b.movable ≡ true) }
+    ensures value { result ≡ joint_row bodies ends.now joint.now }
+    ensures row { IsJointRow result }
+{
+    row_at(bodies, joint, ZERO_VECTOR, ZERO_VECTOR, ends)
+}
+
+/// The row of a joint of two bodies, one of them movable at least, which stand as they do when the step begins.
+pub fn joint_row(bodies: JointBodies, joint: &Joint, ends: &Ends) -> JointRow
+    requires joint { IsJoint joint.now }
+    requires states { AreStates ends.now }
+    requires mover { (ends.now.a.movable ≡ true) ⊎ (ends.now.b.movable ≡ true) }
+    ensures value { result ≡ joint_row bodies ends.now joint.now }
+    ensures row { IsJointRow result }
+{
+    if is_zero(joint.from) {
+        if is_zero(joint.to) {
+            return row_between_centres(bodies, joint, ends);
+        }
+    }
+    let ra = arm(joint.from, &ends.a);
+    let rb = arm(joint.to, &ends.b);
+    row_at(bodies, joint, ra, rb, ends)
 }

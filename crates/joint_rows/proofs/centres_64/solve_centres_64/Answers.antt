@@ -1,7 +1,6 @@
-use Rattle.std.proofs.Common.{◌≡◌, refl}
+use Rattle.std.proofs.Common.{refl}
 use Rattle.momenta.specs.Line64.{both_ends, ends_with}
 use Rattle.joint_rows.specs.Rows.{joint_solved}
-use Rattle.joint_rows.specs.Row64.{IsJointAfter64}
 use Rattle.joint_rows.specs.Centres64.{IsBetweenCentres, without_turning}
 use Rattle.joint_rows.proofs.CentreLaws.{own_after, solved_own}
 use Rattle.joint_rows.proofs.centres_64.solve_centres_64.Goals as goal

@@ -13,7 +13,7 @@ use Rattle.joint_rows.specs.declared.row.JointRow.{JointRow}
 use Rattle.joint_rows.specs.Joints.{arm, direction_along, gap, joint_gap}
 use Rattle.momenta.specs.Impulses.{line_along}
 use Rattle.joint_rows.specs.Rows.{joint_row}
-use Rattle.joint_rows.proofs.row.joint_row.Goals as goal
+use Rattle.joint_rows.proofs.row.row_at.Goals as goal
 
 exact : (distance length : ℤ) → unsigned_abs distance ≤ 2 ^ 39 → unsigned_abs length ≤ 2 ^ 25 → IsDifference64 distance length
 exact distance length h k = difference_64 distance length (omega (arith, h)) (omega (arith, k))
@@ -40,8 +40,8 @@ returns-clause-value c =
     let distance : SFits w64 c.span-distance.result = record { sfits = c.span-distance.type_inv } in
     let less = exact c.span-distance.result c.args.joint.now.length (c.span-distance.ensures.within (2 ^ 38) c.gap-apart.ensures.within) c.requires.joint.length in
     rw (less.value, to_z-of_z w64 c.args.joint.now.impulse impulse)
-    (row_is c.args.bodies c.args.joint.now c.args.ends.now c.arm-ra.result c.arm-rb.result c.gap-apart.result c.direction_along.result c.span-distance.result c.line_along.result
-    c.arm-ra.ensures.value c.arm-rb.ensures.value c.gap-apart.ensures.value c.span-distance.ensures.value c.direction_along.ensures.value c.line_along.ensures.value)
+    (row_is c.args.bodies c.args.joint.now c.args.ends.now c.args.ra c.args.rb c.gap-apart.result c.direction_along.result c.span-distance.result c.line_along.result
+    c.requires.first c.requires.second c.gap-apart.ensures.value c.span-distance.ensures.value c.direction_along.ensures.value c.line_along.ensures.value)
 
 pub returns-clause-row : goal.returns-clause-row
 returns-clause-row c =
