@@ -1,6 +1,6 @@
 //! Rows that are visited: each with its two bodies, one row after another, in solve order.
 
-ghost use Rattle.std.specs.Prelude.{◌≡◌, ◌≢◌, ◌^◌, ◌<◌, ◌≤◌, true, None, length, take, drop, IfSome};
+ghost use Rattle.std.specs.Prelude.{◌≡◌, ◌≢◌, ◌^◌, ◌<◌, ◌≤◌, ◌+ℤ◌, true, None, length, take, drop, IfSome};
 ghost use Rattle.momenta.specs.declared.state.Ends.{Ends};
 ghost use Rattle.momenta.specs.ImpulseBounds.{AreStates, AreSameBodies, IsMomentumKept, IsSameBody, IsState};
 ghost use Rattle.momenta.specs.Line64.{both_ends, with_momenta};
@@ -280,6 +280,21 @@ pub fn solve_one<R: Row, T: Visit<R>>(states: &mut Vec<BodyState>, row: &mut R, 
     }
 }
 
+/// The sum of what has been given and of what a visit gave, which is nothing between two movers.
+#[inline(always)]
+fn with_got(given: Gain, got: Gain) -> Gain
+    requires given { IsGain (2 ^ 78) given }
+    requires got { IsGain (2 ^ 62) got }
+    ensures x { result.x ≡ given.x +ℤ got.x }
+    ensures y { result.y ≡ given.y +ℤ got.y }
+{
+    if got.x == 0 && got.y == 0 {
+        given
+    } else {
+        plus(given, got)
+    }
+}
+
 /// One pass over the rows from the one with the number `start` up to the one with the number `end`, in their order, each with the bodies
 /// as those before it left them. Answers what immovable bodies have given to the movers (mass·u/tick); what two movers give one another
 /// leaves their sum alone.
@@ -305,7 +320,7 @@ pub fn pass_rows<R: Row, T: Visit<R>>(
     let mut given = NOTHING;
     for index in start..end {
         let got = solve_one(states, &mut rows[index], visit);
-        given = plus(given, got);
+        given = with_got(given, got);
     }
     given
 }

@@ -34,14 +34,14 @@ loop-index-preserved g c =
     let there : index < length rows = omega (arith, here, known.as_many) in
     let one = passed_one at is f states new row visited (as_vector got) made.states made.row made.got made.all_states made.below made.same made.momentum in
     let more = passed_more at is f before states new start index all rows row visited (as_vector given) (as_vector got) known.low here there c.index_mut.ensures.value known.behind known.passed one in
-    let passed : IsPassed at is f before (between start (index + 1) all) new (between start (index + 1) (set rows index visited)) (as_vector c.plus-given.result) = rw (c.plus-given.ensures.x, c.plus-given.ensures.y) more in
+    let passed : IsPassed at is f before (between start (index + 1) all) new (between start (index + 1) (set rows index visited)) (as_vector c.with_got-given.result) = rw (c.with_got-given.ensures.x, c.with_got-given.ensures.y) more in
     record {
       passed = passed;
       before = take-set-le start rows index visited known.low ∙ known.before;
       behind = drop-set-lt (index + 1) rows index visited (omega arith) ∙ drop_further index (index + 1) rows all (omega arith) known.behind;
       as_many = length-set rows index visited ∙ known.as_many;
       all_rows = rows_below at is (length new) (length states) rows index visited made.long known.all_rows made.below;
-      small = passed_small at is f before new (between start (index + 1) all) (between start (index + 1) (set rows index visited)) c.plus-given.result c.requires.few c.requires.states passed;
+      small = passed_small at is f before new (between start (index + 1) all) (between start (index + 1) (set rows index visited)) c.with_got-given.result c.requires.few c.requires.states passed;
       low = omega (arith, known.low);
       high = omega (arith, c.loop-index-test.true);
     }
