@@ -1,6 +1,7 @@
 //! The colours of joints and contacts.
 
 ghost use Rattle.std.specs.Prelude.{◌≡◌, ◌≤◌, ◌+◌, ◌++◌, ◌∷◌, [], ℕ, false, nat_eq, length, map, slice_index_or, IfErr, IfOk, OnOk};
+ghost use Rattle.std.specs.Result.{IsOkUnless};
 ghost use Rattle.std.specs.List.{list_all};
 ghost use Rattle.std.specs.HashMap.{get};
 ghost use Rattle.graph_colours.specs.declared.limits.TheConstants.{COLOURS as most_colours};
@@ -177,7 +178,8 @@ fn list_contact_colours(
     contacts: &[ContactEntry],
     by_number: &HashMap<u128, u8>,
 ) -> Result<Vec<Option<u8>>, Refusal>
-    ensures { IfOk result (λ colours. colours.items ≡ contact_colours_by (get nat_eq by_number.now) contacts.now) }
+    ensures value { IfOk result (λ colours. colours.items ≡ contact_colours_by (get nat_eq by_number.now) contacts.now) }
+    ensures memory_only { IsOkUnless result Refusal.NoMemory }
 {
     let mut colours = Vec::new(alloc);
     for entry in contacts {
@@ -192,7 +194,8 @@ fn list_joint_colours(
     slot_entries: &[SlotEntry],
     by_number: &HashMap<u128, u8>,
 ) -> Result<Vec<Option<u8>>, Refusal>
-    ensures { IfOk result (λ colours. colours.items ≡ joint_colours_by (get nat_eq by_number.now) 0 slot_entries.now) }
+    ensures value { IfOk result (λ colours. colours.items ≡ joint_colours_by (get nat_eq by_number.now) 0 slot_entries.now) }
+    ensures memory_only { IsOkUnless result Refusal.NoMemory }
 {
     let mut colours = Vec::new(alloc);
     for slot in 0..slot_entries.len() {
@@ -213,6 +216,7 @@ pub(crate) fn colours_of(alloc: Global, plain: &Plain) -> Result<ColoursByPlace,
     requires few { length plain.now.colours ≤ most_colours + 1 }
     ensures joints { IfOk result (λ colours. colours.joints.items ≡ joint_colours plain.now.colours 0 plain.now.joint_entries) }
     ensures contacts { IfOk result (λ colours. colours.contacts.items ≡ contact_colours plain.now.colours plain.now.contacts) }
+    ensures memory_only { IsOkUnless result Refusal.NoMemory }
 {
     let by_number = colours_by_number(alloc, plain)?;
     let joints = list_joint_colours(alloc, plain.joint_entries(), &by_number)?;

@@ -1,6 +1,7 @@
 //! The colours of a world's constraints by their numbers, as a saved world tells them with each joint and contact.
 
 ghost use Rattle.std.specs.Prelude.{◌≡◌, ◌≤◌, ◌+◌, ℕ, Some, cond, length, nat_eq, IfOk, OnOk};
+ghost use Rattle.std.specs.Result.{IsOkUnless};
 ghost use Rattle.std.specs.HashMap.{get};
 ghost use Rattle.contacts.specs.Constraints.{constraint_number};
 ghost use Rattle.contacts.specs.declared.constraint.Constraint.TheVariants.{Joint};
@@ -21,6 +22,7 @@ fn put_colour(
     colour: u8,
 ) -> Result<(), Refusal>
     ensures put { OnOk result ((number : ℕ) → get nat_eq by_number.new number ≡ cond (has_number number ids.now) (Some colour) (get nat_eq by_number.old number)) }
+    ensures memory_only { IsOkUnless result Refusal.NoMemory }
 {
     for id in ids {
         by_number.insert(id.number(), colour)?;
@@ -32,6 +34,7 @@ fn put_colour(
 pub fn colours_by_number(alloc: Global, plain: &Plain) -> Result<HashMap<u128, u8>, Refusal>
     requires few { length plain.now.colours ≤ most_colours + 1 }
     ensures colours { IfOk result (λ by_number. (number : ℕ) → get nat_eq by_number number ≡ colour_numbered number plain.now.colours) }
+    ensures memory_only { IsOkUnless result Refusal.NoMemory }
 {
     let mut by_number = HashMap::new(alloc);
     let mut left = OVERFLOW + 1;

@@ -250,11 +250,13 @@ pub fn fit(alloc: Global, saved: Saved) -> Result<(Plain, Totals), Broken>
     Ok((plain_of(saved, parts), totals))
 }
 
-/// A world, with the totals of its ledger, as a value of version 2.
+/// A world of at most 24 colours and an overflow, with the totals of its ledger, as a value of version 2. Refused 1 where memory is
+/// wanting.
 #[tactic(auto, unfolding(crate::specs::Files::value_of))]
-fn written(alloc: Global, plain: &Plain, totals: &Totals) -> Result<Value, Refusal>
+pub fn write(alloc: Global, plain: &Plain, totals: &Totals) -> Result<Value, Refusal>
     requires colours { length plain.now.colours ≤ most_colours + 1 }
-    ensures { IfOk result (λ value. view value ≡ value_of plain.now totals.now) }
+    ensures value { IfOk result (λ value. view value ≡ value_of plain.now totals.now) }
+    ensures memory_only { IsOkUnless result Refusal.NoMemory }
 {
     let colours = colours_of(alloc, plain)?;
     let mut members = Members::new(alloc);
@@ -276,17 +278,4 @@ fn written(alloc: Global, plain: &Plain, totals: &Totals) -> Result<Value, Refus
     members.put("step", Value::from(plain.steps()))?;
     members.put("version", Value::from(WRITTEN))?;
     Ok(members.object())
-}
-
-/// A world of at most 24 colours and an overflow, with the totals of its ledger, as a value of version 2. Refused 1 where memory is
-/// wanting.
-pub fn write(alloc: Global, plain: &Plain, totals: &Totals) -> Result<Value, Refusal>
-    requires colours { length plain.now.colours ≤ most_colours + 1 }
-    ensures value { IfOk result (λ value. view value ≡ value_of plain.now totals.now) }
-    ensures memory_only { IsOkUnless result Refusal.NoMemory }
-{
-    match written(alloc, plain, totals) {
-        Ok(value) => Ok(value),
-        Err(_) => Err(Refusal::NoMemory),
-    }
 }

@@ -1,6 +1,7 @@
 //! A saved body.
 
 ghost use Rattle.std.specs.Prelude.{◌≡◌, ◌<◌, ◌^◌, ◌∷◌, ◌++◌, [], codes, All, IfErr, IfOk, OnOk};
+ghost use Rattle.std.specs.Result.{IsOkUnless};
 ghost use Rattle.world_file_base.specs.Asks.{asked};
 ghost use Rattle.world_file_base.specs.Reading.{items_in, seen, truth_in, unsigned_in};
 ghost use Rattle.world_file_base.specs.AskedValues.{list_asks};
@@ -496,7 +497,8 @@ pub fn kind_name(kind: Kind) -> &'static str
 
 /// The course of a kinematic body.
 fn put_course(members: &mut Members, kind: Kind) -> Result<(), Refusal>
-    ensures { OnOk result (written members.new ≡ put_course_data kind (written members.old)) }
+    ensures put { OnOk result (written members.new ≡ put_course_data kind (written members.old)) }
+    ensures memory_only { IsOkUnless result Refusal.NoMemory }
 {
     match kind {
         Kind::Kinematic(course) => {
@@ -510,7 +512,8 @@ fn put_course(members: &mut Members, kind: Kind) -> Result<(), Refusal>
 
 /// What a mover says of its island.
 fn put_label(members: &mut Members, label: Option<Label>) -> Result<(), Refusal>
-    ensures { OnOk result (written members.new ≡ put_label label (written members.old)) }
+    ensures put { OnOk result (written members.new ≡ put_label label (written members.old)) }
+    ensures memory_only { IsOkUnless result Refusal.NoMemory }
 {
     match label {
         Some(label) => {
@@ -527,7 +530,8 @@ fn put_label(members: &mut Members, label: Option<Label>) -> Result<(), Refusal>
 }
 
 fn shapes_value(alloc: Global, defs: &[ShapeDef], fats: &[Box2]) -> Result<Value, Refusal>
-    ensures { IfOk result (λ value. view value ≡ list_data (shapes_of defs.now fats.now)) }
+    ensures value { IfOk result (λ value. view value ≡ list_data (shapes_of defs.now fats.now)) }
+    ensures memory_only { IsOkUnless result Refusal.NoMemory }
 {
     let mut items = Vec::new(alloc);
     for place in 0..lesser(defs.len(), fats.len()) {
@@ -539,7 +543,8 @@ fn shapes_value(alloc: Global, defs: &[ShapeDef], fats: &[Box2]) -> Result<Value
 /// The numbers and the shapes of a body.
 #[tactic(auto, unfolding(crate::specs::SavedBodies::put_numbers))]
 fn put_numbers(members: &mut Members, alloc: Global, body: &Body) -> Result<(), Refusal>
-    ensures { OnOk result (written members.new ≡ put_numbers body.now (written members.old)) }
+    ensures put { OnOk result (written members.new ≡ put_numbers body.now (written members.old)) }
+    ensures memory_only { IsOkUnless result Refusal.NoMemory }
 {
     members.put_vector("at", body.motion.x)?;
     members.put("enabled", Value::from(body.enabled))?;
@@ -561,7 +566,8 @@ fn put_numbers(members: &mut Members, alloc: Global, body: &Body) -> Result<(), 
 /// A body as it is written, with the label of its island if it is a mover.
 #[tactic(auto, unfolding(crate::specs::SavedBodies::body_data))]
 pub(crate) fn body_value(alloc: Global, body: &Body, label: Option<Label>) -> Result<Value, Refusal>
-    ensures { IfOk result (λ value. view value ≡ body_data body.now label) }
+    ensures value { IfOk result (λ value. view value ≡ body_data body.now label) }
+    ensures memory_only { IsOkUnless result Refusal.NoMemory }
 {
     let mut members = Members::new(alloc);
     put_numbers(&mut members, alloc, body)?;

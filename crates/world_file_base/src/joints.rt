@@ -1,6 +1,7 @@
 //! A saved joint.
 
 ghost use Rattle.std.specs.Prelude.{◌≡◌, IfOk};
+ghost use Rattle.std.specs.Result.{IsOkUnless};
 ghost use Rattle.world_file_base.specs.SavedJoints.{id_at, joint_in, joint_data};
 ghost use Rattle.world_file_base.specs.AskedSlots.{joint_asks};
 ghost use Rattle.serde_json.specs.View.{view};
@@ -56,7 +57,8 @@ pub(crate) fn read_joint(reader: &mut Reader, value: &Value, version: Version) -
 
 /// The id of the body in a slot as a text.
 fn id_at(alloc: Global, slot_entries: &[SlotEntry], slot: u32) -> Result<Value, Refusal>
-    ensures { IfOk result (λ value. view value ≡ id_at slot_entries.now slot) }
+    ensures value { IfOk result (λ value. view value ≡ id_at slot_entries.now slot) }
+    ensures memory_only { IsOkUnless result Refusal.NoMemory }
 {
     let generation = match slot_entries.get(slot as usize) {
         Some(place) => place.generation,
@@ -73,7 +75,8 @@ pub(crate) fn joint_value(
     joint: &BodyJoint,
     colour: Option<u8>,
 ) -> Result<Value, Refusal>
-    ensures { IfOk result (λ value. view value ≡ joint_data slot_entries.now joint.now colour) }
+    ensures value { IfOk result (λ value. view value ≡ joint_data slot_entries.now joint.now colour) }
+    ensures memory_only { IsOkUnless result Refusal.NoMemory }
 {
     let mut members = Members::new(alloc);
     members.put("a", id_at(alloc, slot_entries, joint.a)?)?;

@@ -1,6 +1,7 @@
 //! The totals of a saved ledger.
 
 ghost use Rattle.std.specs.Prelude.{◌≡◌, IfOk};
+ghost use Rattle.std.specs.Result.{IsOkUnless};
 ghost use Rattle.world_file_base.specs.Reading.{seen};
 ghost use Rattle.world_file_base.specs.SavedTotals.{
   cause_in,
@@ -62,7 +63,8 @@ pub fn read_totals(reader: &mut Reader, value: Option<&Value>) -> Totals
 }
 
 fn total_value(alloc: Global, total: Total) -> Result<Value, Refusal>
-    ensures { IfOk result (λ value. view value ≡ total_data total) }
+    ensures value { IfOk result (λ value. view value ≡ total_data total) }
+    ensures memory_only { IsOkUnless result Refusal.NoMemory }
 {
     let x = decimal_value(alloc, total.x)?;
     let y = decimal_value(alloc, total.y)?;
@@ -71,7 +73,8 @@ fn total_value(alloc: Global, total: Total) -> Result<Value, Refusal>
 
 /// The totals as they are written.
 pub fn totals_value(alloc: Global, totals: &Totals) -> Result<Value, Refusal>
-    ensures { IfOk result (λ value. view value ≡ totals_data totals.now) }
+    ensures value { IfOk result (λ value. view value ≡ totals_data totals.now) }
+    ensures memory_only { IsOkUnless result Refusal.NoMemory }
 {
     let mut members = Members::new(alloc);
     members.put("clamp", total_value(alloc, totals.clamp)?)?;

@@ -1,6 +1,7 @@
 //! Values that are written: objects and lists.
 
 ghost use Rattle.std.specs.Prelude.{◌≡◌, Some, None, IfOk, OnOk, map};
+ghost use Rattle.std.specs.Result.{IsOkUnless};
 ghost use Rattle.serde_json.specs.Data.{array, no_members, object, string, put as with_member};
 ghost use Rattle.serde_json.specs.View.{items_view, members_view, view};
 ghost use Rattle.world_file_base.specs.Written.{
@@ -39,6 +40,7 @@ impl Members {
     /// Gives a key this value. Refused 1 where memory is wanting.
     pub fn put(&mut self, key: &str, value: Value) -> Result<(), Refusal>
         ensures put { OnOk result (written self.new ≡ with_member key.now (view value) (written self.old)) }
+        ensures memory_only { IsOkUnless result Refusal.NoMemory }
     {
         put(&mut self.members, self.alloc, key, value)?;
         Ok(())
@@ -46,12 +48,14 @@ impl Members {
 
     pub fn put_vector(&mut self, key: &str, vector: Vec2) -> Result<(), Refusal>
         ensures put { OnOk result (written self.new ≡ with_member key.now (vector_of vector) (written self.old)) }
+        ensures memory_only { IsOkUnless result Refusal.NoMemory }
     {
         self.put(key, vector_value(self.alloc, vector)?)
     }
 
     pub fn put_text(&mut self, key: &str, text: &str) -> Result<(), Refusal>
         ensures put { OnOk result (written self.new ≡ with_member key.now (string text.now) (written self.old)) }
+        ensures memory_only { IsOkUnless result Refusal.NoMemory }
     {
         self.put(key, Value::try_from_str(self.alloc, text)?)
     }
@@ -66,7 +70,8 @@ impl Members {
 
 /// A list of two values.
 pub(crate) fn pair_value(alloc: Global, first: Value, second: Value) -> Result<Value, Refusal>
-    ensures { IfOk result (λ value. view value ≡ pair_data (view first) (view second)) }
+    ensures value { IfOk result (λ value. view value ≡ pair_data (view first) (view second)) }
+    ensures memory_only { IsOkUnless result Refusal.NoMemory }
 {
     let mut items = Vec::with_capacity(alloc, 2)?;
     items.push(first)?;
@@ -82,14 +87,16 @@ pub fn array_value(items: Vec<Value>) -> Value
 }
 
 pub fn vector_value(alloc: Global, vector: Vec2) -> Result<Value, Refusal>
-    ensures { IfOk result (λ value. view value ≡ vector_of vector) }
+    ensures value { IfOk result (λ value. view value ≡ vector_of vector) }
+    ensures memory_only { IsOkUnless result Refusal.NoMemory }
 {
     pair_value(alloc, Value::from(vector.x), Value::from(vector.y))
 }
 
 /// A list of two places.
 pub(crate) fn ends_value(alloc: Global, first: Vec2, second: Vec2) -> Result<Value, Refusal>
-    ensures { IfOk result (λ value. view value ≡ ends_of first second) }
+    ensures value { IfOk result (λ value. view value ≡ ends_of first second) }
+    ensures memory_only { IsOkUnless result Refusal.NoMemory }
 {
     let first = vector_value(alloc, first)?;
     let second = vector_value(alloc, second)?;
@@ -98,14 +105,16 @@ pub(crate) fn ends_value(alloc: Global, first: Vec2, second: Vec2) -> Result<Val
 
 /// A box as the list of its two corners.
 pub(crate) fn corners_value(alloc: Global, corners: Box2) -> Result<Value, Refusal>
-    ensures { IfOk result (λ value. view value ≡ corners_of corners) }
+    ensures value { IfOk result (λ value. view value ≡ corners_of corners) }
+    ensures memory_only { IsOkUnless result Refusal.NoMemory }
 {
     ends_value(alloc, corners.lo, corners.hi)
 }
 
 /// A number as a text.
 pub(crate) fn decimal_value(alloc: Global, number: i128) -> Result<Value, Refusal>
-    ensures { IfOk result (λ value. view value ≡ decimal_of number) }
+    ensures value { IfOk result (λ value. view value ≡ decimal_of number) }
+    ensures memory_only { IsOkUnless result Refusal.NoMemory }
 {
     let text = format!(in alloc; "{number}")?;
     Ok(Value::from(text))
@@ -113,7 +122,8 @@ pub(crate) fn decimal_value(alloc: Global, number: i128) -> Result<Value, Refusa
 
 /// An id as a text.
 pub(crate) fn id_value(alloc: Global, handle: Handle) -> Result<Value, Refusal>
-    ensures { IfOk result (λ value. view value ≡ id_of handle) }
+    ensures value { IfOk result (λ value. view value ≡ id_of handle) }
+    ensures memory_only { IsOkUnless result Refusal.NoMemory }
 {
     let id = IdText(handle);
     let text = format!(in alloc; "{id}")?;

@@ -1,6 +1,7 @@
 //! Saved contacts.
 
 ghost use Rattle.std.specs.Prelude.{◌≡◌, ◌++◌, IfOk, IfErr, OnOk};
+ghost use Rattle.std.specs.Result.{IsOkUnless};
 ghost use Rattle.world_file_base.specs.Reading.{items_in, seen};
 ghost use Rattle.world_file_base.specs.SavedContacts.{
   contact_in,
@@ -204,7 +205,8 @@ pub fn read_contacts(
 
 #[tactic(auto, unfolding(crate::specs::SavedContacts::point_data))]
 fn point_value(alloc: Global, point: &ContactPoint) -> Result<Value, Refusal>
-    ensures { IfOk result (λ value. view value ≡ point_data point.now) }
+    ensures value { IfOk result (λ value. view value ≡ point_data point.now) }
+    ensures memory_only { IsOkUnless result Refusal.NoMemory }
 {
     let mut members = Members::new(alloc);
     members.put("candidate", Value::from(point.candidate))?;
@@ -218,7 +220,8 @@ fn point_value(alloc: Global, point: &ContactPoint) -> Result<Value, Refusal>
 }
 
 fn points_value(alloc: Global, contact: &PackedContact) -> Result<Value, Refusal>
-    ensures { IfOk result (λ value. view value ≡ points_of contact.now) }
+    ensures value { IfOk result (λ value. view value ≡ points_of contact.now) }
+    ensures memory_only { IsOkUnless result Refusal.NoMemory }
 {
     let mut items = Vec::with_capacity(alloc, 2)?;
     if let Some(point) = contact.first() {
@@ -231,14 +234,16 @@ fn points_value(alloc: Global, contact: &PackedContact) -> Result<Value, Refusal
 }
 
 fn shape_id_value(alloc: Global, id: ShapeId) -> Result<Value, Refusal>
-    ensures { IfOk result (λ value. view value ≡ shape_id_of id) }
+    ensures value { IfOk result (λ value. view value ≡ shape_id_of id) }
+    ensures memory_only { IsOkUnless result Refusal.NoMemory }
 {
     pair_value(alloc, Value::from(id.slot), Value::from(id.index))
 }
 
 #[tactic(auto, unfolding(crate::specs::SavedContacts::contact_data))]
 fn contact_value(alloc: Global, entry: &ContactEntry, colour: Option<u8>) -> Result<Value, Refusal>
-    ensures { IfOk result (λ value. view value ≡ contact_data entry.now colour) }
+    ensures value { IfOk result (λ value. view value ≡ contact_data entry.now colour) }
+    ensures memory_only { IsOkUnless result Refusal.NoMemory }
 {
     let mut members = Members::new(alloc);
     members.put("a", shape_id_value(alloc, entry.key.first)?)?;
@@ -255,7 +260,8 @@ pub fn contacts_value(
     contacts: &[ContactEntry],
     colours: &[Option<u8>],
 ) -> Result<Value, Refusal>
-    ensures { IfOk result (λ value. view value ≡ contacts_data contacts.now colours.now) }
+    ensures value { IfOk result (λ value. view value ≡ contacts_data contacts.now colours.now) }
+    ensures memory_only { IsOkUnless result Refusal.NoMemory }
 {
     let mut items = Vec::new(alloc);
     for place in 0..lesser(contacts.len(), colours.len()) {

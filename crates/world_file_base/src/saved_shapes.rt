@@ -1,6 +1,7 @@
 //! The shapes of a saved body, each with its fat box.
 
 ghost use Rattle.std.specs.Prelude.{◌≡◌, IfOk, OnOk, codes};
+ghost use Rattle.std.specs.Result.{IsOkUnless};
 ghost use Rattle.serde_json.specs.Find.{get};
 ghost use Rattle.world_file_base.specs.Reading.{first_in, seen, second_item, vector_in};
 ghost use Rattle.world_file_base.specs.SavedShapes.{
@@ -165,7 +166,8 @@ pub(crate) fn read_shape(reader: &mut Reader, value: &Value) -> SavedShape
 }
 
 fn put_form(members: &mut Members, alloc: Global, shape: &Shape) -> Result<(), Refusal>
-    ensures { OnOk result (written members.new ≡ with_form shape.now (written members.old)) }
+    ensures put { OnOk result (written members.new ≡ with_form shape.now (written members.old)) }
+    ensures memory_only { IsOkUnless result Refusal.NoMemory }
 {
     match shape {
         Shape::Circle { center, radius } => {
@@ -189,7 +191,8 @@ fn put_form(members: &mut Members, alloc: Global, shape: &Shape) -> Result<(), R
 /// A shape as it is written.
 #[tactic(auto, unfolding(crate::specs::SavedShapes::shape_of))]
 pub(crate) fn shape_value(alloc: Global, def: &ShapeDef, fat: Box2) -> Result<Value, Refusal>
-    ensures { IfOk result (λ value. view value ≡ shape_of def.now fat) }
+    ensures value { IfOk result (λ value. view value ≡ shape_of def.now fat) }
+    ensures memory_only { IsOkUnless result Refusal.NoMemory }
 {
     let mut members = Members::new(alloc);
     put_form(&mut members, alloc, &def.shape)?;

@@ -1,6 +1,7 @@
 //! The slots of bodies and of joints.
 
 ghost use Rattle.std.specs.Prelude.{◌≡◌, ◌∷◌, ◌++◌, [], None, Some, IfErr, IfOk, OnOk, length, option_map};
+ghost use Rattle.std.specs.Result.{IsOkUnless};
 ghost use Rattle.islands.specs.Labels.{label_at};
 ghost use Rattle.world_file_base.specs.Reading.{items_in, seen};
 ghost use Rattle.world_file_base.specs.Written.{written};
@@ -287,7 +288,8 @@ fn put_body(
     entry: &Option<Body>,
     label: Option<Label>,
 ) -> Result<(), Refusal>
-    ensures { OnOk result (written members.new ≡ put_item body_key (option_map (λ b. body_data b label) entry.now) (written members.old)) }
+    ensures put { OnOk result (written members.new ≡ put_item body_key (option_map (λ b. body_data b label) entry.now) (written members.old)) }
+    ensures memory_only { IsOkUnless result Refusal.NoMemory }
 {
     match entry {
         Some(body) => members.put("body", body_value(alloc, body, label)?),
@@ -301,7 +303,8 @@ fn body_slot_value(
     entry: &Option<Body>,
     label: Option<Label>,
 ) -> Result<Value, Refusal>
-    ensures { IfOk result (λ value. view value ≡ body_slot_of slot_entry entry.now label) }
+    ensures value { IfOk result (λ value. view value ≡ body_slot_of slot_entry entry.now label) }
+    ensures memory_only { IsOkUnless result Refusal.NoMemory }
 {
     let mut members = Members::new(alloc);
     put_body(&mut members, alloc, entry, label)?;
@@ -327,7 +330,8 @@ pub fn bodies_value(
     bodies: &[Option<Body>],
     labels: &[Option<Label>],
 ) -> Result<Value, Refusal>
-    ensures { IfOk result (λ value. view value ≡ bodies_data slot_entries.now bodies.now labels.now) }
+    ensures value { IfOk result (λ value. view value ≡ bodies_data slot_entries.now bodies.now labels.now) }
+    ensures memory_only { IsOkUnless result Refusal.NoMemory }
 {
     let mut items = Vec::new(alloc);
     for slot in 0..lesser(slot_entries.len(), bodies.len()) {
@@ -344,7 +348,8 @@ fn put_joint(
     entry: &Option<BodyJoint>,
     colour: Option<u8>,
 ) -> Result<(), Refusal>
-    ensures { OnOk result (written members.new ≡ put_item joint_key (option_map (λ j. joint_data slot_entries.now j colour) entry.now) (written members.old)) }
+    ensures put { OnOk result (written members.new ≡ put_item joint_key (option_map (λ j. joint_data slot_entries.now j colour) entry.now) (written members.old)) }
+    ensures memory_only { IsOkUnless result Refusal.NoMemory }
 {
     match entry {
         Some(joint) => members.put("joint", joint_value(alloc, slot_entries, joint, colour)?),
@@ -359,7 +364,8 @@ fn joint_slot_value(
     entry: &Option<BodyJoint>,
     colour: Option<u8>,
 ) -> Result<Value, Refusal>
-    ensures { IfOk result (λ value. view value ≡ joint_slot_of slot_entries.now slot_entry entry.now colour) }
+    ensures value { IfOk result (λ value. view value ≡ joint_slot_of slot_entries.now slot_entry entry.now colour) }
+    ensures memory_only { IsOkUnless result Refusal.NoMemory }
 {
     let mut members = Members::new(alloc);
     put_joint(&mut members, alloc, slot_entries, entry, colour)?;
@@ -375,7 +381,8 @@ pub fn joints_value(
     joints: &[Option<BodyJoint>],
     colours: &[Option<u8>],
 ) -> Result<Value, Refusal>
-    ensures { IfOk result (λ value. view value ≡ joints_data slot_entries.now joint_entries.now joints.now colours.now) }
+    ensures value { IfOk result (λ value. view value ≡ joints_data slot_entries.now joint_entries.now joints.now colours.now) }
+    ensures memory_only { IsOkUnless result Refusal.NoMemory }
 {
     let mut items = Vec::new(alloc);
     for slot in 0..lesser(lesser(joint_entries.len(), joints.len()), colours.len()) {

@@ -9,5 +9,5 @@ loop-left-init c = record {
   colours = λ number. let none : get nat_eq c.new-by_number.result number ≡ None = rw c.new-by_number.ensures.empty refl in none ∙ past_colours number 25 25 c.args.plain.now.colours c.requires.few;
 }
 
-pub returns : goal.returns
-returns c = record { colours = λ number. c.loop-left.invariant.colours number ∙ from_none number c.loop-left.left c.args.plain.now.colours c.loop-left-test.false }
+pub returns-clause-colours : goal.returns-clause-colours
+returns-clause-colours c = λ number. c.loop-left.invariant.colours number ∙ from_none number c.loop-left.left c.args.plain.now.colours c.loop-left-test.false

@@ -4,7 +4,7 @@ use Rattle.world_file_base.specs.Written.{list_data}
 use Rattle.world_file_base.proofs.Listed.{contacts_written}
 use Rattle.world_file_base.proofs.saved_contacts.contacts_value.Goals as goal
 
-pub returns : goal.returns
-returns c =
+pub returns-clause-value : goal.returns-clause-value
+returns-clause-value c =
     c.array_value.ensures
     ∙ ap list_data (contacts_written (map view c.loop-place.items.items) c.args.contacts.now c.args.colours.now c.lesser-place-end.result c.loop-place.place c.lesser-place-end.ensures.one (omega arith) c.loop-place.invariant)
