@@ -1,5 +1,5 @@
 -- By how much the totals of a ledger grow by calls.
-use Rattle.std.proofs.Common.{◌≡◌, ℕ, ◌+◌, ◌*◌, ◌≤◌, ◌^◌, Bool, true, false, cond, nat_lt, List, [], ◌++◌, length, Option, Some, None, Result, Ok, Err, ℤ, pos, neg_ℤ, ◌+ℤ◌, unsigned_abs, arith, refl, sym, ap, ◌∙◌, subst}
+use Rattle.std.proofs.Common.{◌≡◌, ℕ, ◌+◌, ◌*◌, ◌≤◌, ◌^◌, Bool, true, false, cond, nat_lt, List, [], ◌++◌, length, Option, Some, None, Result, Ok, Err, ℤ, pos, neg_ℤ, ◌+ℤ◌, unsigned_abs, arith, refl, sym, ap, ◌∙◌, subst, ◌∷◌}
 use Rattle.std.specs.Prelude.{◌-ℤ◌}
 use Rattle.std.proofs.lemmas.Int.{ints}
 use Rattle.std.proofs.lemmas.List.{append-nil}
@@ -7,6 +7,7 @@ use Rattle.fixed_geom.specs.Vectors.{IsWithin, is_within, zero_vector}
 use Rattle.fixed_geom.specs.declared.refusal.Refusal.{Refusal}
 use Rattle.fixed_geom.specs.declared.refusal.Refusal.TheVariants.{BodyDisabled, OutOfRange, TooMany, WornOut}
 use Rattle.fixed_geom.specs.declared.vectors.Vec2.{Vec2}
+use Rattle.fixed_geom.specs.Refusals.{need}
 use Rattle.body_handles.specs.SlotEntries.{is_live, lowest}
 use Rattle.body_handles.specs.declared.handle.Handle.{Handle}
 use Rattle.body_handles.specs.declared.slot_table.TheConstants.{MAX_SLOTS}
@@ -33,6 +34,7 @@ use Rattle.plain_world.specs.declared.body.BodyDef.{BodyDef}
 use Rattle.plain_world.specs.declared.joint.BodyJoint.{BodyJoint}
 use Rattle.plain_world.specs.declared.joint.JointDef.{JointDef}
 use Rattle.plain_world.specs.declared.kind.Course.{Course}
+use Rattle.plain_world.specs.Changes.{put_pose, put_course}
 use Rattle.shapes.specs.Shapes.{is_between}
 use Rattle.shapes.specs.declared.pose.Pose.{Pose}
 use Rattle.sleep_wake.specs.Acting.{Acting}
@@ -42,11 +44,11 @@ use Rattle.world_core.specs.Grown.{EachCallBooksLittle, GrownWorldsHaveSmallTota
 use Rattle.world_core.proofs.SolvingBounds.{IsBounded, left_momentum, pass_most, solved_bound}
 use Rattle.world_core.proofs.Whole.{named}
 use Rattle.world_core_base.specs.Solving.{Solving, solve_order}
-use Rattle.world_rules.specs.Apply.{Answers, Applied, apply, apply_accepted, bodies_ticked, bodies_woken, booked, course_due, create_due, departed, destroy_due, disable_due, empty_world, enable_due, gained, join_due, join_refusal, mover_refusal, pose_due, posed, push_due, pushed, rest_entries, rested_acting, sleep_due, solved_after, steered, step_done, step_solved, acting_after_changes, unjoin_due, wake_due, world_with}
+use Rattle.world_rules.specs.Apply.{Answers, Applied, apply, apply_accepted, bodies_ticked, bodies_woken, booked, departed, empty_world, gained, join_refusal, mover_refusal, posed, pushed, rest_entries, rested_acting, solved_after, steered, step_done, step_solved, acting_after_changes, world_with, unless_refused, where_named, map_ok, push_given, with_body_changed, created, joined, destroyed, disabled, enabled, put_to_sleep, quietly, joint_gone}
 use Rattle.world_rules.specs.Collide.{Collided, collided}
 use Rattle.world_rules.specs.Laws.{push_of}
 use Rattle.world_rules.specs.Replay.{after_one}
-use Rattle.world_rules.specs.Sets.{acting_of}
+use Rattle.world_rules.specs.Sets.{acting_of, with_woken}
 use Rattle.world_rules.specs.Sound.{AreSmall, IsSound}
 use Rattle.world_rules.specs.World.{World, body_named, book_of}
 use Rattle.world_rules.specs.declared.command.Command.{Command}
@@ -59,6 +61,7 @@ use Rattle.world_rules.proofs.KeptSleep.{rest_small}
 use Rattle.world_rules.proofs.SlotLemmas.{momentum_le, part_le}
 use Rattle.world_rules.proofs.StepBook.{AreSmall-stepped, summed-stepped}
 use Rattle.world_rules.proofs.ToldLaws.{length_told, told_are_bodies}
+use Rattle.solver_sets.specs.Joining.{handle_at}
 
 -- ---- what a call books
 
@@ -89,31 +92,31 @@ tested : (t : Bool) (x a : Applied) (e : Refusal) (es : List Entry) → x.entrie
 tested true x a e es is h = sym (ap entries_in h) ∙ is
 tested false x a e es is h = cc
 
-created_none : (w : Plain) (d : BodyDef) (o : Option Refusal) (a : Applied) → create_due w d o ≡ Ok a → a.entries ≡ []
+created_none : (w : Plain) (d : BodyDef) (o : Option Refusal) (a : Applied) → unless_refused o (need (nat_lt (lowest w.slot_entries) MAX_SLOTS) TooMany (Ok (created w d))) ≡ Ok a → a.entries ≡ []
 created_none w d (Some e) a h = cc
 created_none w d None a h = tested (nat_lt (lowest w.slot_entries) MAX_SLOTS) _ a TooMany [] refl h
 
-joined_none : (w : Plain) (d : JointDef) (due : Option Refusal) (a : Applied) → join_due w d due ≡ Ok a → a.entries ≡ []
+joined_none : (w : Plain) (d : JointDef) (due : Option Refusal) (a : Applied) → unless_refused due (need (nat_lt (lowest w.joint_entries) MAX_SLOTS) TooMany (Ok (joined w d (handle_at w.joint_entries (lowest w.joint_entries))))) ≡ Ok a → a.entries ≡ []
 joined_none w d (Some e) a h = cc
 joined_none w d None a h = tested (nat_lt (lowest w.joint_entries) MAX_SLOTS) _ a TooMany [] refl h
 
-unjoined_none : (w : Plain) (j : Handle) (o : Option BodyJoint) (a : Applied) → unjoin_due w j o ≡ Ok a → a.entries ≡ []
+unjoined_none : (w : Plain) (j : Handle) (o : Option BodyJoint) (a : Applied) → where_named o (λ joint. Ok (quietly (joint_gone j joint (with_woken w (joint.a ∷ joint.b ∷ []))))) ≡ Ok a → a.entries ≡ []
 unjoined_none w j None a h = cc
 unjoined_none w j (Some joint) a h = sym (ap entries_in h)
 
-posed_none : (w : Plain) (b : Handle) (r : Result Pose Refusal) (a : Applied) → pose_due w b r ≡ Ok a → a.entries ≡ []
+posed_none : (w : Plain) (b : Handle) (r : Result Pose Refusal) (a : Applied) → map_ok (λ given. with_body_changed w b (put_pose given)) r ≡ Ok a → a.entries ≡ []
 posed_none w b (Ok o) a h = sym (ap entries_in h)
 posed_none w b (Err e) a h = cc
 
-steered_none : (w : Plain) (b : Handle) (r : Result Course Refusal) (a : Applied) → course_due w b r ≡ Ok a → a.entries ≡ []
+steered_none : (w : Plain) (b : Handle) (r : Result Course Refusal) (a : Applied) → map_ok (λ given. with_body_changed w b (put_course given)) r ≡ Ok a → a.entries ≡ []
 steered_none w b (Ok course) a h = sym (ap entries_in h)
 steered_none w b (Err e) a h = cc
 
-enabled_none : (w : Plain) (b : Handle) (o : Option Body) (a : Applied) → enable_due w b o ≡ Ok a → a.entries ≡ []
+enabled_none : (w : Plain) (b : Handle) (o : Option Body) (a : Applied) → where_named o (λ body. Ok (quietly (enabled w b body))) ≡ Ok a → a.entries ≡ []
 enabled_none w b None a h = cc
 enabled_none w b (Some body) a h = sym (ap entries_in h)
 
-woken_none : (w : Plain) (b : Handle) (o : Option Refusal) (a : Applied) → wake_due w b o ≡ Ok a → a.entries ≡ []
+woken_none : (w : Plain) (b : Handle) (o : Option Refusal) (a : Applied) → unless_refused o (Ok (quietly (with_woken w (b.slot ∷ [])))) ≡ Ok a → a.entries ≡ []
 woken_none w b (Some e) a h = cc
 woken_none w b None a h = sym (ap entries_in h)
 
@@ -127,11 +130,11 @@ leaves w a b is e =
     let small : IsWithin (2 ^ 60) (momentum_in (Some b)) = part_le (is_mover b) b.motion.p is.motion.p in
     one_grows w a (w.plain.calls + 1) causes.Departed (neg_ℤ (momentum_in (Some b)).x) (neg_ℤ (momentum_in (Some b)).y) e (negative_within (momentum_in (Some b)).x small.x) (negative_within (momentum_in (Some b)).y small.y)
 
-destroyed_grows : (w : World) (h : Handle) (o : Option Body) (a : Applied) → ((b : Body) → o ≡ Some b → IsBody b) → destroy_due w.plain h o ≡ Ok a → Grows w a
+destroyed_grows : (w : World) (h : Handle) (o : Option Body) (a : Applied) → ((b : Body) → o ≡ Some b → IsBody b) → where_named o (λ body. Ok (destroyed w.plain h body)) ≡ Ok a → Grows w a
 destroyed_grows w h None a is e = cc
 destroyed_grows w h (Some b) a is e = leaves w a b (is b refl) (sym (ap entries_in e))
 
-disabled_grows : (w : World) (h : Handle) (o : Option Body) (a : Applied) → ((b : Body) → o ≡ Some b → IsBody b) → disable_due w.plain h o ≡ Ok a → Grows w a
+disabled_grows : (w : World) (h : Handle) (o : Option Body) (a : Applied) → ((b : Body) → o ≡ Some b → IsBody b) → where_named o (λ body. need body.enabled BodyDisabled (Ok (disabled w.plain h body))) ≡ Ok a → Grows w a
 disabled_grows w h None a is e = cc
 disabled_grows w h (Some b) a is e = leaves w a b (is b refl) (tested b.enabled _ a BodyDisabled (departed (w.plain.calls + 1) b) refl e)
 
@@ -140,7 +143,7 @@ disabled_grows w h (Some b) a is e = leaves w a b (is b refl) (tested b.enabled 
 wide : (z : ℤ) → unsigned_abs z ≤ 2 ^ 40 → unsigned_abs z ≤ 2 ^ 83
 wide z h = omega (arith, h)
 
-pushed_grows : (w : World) (h : Handle) (j : Vec2) (r : Result Momenta Refusal) (a : Applied) → IsWithin (2 ^ 40) j → push_due w.plain h j r ≡ Ok a → Grows w a
+pushed_grows : (w : World) (h : Handle) (j : Vec2) (r : Result Momenta Refusal) (a : Applied) → IsWithin (2 ^ 40) j → map_ok (push_given w.plain h j) r ≡ Ok a → Grows w a
 pushed_grows w h j (Ok m) a small e = one_grows w a (w.plain.calls + 1) causes.Command j.x j.y (sym (ap entries_in e)) (wide j.x small.x) (wide j.y small.y)
 pushed_grows w h j (Err due) a small e = cc
 
@@ -154,7 +157,7 @@ rested_grows w a labels all few e =
     let small_y = small.y in
     one_grows w a (w.plain.calls + 1) causes.Rest lost.x lost.y e (omega (arith, small_x)) (omega (arith, small_y))
 
-slept_grows : (w : World) (h : Handle) (o : Option Refusal) (a : Applied) → AreBodies w.plain.bodies → length w.plain.bodies ≤ MAX_SLOTS → sleep_due w.plain h o ≡ Ok a → Grows w a
+slept_grows : (w : World) (h : Handle) (o : Option Refusal) (a : Applied) → AreBodies w.plain.bodies → length w.plain.bodies ≤ MAX_SLOTS → unless_refused o (Ok (put_to_sleep w.plain (slept_at constraint_number h.slot (acting_of w.plain)))) ≡ Ok a → Grows w a
 slept_grows w h (Some due) a all few e = cc
 slept_grows w h None a all few e = rested_grows w a (slept_at constraint_number h.slot (acting_of w.plain)).labels all few (sym (ap entries_in e))
 

@@ -7,6 +7,7 @@ use Rattle.fixed_geom.specs.Vectors.{IsWithin, is_within}
 use Rattle.fixed_geom.specs.declared.refusal.Refusal.{Refusal}
 use Rattle.fixed_geom.specs.declared.refusal.Refusal.TheVariants.{OutOfRange, TooMany}
 use Rattle.fixed_geom.specs.declared.vectors.Vec2.{Vec2}
+use Rattle.fixed_geom.specs.Refusals.{need}
 use Rattle.body_handles.specs.SlotEntries.{lowest}
 use Rattle.body_handles.specs.declared.handle.Handle.{Handle}
 use Rattle.body_handles.specs.declared.slot_table.TheConstants.{MAX_SLOTS}
@@ -24,7 +25,7 @@ use Rattle.plain_world.specs.Plain.{Plain}
 use Rattle.plain_world.specs.declared.body.BodyDef.{BodyDef}
 use Rattle.plain_world.specs.declared.kind.Course.{Course}
 use Rattle.sleep_wake.specs.Sleeping.{slept_at}
-use Rattle.world_rules.specs.Apply.{Applied, body_changed, booked, counted, apply_create, apply_gravity, apply_pose, apply_push, apply_sleep, apply_velocity, apply_wake, course_due, create_due, created, mover_refusal, pose_due, posed, push_due, pushed, put_to_sleep, quietly, sleep_due, steered, wake_due, world_with}
+use Rattle.world_rules.specs.Apply.{Applied, body_changed, booked, counted, apply_create, apply_gravity, apply_pose, apply_push, apply_sleep, apply_velocity, apply_wake, created, mover_refusal, posed, pushed, put_to_sleep, quietly, steered, world_with, unless_refused, map_ok, push_given, with_body_changed}
 use Rattle.world_rules.specs.Sets.{acting_of, stirred, with_woken}
 use Rattle.world_rules.specs.declared.command.Reply.TheVariants as replies
 use Rattle.world_rules.specs.World.{World, body_named}
@@ -77,7 +78,7 @@ same_ok a b e = cc
 pub push_accepted : (w : World) (h : Handle) (j r : Vec2) (a : Applied) → IsKept w → w.plain.calls < 2 ^ 40 → apply_push w.plain h j r ≡ Ok a → IsKept (world_with w a)
 push_accepted w h j r a k few e = by (pushed (body_named w.plain h) j r) refl e
   where
-    by : (m : Result Momenta Refusal) → pushed (body_named w.plain h) j r ≡ m → push_due w.plain h j m ≡ Ok a → IsKept (world_with w a)
+    by : (m : Result Momenta Refusal) → pushed (body_named w.plain h) j r ≡ m → map_ok (push_given w.plain h j) m ≡ Ok a → IsKept (world_with w a)
     by (Err d) f g = cc
     by (Ok m) f g =
         let left : Applied = record { plain = counted (body_changed (put_momenta m) h.slot (with_woken w.plain (h.slot ∷ []))); reply = replies.Done; entries = booked (w.plain.calls + 1) causes.Command j.x j.y; events = None } in
@@ -86,7 +87,7 @@ push_accepted w h j r a k few e = by (pushed (body_named w.plain h) j r) refl e
 pub pose_accepted : (w : World) (h : Handle) (o : Pose) (a : Applied) → IsKept w → w.plain.calls < 2 ^ 40 → ((given : Pose) → posed (body_named w.plain h) o ≡ Ok given → IsPose given) → apply_pose w.plain h o ≡ Ok a → IsKept (world_with w a)
 pose_accepted w h o a k few pose e = by (posed (body_named w.plain h) o) refl e
   where
-    by : (p : Result Pose Refusal) → posed (body_named w.plain h) o ≡ p → pose_due w.plain h p ≡ Ok a → IsKept (world_with w a)
+    by : (p : Result Pose Refusal) → posed (body_named w.plain h) o ≡ p → map_ok (λ given. with_body_changed w.plain h (put_pose given)) p ≡ Ok a → IsKept (world_with w a)
     by (Err d) f g = cc
     by (Ok given) f g =
         let left : Plain = body_changed (put_pose given) h.slot (stirred w.plain h.slot) in
@@ -95,7 +96,7 @@ pose_accepted w h o a k few pose e = by (posed (body_named w.plain h) o) refl e
 pub velocity_accepted : (w : World) (h : Handle) (course : Course) (a : Applied) → IsKept w → w.plain.calls < 2 ^ 40 → apply_velocity w.plain h course ≡ Ok a → IsKept (world_with w a)
 velocity_accepted w h course a k few e = by (steered (body_named w.plain h) course) refl e
   where
-    by : (c : Result Course Refusal) → steered (body_named w.plain h) course ≡ c → course_due w.plain h c ≡ Ok a → IsKept (world_with w a)
+    by : (c : Result Course Refusal) → steered (body_named w.plain h) course ≡ c → map_ok (λ given. with_body_changed w.plain h (put_course given)) c ≡ Ok a → IsKept (world_with w a)
     by (Err d) f g = cc
     by (Ok given) f g =
         let left : Plain = body_changed (put_course given) h.slot (stirred w.plain h.slot) in
@@ -114,7 +115,7 @@ gravity_accepted w g a k few e = by (is_within (2 ^ 16) g) refl e
 pub wake_accepted : (w : World) (h : Handle) (a : Applied) → IsKept w → w.plain.calls < 2 ^ 40 → apply_wake w.plain h ≡ Ok a → IsKept (world_with w a)
 wake_accepted w h a k few e = by (mover_refusal (body_named w.plain h)) e
   where
-    by : (o : Option Refusal) → wake_due w.plain h o ≡ Ok a → IsKept (world_with w a)
+    by : (o : Option Refusal) → unless_refused o (Ok (quietly (with_woken w.plain (h.slot ∷ [])))) ≡ Ok a → IsKept (world_with w a)
     by (Some d) g = cc
     by None g =
         let left : Plain = with_woken w.plain (h.slot ∷ []) in
@@ -123,7 +124,7 @@ wake_accepted w h a k few e = by (mover_refusal (body_named w.plain h)) e
 pub sleep_accepted : (w : World) (h : Handle) (a : Applied) → IsKept w → w.plain.calls < 2 ^ 40 → apply_sleep w.plain h ≡ Ok a → IsKept (world_with w a)
 sleep_accepted w h a k few e = by (mover_refusal (body_named w.plain h)) e
   where
-    by : (o : Option Refusal) → sleep_due w.plain h o ≡ Ok a → IsKept (world_with w a)
+    by : (o : Option Refusal) → unless_refused o (Ok (put_to_sleep w.plain (slept_at constraint_number h.slot (acting_of w.plain)))) ≡ Ok a → IsKept (world_with w a)
     by (Some d) g = cc
     by None g =
         let left : Applied = put_to_sleep w.plain (slept_at constraint_number h.slot (acting_of w.plain)) in
@@ -137,6 +138,6 @@ create_accepted w d a k few body filters e = by (def_refusal d) refl e
         (kept_with w (created w.plain d) (subst (λ (es : List Entry). IsKept (record w { plain = (created w.plain d).plain; entries = es })) (sym (append-nil w.entries)) (create_kept w d k few (grind (arith, common_steps)) is filters)))
     room false f is q = cc
 
-    by : (o : Option Refusal) → def_refusal d ≡ o → create_due w.plain d o ≡ Ok a → IsKept (world_with w a)
+    by : (o : Option Refusal) → def_refusal d ≡ o → unless_refused o (need (nat_lt (lowest w.plain.slot_entries) MAX_SLOTS) TooMany (Ok (created w.plain d))) ≡ Ok a → IsKept (world_with w a)
     by (Some r) f g = cc
     by None f g = room (nat_lt (lowest w.plain.slot_entries) MAX_SLOTS) refl (body f) g

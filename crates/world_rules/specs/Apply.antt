@@ -1,5 +1,7 @@
 -- Trusted: What each command does to the plain world, as a function.
 use Rattle.std.specs.Prelude.{◌≡◌, ℕ, ◌+◌, ◌^◌, Bool, cond, ◌&&◌, ◌==◌, nat_le, nat_lt, List, [], ◌∷◌, ◌++◌, Option, Some, None, Result, Ok, Err, ℤ, pos, neg_ℤ, unsigned_abs, slice_set, unwrap_or, replicate}
+use Rattle.std.specs.Option.{option_map_or}
+use Rattle.std.specs.Result.{result_map_both}
 use Rattle.fixed_geom.specs.Facings.{is_facing}
 use Rattle.fixed_geom.specs.Vectors.{cross, is_within, minus, plus, zero_vector}
 use Rattle.fixed_geom.specs.declared.limits.TheConstants.{MAX_POSITION}
@@ -9,7 +11,7 @@ use Rattle.fixed_geom.specs.declared.refusal.Refusal.{Refusal}
 use Rattle.fixed_geom.specs.declared.refusal.Refusal.TheVariants.{NoMemory, StaleHandle, TooMany, OutOfRange, SameBody, NotAMover, NotKinematic, BodyDisabled, TooFast, WornOut}
 use Rattle.body_handles.specs.declared.handle.Handle.{Handle}
 use Rattle.body_handles.specs.declared.slot_table.TheConstants.{MAX_SLOTS}
-use Rattle.body_handles.specs.SlotEntries.{lowest, generation_at, slot_entries_with, slot_entries_without}
+use Rattle.body_handles.specs.SlotEntries.{lowest, slot_entries_with, slot_entries_without}
 use Rattle.momenta.specs.Impulses.{turned_by}
 use Rattle.momenta.specs.declared.limits.TheConstants.{MAX_ANGULAR_MOMENTUM, MAX_MOMENTUM}
 use Rattle.momenta.specs.declared.motion.Momenta.{Momenta}
@@ -76,9 +78,25 @@ booked call why x y = cond (nat_le (unsigned_abs x) 0 && nat_le (unsigned_abs y)
 abbrev pub counted : Plain → Plain
 counted w = record w { calls = w.calls + 1 }
 
+-- a command that is no step: the world that it leaves with one call more, its reply, and what it books
+abbrev pub accepted : Plain → Reply → List Entry → Applied
+accepted w reply entries = record { plain = counted w; reply = reply; entries = entries; events = None }
+
 -- a command that answers nothing, books nothing and is no step
 abbrev pub quietly : Plain → Applied
-quietly w = record { plain = counted w; reply = replies.Done; entries = []; events = None }
+quietly w = accepted w replies.Done []
+
+-- the refusal that is due, or else what follows
+abbrev pub unless_refused : {X : Type 0} → Option Refusal → Result X Refusal → Result X Refusal
+unless_refused due rest = option_map_or (λ e. Err e) due rest
+
+-- what follows of the body or the joint that a handle names: a handle that names none is stale
+abbrev pub where_named : {X Y : Type 0} → Option X → (X → Result Y Refusal) → Result Y Refusal
+where_named named rest = option_map_or rest named (Err StaleHandle)
+
+-- what is made of a value, unless there is a refusal in its place
+abbrev pub map_ok : {X Y : Type 0} → (X → Y) → Result X Refusal → Result Y Refusal
+map_ok f r = result_map_both f (λ e. e) r
 
 -- ---- CreateBody
 
@@ -93,19 +111,10 @@ body_made slot b w = with_acting (widened slot (body_come slot b (acting_of w)))
 abbrev pub created : Plain → BodyDef → Applied
 created w d =
     let slot = lowest w.slot_entries in
-    record {
-      plain = counted (body_made slot (made d) w);
-      reply = replies.Body (record { slot = slot; generation = generation_at w.slot_entries slot });
-      entries = [];
-      events = None;
-    }
-
-abbrev pub create_due : Plain → BodyDef → Option Refusal → Result Applied Refusal
-create_due w d (Some e) = Err e
-create_due w d None = need (nat_lt (lowest w.slot_entries) MAX_SLOTS) TooMany (Ok (created w d))
+    accepted (body_made slot (made d) w) (replies.Body (handle_at w.slot_entries slot)) []
 
 abbrev pub apply_create : Plain → BodyDef → Result Applied Refusal
-apply_create w d = create_due w d (def_refusal d)
+apply_create w d = unless_refused (def_refusal d) (need (nat_lt (lowest w.slot_entries) MAX_SLOTS) TooMany (Ok (created w d)))
 
 -- ---- DestroyBody
 
@@ -128,19 +137,10 @@ abbrev pub departed : ℕ → Body → List Entry
 departed call b = booked call causes.Departed (neg_ℤ (momentum_in (Some b)).x) (neg_ℤ (momentum_in (Some b)).y)
 
 abbrev pub destroyed : Plain → Handle → Body → Applied
-destroyed w h b = record {
-  plain = counted (body_destroyed h (is_mover b) (stirred w h.slot));
-  reply = replies.Done;
-  entries = departed (w.calls + 1) b;
-  events = None;
-}
-
-abbrev pub destroy_due : Plain → Handle → Option Body → Result Applied Refusal
-destroy_due w h None = Err StaleHandle
-destroy_due w h (Some b) = Ok (destroyed w h b)
+destroyed w h b = accepted (body_destroyed h (is_mover b) (stirred w h.slot)) replies.Done (departed (w.calls + 1) b)
 
 abbrev pub apply_destroy : Plain → Handle → Result Applied Refusal
-apply_destroy w h = destroy_due w h (body_named w h)
+apply_destroy w h = where_named (body_named w h) (λ b. Ok (destroyed w h b))
 
 -- ---- CreateJoint and DestroyJoint
 
@@ -163,31 +163,21 @@ joint_come h j w = with_acting (begun_with (Joint h) (joint_movers w.bodies j) (
 
 -- the islands of both its ends wake first
 abbrev pub joined : Plain → JointDef → Handle → Applied
-joined w d h = record {
-  plain = counted (joint_come h (joint_made d) (with_woken w (d.a.slot ∷ d.b.slot ∷ [])));
-  reply = replies.Joint h;
-  entries = [];
-  events = None;
-}
-
-abbrev pub join_due : Plain → JointDef → Option Refusal → Result Applied Refusal
-join_due w d (Some e) = Err e
-join_due w d None = need (nat_lt (lowest w.joint_entries) MAX_SLOTS) TooMany (Ok (joined w d (handle_at w.joint_entries (lowest w.joint_entries))))
+joined w d h = accepted (joint_come h (joint_made d) (with_woken w (d.a.slot ∷ d.b.slot ∷ []))) (replies.Joint h) []
 
 abbrev pub apply_join : Plain → JointDef → Result Applied Refusal
-apply_join w d = join_due w d (join_refusal (body_named w d.a) (body_named w d.b) d)
+apply_join w d =
+    unless_refused (join_refusal (body_named w d.a) (body_named w d.b) d) (
+    need (nat_lt (lowest w.joint_entries) MAX_SLOTS) TooMany (
+    Ok (joined w d (handle_at w.joint_entries (lowest w.joint_entries)))))
 
 -- the joint ends, and goes
 abbrev pub joint_gone : Handle → BodyJoint → Plain → Plain
 joint_gone h j w = with_acting (ended_with (Joint h) (joint_movers w.bodies j) (acting_of w)) (with_joints (unjoined h (joints_in_slots w)) w)
 
 -- the islands of its movers wake first
-abbrev pub unjoin_due : Plain → Handle → Option BodyJoint → Result Applied Refusal
-unjoin_due w h None = Err StaleHandle
-unjoin_due w h (Some j) = Ok (quietly (joint_gone h j (with_woken w (j.a ∷ j.b ∷ []))))
-
 abbrev pub apply_unjoin : Plain → Handle → Result Applied Refusal
-apply_unjoin w h = unjoin_due w h (joint_of w.joint_entries w.joints h)
+apply_unjoin w h = where_named (joint_of w.joint_entries w.joints h) (λ j. Ok (quietly (joint_gone h j (with_woken w (j.a ∷ j.b ∷ [])))))
 
 -- ---- Push and PushAt
 
@@ -205,31 +195,24 @@ is_push j r = is_within (2 ^ 40) j && is_within (2 ^ 26) r
 
 -- the momenta that a push leaves, or the first reason why there are none
 abbrev pub pushed : Option Body → Vec2 → Vec2 → Result Momenta Refusal
-pushed None j r = Err StaleHandle
-pushed (Some b) j r =
+pushed named j r = where_named named (λ b.
     need (is_dynamic b.kind) NotAMover (
     need b.enabled BodyDisabled (
     need (is_push j r) OutOfRange (
     need (are_momenta (with_impulse j r b)) TooFast (
-    Ok (with_impulse j r b)))))
+    Ok (with_impulse j r b))))))
 
 -- the body in the slot changed
 abbrev pub body_changed : (Body → Body) → ℕ → Plain → Plain
 body_changed f slot w = record w { bodies = changed_at f w.bodies slot }
 
 -- the mover's island wakes first
-abbrev pub push_due : Plain → Handle → Vec2 → Result Momenta Refusal → Result Applied Refusal
-push_due w h j (Err e) = Err e
-push_due w h j (Ok m) = Ok (record {
-  plain = counted (body_changed (put_momenta m) h.slot (with_woken w (h.slot ∷ [])));
-  reply = replies.Done;
-  entries = booked (w.calls + 1) causes.Command j.x j.y;
-  events = None;
-})
+abbrev pub push_given : Plain → Handle → Vec2 → Momenta → Applied
+push_given w h j m = accepted (body_changed (put_momenta m) h.slot (with_woken w (h.slot ∷ []))) replies.Done (booked (w.calls + 1) causes.Command j.x j.y)
 
 -- a push at the centre has the offset 0
 abbrev pub apply_push : Plain → Handle → Vec2 → Vec2 → Result Applied Refusal
-apply_push w h j r = push_due w h j (pushed (body_named w h) j r)
+apply_push w h j r = map_ok (push_given w h j) (pushed (body_named w h) j r)
 
 -- ---- SetPose and SetVelocity
 
@@ -239,34 +222,24 @@ with_body_changed w h f = quietly (body_changed f h.slot (stirred w h.slot))
 
 -- the pose that a body gets, or the first reason why it gets none
 abbrev pub posed : Option Body → Pose → Result Pose Refusal
-posed None o = Err StaleHandle
-posed (Some b) o =
+posed named o = where_named named (λ b.
     need (is_within (unsigned_abs MAX_POSITION) o.x) OutOfRange (
     need (is_facing o.rot) OutOfRange (
-    Ok o))
-
-abbrev pub pose_due : Plain → Handle → Result Pose Refusal → Result Applied Refusal
-pose_due w h (Err e) = Err e
-pose_due w h (Ok o) = Ok (with_body_changed w h (put_pose o))
+    Ok o)))
 
 abbrev pub apply_pose : Plain → Handle → Pose → Result Applied Refusal
-apply_pose w h o = pose_due w h (posed (body_named w h) o)
+apply_pose w h o = map_ok (λ given. with_body_changed w h (put_pose given)) (posed (body_named w h) o)
 
 -- the course that a body gets, or the first reason why it gets none
 abbrev pub steered : Option Body → Course → Result Course Refusal
-steered None course = Err StaleHandle
-steered (Some b) course =
+steered named course = where_named named (λ b.
     need (is_kinematic b.kind) NotKinematic (
     need b.enabled BodyDisabled (
     need (is_course course) OutOfRange (
-    Ok course)))
-
-abbrev pub course_due : Plain → Handle → Result Course Refusal → Result Applied Refusal
-course_due w h (Err e) = Err e
-course_due w h (Ok course) = Ok (with_body_changed w h (put_course course))
+    Ok course))))
 
 abbrev pub apply_velocity : Plain → Handle → Course → Result Applied Refusal
-apply_velocity w h course = course_due w h (steered (body_named w h) course)
+apply_velocity w h course = map_ok (λ given. with_body_changed w h (put_course given)) (steered (body_named w h) course)
 
 -- ---- SetGravity
 
@@ -288,19 +261,10 @@ abbrev pub body_disabled : Handle → Bool → Plain → Plain
 body_disabled h mover w = with_acting (body_gone h.slot mover w) (without_part h w)
 
 abbrev pub disabled : Plain → Handle → Body → Applied
-disabled w h b = record {
-  plain = counted (body_disabled h (is_mover b) (stirred w h.slot));
-  reply = replies.Done;
-  entries = departed (w.calls + 1) b;
-  events = None;
-}
-
-abbrev pub disable_due : Plain → Handle → Option Body → Result Applied Refusal
-disable_due w h None = Err StaleHandle
-disable_due w h (Some b) = need b.enabled BodyDisabled (Ok (disabled w h b))
+disabled w h b = accepted (body_disabled h (is_mover b) (stirred w h.slot)) replies.Done (departed (w.calls + 1) b)
 
 abbrev pub apply_disable : Plain → Handle → Result Applied Refusal
-apply_disable w h = disable_due w h (body_named w h)
+apply_disable w h = where_named (body_named w h) (λ b. need b.enabled BodyDisabled (Ok (disabled w h b)))
 
 -- the lists in which the body takes part again
 abbrev pub with_part : Handle → Plain → Plain
@@ -317,12 +281,8 @@ body_enabled h b w = with_acting (taken_up h b w) (with_part h w)
 abbrev pub enabled : Plain → Handle → Body → Plain
 enabled w h b = cond b.enabled w (body_enabled h (enabled_body b) (with_woken w (joined_to w.bodies w.joints h.slot)))
 
-abbrev pub enable_due : Plain → Handle → Option Body → Result Applied Refusal
-enable_due w h None = Err StaleHandle
-enable_due w h (Some b) = Ok (quietly (enabled w h b))
-
 abbrev pub apply_enable : Plain → Handle → Result Applied Refusal
-apply_enable w h = enable_due w h (body_named w h)
+apply_enable w h = where_named (body_named w h) (λ b. Ok (quietly (enabled w h b)))
 
 -- ---- Wake and Sleep
 
@@ -334,12 +294,8 @@ mover_refusal (Some b) =
     refused_unless b.enabled BodyDisabled
     None)
 
-abbrev pub wake_due : Plain → Handle → Option Refusal → Result Applied Refusal
-wake_due w h (Some e) = Err e
-wake_due w h None = Ok (quietly (with_woken w (h.slot ∷ [])))
-
 abbrev pub apply_wake : Plain → Handle → Result Applied Refusal
-apply_wake w h = wake_due w h (mover_refusal (body_named w h))
+apply_wake w h = unless_refused (mover_refusal (body_named w h)) (Ok (quietly (with_woken w (h.slot ∷ []))))
 
 -- what the movers' momentum has gained between two lists of bodies
 abbrev pub gained : List (Option Body) → List (Option Body) → Vec2
@@ -350,20 +306,11 @@ abbrev pub rest_entries : ℕ → Labels → List (Option Body) → List Entry
 rest_entries call labels bodies = booked call causes.Rest (gained bodies (told labels bodies)).x (gained bodies (told labels bodies)).y
 
 abbrev pub put_to_sleep : Plain → Acting Constraint → Applied
-put_to_sleep w s = record {
-  plain = counted (with_acting s w);
-  reply = replies.Done;
-  entries = rest_entries (w.calls + 1) s.labels w.bodies;
-  events = None;
-}
-
-abbrev pub sleep_due : Plain → Handle → Option Refusal → Result Applied Refusal
-sleep_due w h (Some e) = Err e
-sleep_due w h None = Ok (put_to_sleep w (slept_at constraint_number h.slot (acting_of w)))
+put_to_sleep w s = accepted (with_acting s w) replies.Done (rest_entries (w.calls + 1) s.labels w.bodies)
 
 -- the island is split if it is loose, and that of the body is put to rest; one that sleeps stays as it is
 abbrev pub apply_sleep : Plain → Handle → Result Applied Refusal
-apply_sleep w h = sleep_due w h (mover_refusal (body_named w h))
+apply_sleep w h = unless_refused (mover_refusal (body_named w h)) (Ok (put_to_sleep w (slept_at constraint_number h.slot (acting_of w))))
 
 -- ---- Step
 
