@@ -2,6 +2,7 @@
 use Rattle.std.proofs.Common.{◌≡◌, ℕ, suc, ◌+◌, ◌&&◌, ◌||◌, Bool, true, false, not, cond, List, [], ◌∷◌, get_or, length, Option, None, Some, inl, inr, refl, sym, ap, ◌∙◌, subst, arith}
 use Rattle.std.proofs.lemmas.Bool.{false≢true}
 use Rattle.std.proofs.lemmas.Bool.Decides.{nat_tests}
+use Rattle.std.specs.Prelude.{fold}
 use Rattle.fixed_geom.specs.Options.{unbeaten}
 use Rattle.fixed_geom.proofs.UnbeatenLemmas.{best_of, IsStrict, unbeaten_is_best}
 use Rattle.islands.specs.declared.label.Label.{Label}
@@ -10,13 +11,14 @@ use Rattle.islands.specs.Partition.{IsPartition}
 use Rattle.islands.proofs.LabelLemmas.{in_case}
 use Rattle.islands.proofs.SplitLemmas.{split_is}
 use Rattle.sleep_wake.specs.Acting.{Acting, IsConsistent, awake_label, is_mover_awake}
-use Rattle.sleep_wake.specs.SleepPhase.{lesser, least_timer, is_time_to_sleep, is_island, is_less, ready, picked_to_split, split_at, edges_of, split_picked, all_put_to_rest, ready_put_to_rest, sleep_phase}
+use Rattle.sleep_wake.specs.SleepPhase.{lesser, least_timer, is_time_to_sleep, is_island, is_less, ready, picked_to_split, split_at, edges_of, split_picked, ready_put_to_rest, sleep_phase}
 use Rattle.sleep_wake.specs.AwakeSlots.{AreAwakeSlots, AgreeAwake}
 use Rattle.sleep_wake.specs.Resting.{least_at, AreLeast, is_ready_island, ready_after, ready_names, longer_at_rest, longest_at_rest, longest_ready, rests_by, second_rests, is_to_rest}
 use Rattle.sleep_wake.proofs.AwakeLemmas.{awake_as}
 use Rattle.sleep_wake.proofs.EdgeLemmas.{edges_inside}
 use Rattle.sleep_wake.proofs.PhaseLemmas.{AreAll, IsNamedIsland, names, all_if, all_on, as_all, and_is, picked_is, split_keeps}
 use Rattle.sleep_wake.proofs.LeastLemmas.{timer_in, ready_names_are}
+use Rattle.sleep_wake.specs.Waking.{put_to_rest}
 
 -- ---- two that tell the least timers of the awake islands
 
@@ -220,5 +222,5 @@ phase_agrees {C} number s a b w same =
     let now : Acting C = split_picked (picked_to_split s.labels a) s in
     let consistent : IsConsistent number now = split_keeps number s (picked_to_split s.labels a) w (λ name e. picked_is s.labels a name e) in
     let still : AgreeAwake now.labels a b = record { size = same.size; same = λ slot h. same.same slot (sym (after_split number s a slot w) ∙ h) } in
-    ap (λ (ns : List ℕ). all_put_to_rest number ns now) (same_ready false now.labels a b consistent.islands.partition still)
+    ap (λ (ns : List ℕ). fold (λ now name. put_to_rest number name now) now ns) (same_ready false now.labels a b consistent.islands.partition still)
     ∙ ap (λ (picked : Option ℕ). ready_put_to_rest number b (split_picked picked s)) (same_picked s.labels a b w.islands.partition same)

@@ -2,6 +2,7 @@
 use Rattle.std.proofs.Common.{◌≡◌, ℕ, ◌⊎◌, Bool, true, false, not, cond, ◌&&◌, ◌||◌, Option, Some, None, inl, inr, refl, sym, ap, ◌∙◌}
 use Rattle.std.specs.Prelude.{Contains}
 use Rattle.std.proofs.lemmas.Bool.{false≢true}
+use Rattle.std.specs.Option.{option_map_or}
 use Rattle.graph_colours.specs.declared.member.Member.{Member}
 use Rattle.islands.specs.declared.label.IslandState.{IslandState}
 use Rattle.islands.specs.declared.label.IslandState.TheVariants.{Whole, Loose}
@@ -10,7 +11,7 @@ use Rattle.islands.specs.Labels.{Labels, label_at, is_in, IsIn, is_asleep, is_lo
 use Rattle.islands.specs.Partition.{IsPartition, AreTogether}
 use Rattle.islands.proofs.LabelLemmas.{in_is, same_by_name, of_either, either_case, either_is, either_to, others_stay, one_either}
 use Rattle.islands.proofs.SplitLemmas.{IsLabelled, still_labelled}
-use Rattle.sleep_wake.specs.Acting.{Acting, IsConsistent, awake_label, is_mover_awake, second_awake}
+use Rattle.sleep_wake.specs.Acting.{Acting, IsConsistent, awake_label, is_mover_awake}
 use Rattle.sleep_wake.specs.Waking.{second_in, has_mover_of}
 use Rattle.sleep_wake.specs.Changes.{parted, united}
 use Rattle.sleep_wake.proofs.ListLemmas.{in_links}
@@ -21,14 +22,14 @@ and_is false y h = absurd (false≢true h)
 
 -- ---- the movers of a constraint
 
-pub all_awake : (labels : Labels) (first : ℕ) (o : Option ℕ) → is_mover_awake labels first ≡ true → ((b : ℕ) → o ≡ Some b → is_mover_awake labels b ≡ true) → (is_mover_awake labels first && second_awake labels o) ≡ true
+pub all_awake : (labels : Labels) (first : ℕ) (o : Option ℕ) → is_mover_awake labels first ≡ true → ((b : ℕ) → o ≡ Some b → is_mover_awake labels b ≡ true) → (is_mover_awake labels first && option_map_or (is_mover_awake labels) o true) ≡ true
 all_awake labels first None h k = rw h refl
 all_awake labels first (Some b) h k = rw (h, k b refl) refl
 
-pub awake_first : (labels : Labels) (first : ℕ) (o : Option ℕ) → (is_mover_awake labels first && second_awake labels o) ≡ true → is_mover_awake labels first ≡ true
-awake_first labels first o h = (and_is (is_mover_awake labels first) (second_awake labels o) h).0
+pub awake_first : (labels : Labels) (first : ℕ) (o : Option ℕ) → (is_mover_awake labels first && option_map_or (is_mover_awake labels) o true) ≡ true → is_mover_awake labels first ≡ true
+awake_first labels first o h = (and_is (is_mover_awake labels first) (option_map_or (is_mover_awake labels) o true) h).0
 
-pub same_awake : (labels new : Labels) (first : ℕ) (o : Option ℕ) → is_mover_awake new first ≡ is_mover_awake labels first → ((b : ℕ) → o ≡ Some b → is_mover_awake new b ≡ is_mover_awake labels b) → (is_mover_awake new first && second_awake new o) ≡ (is_mover_awake labels first && second_awake labels o)
+pub same_awake : (labels new : Labels) (first : ℕ) (o : Option ℕ) → is_mover_awake new first ≡ is_mover_awake labels first → ((b : ℕ) → o ≡ Some b → is_mover_awake new b ≡ is_mover_awake labels b) → (is_mover_awake new first && option_map_or (is_mover_awake new) o true) ≡ (is_mover_awake labels first && option_map_or (is_mover_awake labels) o true)
 same_awake labels new first None h k = rw h refl
 same_awake labels new first (Some b) h k = rw (h, k b refl) refl
 

@@ -2,6 +2,7 @@
 use Rattle.std.proofs.Common.{◌≡◌, ◌≢◌, ◌↔◌, ◌⊎◌, ℕ, ◌<◌, Bool, true, false, cond, List, [], ◌∷◌, Option, Some, None, inl, inr, refl, sym, ap, ◌∙◌, subst, arith}
 use Rattle.std.specs.Prelude.{Contains, AllPairs}
 use Rattle.std.proofs.lemmas.List.Elements.{All-contains}
+use Rattle.std.specs.Option.{option_map_or}
 use Rattle.graph_colours.specs.declared.member.Member.{Member}
 use Rattle.graph_colours.specs.Members.{AreRising, inserted, without_member}
 use Rattle.graph_colours.specs.FoundMembers.{has_id}
@@ -16,7 +17,7 @@ use Rattle.sleep_wake.specs.declared.change.Change.{Change}
 use Rattle.sleep_wake.specs.declared.change.Change.TheVariants.{Begin, End}
 use Rattle.sleep_wake.specs.Changes.{ended, begun, after_changes, change_number}
 use Rattle.sleep_wake.specs.ChangeLists.{IsChange, AreChangesOf}
-use Rattle.sleep_wake.specs.Waking.{set_woken, woken_by, woken_at, second_woken, movers_woken}
+use Rattle.sleep_wake.specs.Waking.{set_woken, woken_at, movers_woken}
 use Rattle.sleep_wake.specs.Laws.{ChangesFold, TiesAfter, OneOrder}
 use Rattle.sleep_wake.proofs.ListLemmas.{without_in, in_without, inserted_in, in_inserted, one_of, has_from}
 
@@ -71,7 +72,7 @@ unfolding set_woken
 ties_if number name true s = refl
 ties_if number name false s = refl
 
-ties_by : {C : Type 0} (number : C → ℕ) (o : Option Label) (s : Acting C) → (woken_by number o s).ties ≡ s.ties
+ties_by : {C : Type 0} (number : C → ℕ) (o : Option Label) (s : Acting C) → (option_map_or (λ (l : Label). cond (is_asleep l.state) (set_woken number l.name s) s) o s).ties ≡ s.ties
 ties_by number None s = refl
 ties_by number (Some l) s = ties_if number l.name (is_asleep l.state) s
 
@@ -79,7 +80,7 @@ ties_at : {C : Type 0} (number : C → ℕ) (slot : ℕ) (s : Acting C) → (wok
 unfolding woken_at
 ties_at number slot s = ties_by number (label_at s.labels slot) s
 
-ties_both : {C : Type 0} (number : C → ℕ) (first : ℕ) (o : Option ℕ) (s : Acting C) → (second_woken number o (woken_at number first s)).ties ≡ s.ties
+ties_both : {C : Type 0} (number : C → ℕ) (first : ℕ) (o : Option ℕ) (s : Acting C) → (option_map_or (λ slot. woken_at number slot (woken_at number first s)) o (woken_at number first s)).ties ≡ s.ties
 ties_both number first None s = ties_at number first s
 ties_both number first (Some b) s = ties_at number b (woken_at number first s) ∙ ties_at number first s
 

@@ -2,6 +2,7 @@
 use Rattle.std.proofs.Common.{◌≡◌, ℕ, suc, ◌+◌, ◌<◌, ◌≤◌, ◌==◌, Bool, true, false, cond, List, [], ◌∷◌, Option, Some, None, length, drop, get_or, refl, sym, ap, ◌∙◌, arith, subst}
 use Rattle.std.proofs.lemmas.Bool.{false≢true}
 use Rattle.std.proofs.lemmas.List.{drop_more}
+use Rattle.std.specs.Option.{option_map_or}
 use Rattle.graph_colours.specs.declared.member.Movers.{Movers}
 use Rattle.graph_colours.specs.declared.member.Member.{Member}
 use Rattle.graph_colours.specs.Members.{inserted, without_member}
@@ -15,10 +16,10 @@ use Rattle.islands.proofs.JoinLemmas.{contains_head, contains_tail}
 use Rattle.islands.proofs.SplitLemmas.{IsLabelled}
 use Rattle.sleep_wake.specs.declared.change.Change.{Change}
 use Rattle.sleep_wake.specs.declared.change.Change.TheVariants.{Begin, End}
-use Rattle.sleep_wake.specs.Acting.{Acting, AreMovers, IsConsistent, awake_label, is_mover_awake, second_awake, are_awake}
+use Rattle.sleep_wake.specs.Acting.{Acting, AreMovers, IsConsistent, awake_label, is_mover_awake, are_awake}
 use Rattle.sleep_wake.specs.Changes.{begun, ended, united, parted, after_change}
 use Rattle.sleep_wake.specs.ChangeLists.{CanBegin, CanEnd, AreChanges, IsChange, begin_count}
-use Rattle.sleep_wake.specs.Waking.{set_woken, woken_by, woken_at, second_woken, movers_woken}
+use Rattle.sleep_wake.specs.Waking.{set_woken, woken_at, movers_woken}
 use Rattle.sleep_wake.proofs.ListLemmas.{above_head, in_without}
 use Rattle.sleep_wake.proofs.AwakeLemmas.{and_is, all_awake, same_awake, united_awake, united_labelled, parted_awake, parted_labelled, stated_labelled}
 use Rattle.sleep_wake.proofs.KeptLemmas.{wakes_both}
@@ -34,7 +35,7 @@ labelled_if : (o : Option Label) → awake_label o ≡ true → (l : Label) × (
 labelled_if None h = absurd (false≢true h)
 labelled_if (Some l) h = (l, refl)
 
-second_of : (labels : Labels) (o : Option ℕ) (b : ℕ) → second_awake labels o ≡ true → o ≡ Some b → is_mover_awake labels b ≡ true
+second_of : (labels : Labels) (o : Option ℕ) (b : ℕ) → option_map_or (is_mover_awake labels) o true ≡ true → o ≡ Some b → is_mover_awake labels b ≡ true
 second_of labels None b h e = absurd (let none : None ≡ Some b = e in cc)
 second_of labels (Some c) b h e = let same : c ≡ b = cc in let P : ℕ → Type 0 = λ v. is_mover_awake labels v ≡ true in subst P same h
 
@@ -45,7 +46,7 @@ pub record AreUp (labels : Labels) (m : Movers) : Type 0 where
 
 pub are_up : (labels : Labels) (m : Movers) → are_awake labels m ≡ true → AreUp labels m
 are_up labels m a =
-    let both = and_is (is_mover_awake labels m.first) (second_awake labels m.second) a in
+    let both = and_is (is_mover_awake labels m.first) (option_map_or (is_mover_awake labels) m.second true) a in
     let two : (b : ℕ) → m.second ≡ Some b → is_mover_awake labels b ≡ true = λ b e. second_of labels m.second b both.1 e in
     record { first = both.0; second = two; movers = record { first = labelled_if (label_at labels m.first) both.0; second = λ b e. labelled_if (label_at labels b) (two b e) } }
 
@@ -103,7 +104,7 @@ unfolding set_woken woken
 set_labelled number name true s = λ t h. stated_labelled s.labels name Whole t h
 set_labelled number name false s = λ t h. h
 
-by_labelled : {C : Type 0} (number : C → ℕ) (o : Option Label) (s : Acting C) → Labelled s.labels (woken_by number o s).labels
+by_labelled : {C : Type 0} (number : C → ℕ) (o : Option Label) (s : Acting C) → Labelled s.labels (option_map_or (λ (l : Label). cond (is_asleep l.state) (set_woken number l.name s) s) o s).labels
 by_labelled number None s = λ t h. h
 by_labelled number (Some l) s = set_labelled number l.name (is_asleep l.state) s
 
@@ -111,7 +112,7 @@ pub woken_labelled : {C : Type 0} (number : C → ℕ) (slot : ℕ) (s : Acting 
 unfolding woken_at
 woken_labelled number slot s = by_labelled number (label_at s.labels slot) s
 
-second_labelled : {C : Type 0} (number : C → ℕ) (o : Option ℕ) (s : Acting C) → Labelled s.labels (second_woken number o s).labels
+second_labelled : {C : Type 0} (number : C → ℕ) (o : Option ℕ) (s : Acting C) → Labelled s.labels (option_map_or (λ slot. woken_at number slot s) o s).labels
 second_labelled number None s = λ t h. h
 second_labelled number (Some slot) s = woken_labelled number slot s
 

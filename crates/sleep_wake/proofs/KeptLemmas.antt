@@ -1,7 +1,8 @@
 -- What keeps the sets.
 use Rattle.std.proofs.Common.{◌≡◌, ◌≢◌, ℕ, ◌↔◌, Bool, true, false, not, cond, List, [], ◌∷◌, Option, Some, None, inl, inr, refl, sym, ap, ◌∙◌, subst}
-use Rattle.std.specs.Prelude.{Contains}
+use Rattle.std.specs.Prelude.{Contains, fold}
 use Rattle.std.proofs.lemmas.Bool.{false≢true, cases_eq}
+use Rattle.std.specs.Option.{option_map_or}
 use Rattle.graph_colours.specs.declared.member.Movers.{Movers}
 use Rattle.graph_colours.specs.declared.member.Member.{Member}
 use Rattle.graph_colours.specs.Members.{inserted, without_member}
@@ -18,12 +19,12 @@ use Rattle.islands.proofs.JoinLemmas.{joined_within, linked_back}
 use Rattle.islands.proofs.LabelLemmas.{in_of, one_label}
 use Rattle.islands.proofs.KeptLemmas.{same_links, changing_state, loosening, merging}
 use Rattle.islands.proofs.SplitLemmas.{IsLabelled}
-use Rattle.sleep_wake.specs.Acting.{Acting, AreMovers, IsConsistent, links_of, awake_label, is_mover_awake, second_awake, are_awake}
+use Rattle.sleep_wake.specs.Acting.{Acting, AreMovers, IsConsistent, links_of, awake_label, is_mover_awake, are_awake}
 use Rattle.sleep_wake.specs.declared.change.Change.{Change}
 use Rattle.sleep_wake.specs.declared.change.Change.TheVariants.{Begin, End}
 use Rattle.sleep_wake.specs.Changes.{parted, united, ended, begun, after_changes}
 use Rattle.sleep_wake.specs.ChangeLists.{AreChanges}
-use Rattle.sleep_wake.specs.Waking.{ties_of_mover, has_mover_of, set_woken, woken_by, woken_at, second_woken, movers_woken, put_to_rest}
+use Rattle.sleep_wake.specs.Waking.{ties_of_mover, has_mover_of, set_woken, woken_at, movers_woken, put_to_rest}
 use Rattle.sleep_wake.specs.Laws.{WakingKeeps, ChangingKeeps, RestingKeeps, SleepersAreOneComponent, LinkedStandTogether, EndingKeeps, BeginningKeeps}
 use Rattle.sleep_wake.proofs.ListLemmas.{filter_in, in_filter, without_in, in_without, inserted_in, in_inserted, one_of, has_from, absent_from, places_one, places, Places, releases, Releases, released_in, in_released, rising_filter, link_in, in_links, links_more}
 use Rattle.sleep_wake.proofs.AwakeLemmas.{and_is, all_awake, awake_first, same_awake, NoneIn, of_island, tie_together, awake_in, awake_out, awake_as, stated_labelled, in_or_out, parted_awake, parted_labelled, united_awake, united_labelled}
@@ -114,7 +115,7 @@ wakes_if : {C : Type 0} (number : C → ℕ) (slot : ℕ) (s : Acting C) (l : La
 wakes_if number slot s l true a w e = woken_set number slot s l w e a
 wakes_if number slot s l false a w e = record { consistent = w; ties = refl; labelled = λ t h. h; more = λ t h. h; awake = λ h. ap awake_label e ∙ ap not a }
 
-wakes_by : {C : Type 0} (number : C → ℕ) (slot : ℕ) (s : Acting C) (o : Option Label) → label_at s.labels slot ≡ o → IsConsistent number s → Wakes number slot s (woken_by number o s)
+wakes_by : {C : Type 0} (number : C → ℕ) (slot : ℕ) (s : Acting C) (o : Option Label) → label_at s.labels slot ≡ o → IsConsistent number s → Wakes number slot s (option_map_or (λ (l : Label). cond (is_asleep l.state) (set_woken number l.name s) s) o s)
 wakes_by number slot s None e w = record { consistent = w; ties = refl; labelled = λ t h. h; more = λ t h. h; awake = λ h. absurd (let no : None ≡ Some h.0 = sym e ∙ h.1 in cc) }
 wakes_by number slot s (Some l) e w = wakes_if number slot s l (is_asleep l.state) refl w e
 
@@ -130,7 +131,7 @@ pub record WakesBoth {C : Type 0} (number : C → ℕ) (first : ℕ) (second : O
   pub one : IsLabelled s.labels first → is_mover_awake new.labels first ≡ true
   pub two : (b : ℕ) → second ≡ Some b → IsLabelled s.labels b → is_mover_awake new.labels b ≡ true
 
-pub wakes_both : {C : Type 0} (number : C → ℕ) (first : ℕ) (o : Option ℕ) (s : Acting C) → IsConsistent number s → WakesBoth number first o s (second_woken number o (woken_at number first s))
+pub wakes_both : {C : Type 0} (number : C → ℕ) (first : ℕ) (o : Option ℕ) (s : Acting C) → IsConsistent number s → WakesBoth number first o s (option_map_or (λ slot. woken_at number slot (woken_at number first s)) o (woken_at number first s))
 wakes_both number first None s w = let a = wakes number first s w in record { consistent = a.consistent; ties = a.ties; labelled = a.labelled; one = a.awake; two = λ b e h. absurd (let no : None ≡ Some b = e in cc) }
 wakes_both number first (Some c) s w =
     let a = wakes number first s w in
@@ -369,12 +370,12 @@ labelled_if : (o : Option Label) → awake_label o ≡ true → (l : Label) × (
 labelled_if None h = absurd (false≢true h)
 labelled_if (Some l) h = (l, refl)
 
-second_of : (labels : Labels) (o : Option ℕ) (b : ℕ) → second_awake labels o ≡ true → o ≡ Some b → is_mover_awake labels b ≡ true
+second_of : (labels : Labels) (o : Option ℕ) (b : ℕ) → option_map_or (is_mover_awake labels) o true ≡ true → o ≡ Some b → is_mover_awake labels b ≡ true
 second_of labels None b h e = absurd (let no : None ≡ Some b = e in cc)
 second_of labels (Some c) b h e = let same : c ≡ b = cc in let P : ℕ → Type 0 = λ v. is_mover_awake labels v ≡ true in subst P same h
 
 pub beginning_keeps : {C : Type 0} (number : C → ℕ) → BeginningKeeps number
 beginning_keeps number s m w fresh a =
-    let both = and_is (is_mover_awake s.labels m.movers.first) (second_awake s.labels m.movers.second) a in
+    let both = and_is (is_mover_awake s.labels m.movers.first) (option_map_or (is_mover_awake s.labels) m.movers.second true) a in
     let two : (b : ℕ) → m.movers.second ≡ Some b → is_mover_awake s.labels b ≡ true = λ b e. second_of s.labels m.movers.second b both.1 e in
     beginning number s m w fresh (record { first = labelled_if (label_at s.labels m.movers.first) both.0; second = λ b e. labelled_if (label_at s.labels b) (two b e) }) both.0 two

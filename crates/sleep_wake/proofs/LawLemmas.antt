@@ -1,7 +1,8 @@
 -- Who is a mover and who is awake, after each of the calls of the sets.
 use Rattle.std.proofs.Common.{◌≡◌, ℕ, zero, suc, ◌⊎◌, ◌==◌, ◌||◌, ◌&&◌, Bool, true, false, not, cond, nat_lt, List, [], ◌∷◌, Option, Some, None, length, slice_set, arith, refl, sym, ap, ◌∙◌, subst, inl, inr, get_or-set_other}
-use Rattle.std.specs.Prelude.{Contains, is_some}
+use Rattle.std.specs.Prelude.{Contains, is_some, fold}
 use Rattle.std.proofs.lemmas.Bool.{false≢true, cases_eq}
+use Rattle.std.specs.Option.{option_map_or}
 use Rattle.graph_colours.specs.declared.member.Member.{Member}
 use Rattle.graph_colours.specs.FoundMembers.{has_id}
 use Rattle.graph_colours.proofs.PlaceLemmas.{is_same, not_same, same_from}
@@ -18,9 +19,9 @@ use Rattle.sleep_wake.specs.Acting.{Acting, AreMovers, IsConsistent, awake_label
 use Rattle.sleep_wake.specs.Bodies.{mover_made, mover_gone}
 use Rattle.sleep_wake.specs.Changes.{begun, ended, united, parted, each_begun, each_ended, after_change, after_changes}
 use Rattle.sleep_wake.specs.ChangeLists.{CanBegin, CanEnd, AreChanges}
-use Rattle.sleep_wake.specs.Waking.{set_woken, woken_by, woken_at, second_woken, movers_woken, put_to_rest}
-use Rattle.sleep_wake.specs.SleepPhase.{split_at, edges_of, split_picked, picked_to_split, all_put_to_rest, ready, sleep_phase}
-use Rattle.sleep_wake.specs.Sleeping.{name_at, with_one_name, with_name, names_from, sleeping_names, islands_woken, split_if_loose, rested_by, rested_at, slept_by, slept_at}
+use Rattle.sleep_wake.specs.Waking.{set_woken, woken_at, movers_woken, put_to_rest}
+use Rattle.sleep_wake.specs.SleepPhase.{split_at, edges_of, split_picked, picked_to_split, ready, sleep_phase}
+use Rattle.sleep_wake.specs.Sleeping.{name_at, with_one_name, with_name, sleeping_names, islands_woken, split_if_loose, rested_at, slept_at}
 use Rattle.sleep_wake.specs.Resting.{is_whole}
 use Rattle.sleep_wake.specs.Laws.{WakingNamedKeeps, BeginningEachKeeps, EndingEachKeeps, SleepKeeps, MoversStay, MoversComeAndGo, NobodyFallsAsleep, AwakeStayAwake, WakingLeavesTheAwake, TheNamedAreAwake, TheAwakeAct}
 use Rattle.sleep_wake.proofs.AwakeLemmas.{awake_as, united_awake, parted_awake}
@@ -52,7 +53,7 @@ not_and : (x y : Bool) → (not x && not y) ≡ true → x ≡ false
 not_and true y h = absurd (false≢true h)
 not_and false y h = refl
 
-rested_keeps : {C : Type 0} (number : C → ℕ) (s : Acting C) (slot : ℕ) (o : Option Label) → label_at s.labels slot ≡ o → IsConsistent number s → is_whole o ≡ true → IsConsistent number (rested_by number o s)
+rested_keeps : {C : Type 0} (number : C → ℕ) (s : Acting C) (slot : ℕ) (o : Option Label) → label_at s.labels slot ≡ o → IsConsistent number s → is_whole o ≡ true → IsConsistent number (option_map_or (λ (l : Label). put_to_rest number l.name s) o s)
 rested_keeps number s slot None e w h = w
 rested_keeps number s slot (Some l) e w h = resting number s l.name l w (w.islands.partition.named slot l e) refl (not_and (is_loose l.state) (is_asleep l.state) h)
 
@@ -62,7 +63,7 @@ slept_if_keeps {C} number s slot l false a w e =
     let now : Acting C = split_if_loose l s in
     rested_keeps number now slot (label_at now.labels slot) refl (split_if_keeps number s l (is_loose l.state) w (w.islands.partition.named slot l e) a) (whole_after number s slot l w e a)
 
-slept_by_keeps : {C : Type 0} (number : C → ℕ) (s : Acting C) (slot : ℕ) (o : Option Label) → label_at s.labels slot ≡ o → IsConsistent number s → IsConsistent number (slept_by number slot o s)
+slept_by_keeps : {C : Type 0} (number : C → ℕ) (s : Acting C) (slot : ℕ) (o : Option Label) → label_at s.labels slot ≡ o → IsConsistent number s → IsConsistent number (option_map_or (λ (l : Label). cond (is_asleep l.state) s (rested_at number slot (split_if_loose l s))) o s)
 slept_by_keeps number s slot None e w = w
 slept_by_keeps number s slot (Some l) e w = slept_if_keeps number s slot l (is_asleep l.state) refl w e
 
@@ -91,7 +92,7 @@ unfolding set_woken woken
 set_slots number name true s = relabelled_slots name name (record { name = name; state = Whole }) s.labels
 set_slots number name false s = λ t. refl
 
-by_slots : {C : Type 0} (number : C → ℕ) (o : Option Label) (s : Acting C) → SameSlots s.labels (woken_by number o s).labels
+by_slots : {C : Type 0} (number : C → ℕ) (o : Option Label) (s : Acting C) → SameSlots s.labels (option_map_or (λ (l : Label). cond (is_asleep l.state) (set_woken number l.name s) s) o s).labels
 by_slots number None s = λ t. refl
 by_slots number (Some l) s = set_slots number l.name (is_asleep l.state) s
 
@@ -99,7 +100,7 @@ woken_slots : {C : Type 0} (number : C → ℕ) (slot : ℕ) (s : Acting C) → 
 unfolding woken_at
 woken_slots number slot s = by_slots number (label_at s.labels slot) s
 
-second_slots : {C : Type 0} (number : C → ℕ) (o : Option ℕ) (s : Acting C) → SameSlots s.labels (second_woken number o s).labels
+second_slots : {C : Type 0} (number : C → ℕ) (o : Option ℕ) (s : Acting C) → SameSlots s.labels (option_map_or (λ slot. woken_at number slot s) o s).labels
 second_slots number None s = λ t. refl
 second_slots number (Some slot) s = woken_slots number slot s
 
@@ -142,7 +143,7 @@ each_ended_slots : {C : Type 0} (number : C → ℕ) (ms : List (Member C)) (s :
 each_ended_slots number [] s = λ t. refl
 each_ended_slots number (m ∷ ms) s = λ t. each_ended_slots number ms (ended number m s) t ∙ ended_slots number m s t
 
-both_slots : {C : Type 0} (number : C → ℕ) (first : ℕ) (o : Option ℕ) (s : Acting C) → SameSlots s.labels (second_woken number o (woken_at number first s)).labels
+both_slots : {C : Type 0} (number : C → ℕ) (first : ℕ) (o : Option ℕ) (s : Acting C) → SameSlots s.labels (option_map_or (λ slot. woken_at number slot (woken_at number first s)) o (woken_at number first s)).labels
 both_slots number first o s = λ t. second_slots number o (woken_at number first s) t ∙ woken_slots number first s t
 
 changed_slots : {C : Type 0} (number : C → ℕ) (c : Change C) (s : Acting C) → SameSlots s.labels (after_change number c s).labels
@@ -157,7 +158,7 @@ rest_slots : {C : Type 0} (number : C → ℕ) (name : ℕ) (s : Acting C) → S
 unfolding put_to_rest rested
 rest_slots number name s = relabelled_slots name name (record { name = name; state = Asleep }) s.labels
 
-all_rest_slots : {C : Type 0} (number : C → ℕ) (names : List ℕ) (s : Acting C) → SameSlots s.labels (all_put_to_rest number names s).labels
+all_rest_slots : {C : Type 0} (number : C → ℕ) (names : List ℕ) (s : Acting C) → SameSlots s.labels (fold (λ now name. put_to_rest number name now) s names).labels
 all_rest_slots number [] s = λ t. refl
 all_rest_slots number (name ∷ names) s = λ t. all_rest_slots number names (put_to_rest number name s) t ∙ rest_slots number name s t
 
@@ -174,7 +175,7 @@ split_if_slots : {C : Type 0} (number : C → ℕ) (name : ℕ) (t : Bool) (s : 
 split_if_slots number name true s w = split_slots number name s w
 split_if_slots number name false s w = λ t. refl
 
-rested_by_slots : {C : Type 0} (number : C → ℕ) (o : Option Label) (s : Acting C) → SameSlots s.labels (rested_by number o s).labels
+rested_by_slots : {C : Type 0} (number : C → ℕ) (o : Option Label) (s : Acting C) → SameSlots s.labels (option_map_or (λ (l : Label). put_to_rest number l.name s) o s).labels
 rested_by_slots number None s = λ t. refl
 rested_by_slots number (Some l) s = rest_slots number l.name s
 
@@ -184,7 +185,7 @@ slept_if_slots {C} number slot l false s w =
     let now : Acting C = split_if_loose l s in
     λ t. rested_by_slots number (label_at now.labels slot) now t ∙ split_if_slots number l.name (is_loose l.state) s w t
 
-slept_by_slots : {C : Type 0} (number : C → ℕ) (slot : ℕ) (o : Option Label) (s : Acting C) → IsConsistent number s → SameSlots s.labels (slept_by number slot o s).labels
+slept_by_slots : {C : Type 0} (number : C → ℕ) (slot : ℕ) (o : Option Label) (s : Acting C) → IsConsistent number s → SameSlots s.labels (option_map_or (λ (l : Label). cond (is_asleep l.state) s (rested_at number slot (split_if_loose l s))) o s).labels
 slept_by_slots number slot None s w = λ t. refl
 slept_by_slots number slot (Some l) s w = slept_if_slots number slot l (is_asleep l.state) s w
 
@@ -281,7 +282,7 @@ pub record Steps {C : Type 0} (number : C → ℕ) (s new : Acting C) : Type 0 w
   pub consistent : IsConsistent number new
   pub awake : NobodyFallsAsleep s new
 
-both_awake : {C : Type 0} (number : C → ℕ) (first : ℕ) (o : Option ℕ) (s : Acting C) → IsConsistent number s → NobodyFallsAsleep s (second_woken number o (woken_at number first s))
+both_awake : {C : Type 0} (number : C → ℕ) (first : ℕ) (o : Option ℕ) (s : Acting C) → IsConsistent number s → NobodyFallsAsleep s (option_map_or (λ slot. woken_at number slot (woken_at number first s)) o (woken_at number first s))
 both_awake number first None s w = (wakes number first s w).more
 both_awake number first (Some b) s w = let a = wakes number first s w in λ t h. (wakes number b (woken_at number first s) a.consistent).more t (a.more t h)
 
@@ -340,7 +341,7 @@ set_leaves number s slot t l true a w e h =
     others_stay l.name l.name (record { name = l.name; state = Whole }) s.labels t (rw off refl)
 set_leaves number s slot t l false a w e h = refl
 
-leaves_by : {C : Type 0} (number : C → ℕ) (s : Acting C) (slot t : ℕ) (o : Option Label) → label_at s.labels slot ≡ o → IsConsistent number s → is_mover_awake s.labels t ≡ true → label_at (woken_by number o s).labels t ≡ label_at s.labels t
+leaves_by : {C : Type 0} (number : C → ℕ) (s : Acting C) (slot t : ℕ) (o : Option Label) → label_at s.labels slot ≡ o → IsConsistent number s → is_mover_awake s.labels t ≡ true → label_at (option_map_or (λ (l : Label). cond (is_asleep l.state) (set_woken number l.name s) s) o s).labels t ≡ label_at s.labels t
 leaves_by number s slot t None e w h = refl
 leaves_by number s slot t (Some l) e w h = set_leaves number s slot t l (is_asleep l.state) refl w e h
 
@@ -369,7 +370,7 @@ unfolding set_woken woken
 same_set number name true s t u e = let to : Label = record { name = name; state = Whole } in relabel_at name name to s.labels t ∙ ap (relabel name name to) e ∙ sym (relabel_at name name to s.labels u)
 same_set number name false s t u e = e
 
-same_by : {C : Type 0} (number : C → ℕ) (o : Option Label) (s : Acting C) (t u : ℕ) → label_at s.labels t ≡ label_at s.labels u → label_at (woken_by number o s).labels t ≡ label_at (woken_by number o s).labels u
+same_by : {C : Type 0} (number : C → ℕ) (o : Option Label) (s : Acting C) (t u : ℕ) → label_at s.labels t ≡ label_at s.labels u → label_at (option_map_or (λ (l : Label). cond (is_asleep l.state) (set_woken number l.name s) s) o s).labels t ≡ label_at (option_map_or (λ (l : Label). cond (is_asleep l.state) (set_woken number l.name s) s) o s).labels u
 same_by number None s t u e = e
 same_by number (Some l) s t u e = same_set number l.name (is_asleep l.state) s t u e
 
@@ -422,11 +423,11 @@ pub name_in : (o : Option ℕ) (names : List ℕ) (x : ℕ) → (o ≡ Some x) �
 name_in None names x h = elim h [ inl e ↦ absurd (let none : None ≡ Some x = e in cc) | inr i ↦ i ]
 name_in (Some name) names x h = one_name_in name names x (elim h [ inl e ↦ inl (let same : name ≡ x = cc in same) | inr i ↦ inr i ])
 
-pub names_kept : (labels : Labels) (names slots : List ℕ) (x : ℕ) → Contains names x → Contains (names_from labels names slots) x
+pub names_kept : (labels : Labels) (names slots : List ℕ) (x : ℕ) → Contains names x → Contains (fold (λ ns slot. with_name (name_at labels slot) ns) names slots) x
 names_kept labels names [] x h = h
 names_kept labels names (slot ∷ slots) x h = names_kept labels (with_name (name_at labels slot) names) slots x (name_in (name_at labels slot) names x (inr h))
 
-names_have : (labels : Labels) (names slots : List ℕ) (slot x : ℕ) → Contains slots slot → name_at labels slot ≡ Some x → Contains (names_from labels names slots) x
+names_have : (labels : Labels) (names slots : List ℕ) (slot x : ℕ) → Contains slots slot → name_at labels slot ≡ Some x → Contains (fold (λ ns slot. with_name (name_at labels slot) ns) names slots) x
 names_have labels names [] slot x h e = absurd (none_in slot h)
 names_have labels names (first ∷ slots) slot x h e = elim (contains_cases first slots slot h) [
   | inl q ↦ names_kept labels (with_name (name_at labels first) names) slots x (name_in (name_at labels first) names x (inl (ap (name_at labels) q ∙ e)))

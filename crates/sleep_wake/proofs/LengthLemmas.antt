@@ -1,8 +1,9 @@
 -- How many slots have a label or none stays, whoever wakes or sleeps, and whatever begins, ends or goes.
 use Rattle.std.proofs.Common.{◌≡◌, ℕ, ◌+◌, ◌-◌, ◌<◌, ◌≤◌, ◌&&◌, Bool, true, false, cond, nat_lt, List, [], ◌∷◌, length, Option, Some, None, refl, sym, ap, ap₂, ◌∙◌, arith}
-use Rattle.std.specs.Prelude.{slice_set}
+use Rattle.std.specs.Prelude.{slice_set, fold}
 use Rattle.std.proofs.lemmas.Grind.{common_steps}
 use Rattle.std.proofs.lemmas.List.{length-map, length-set}
+use Rattle.std.specs.Option.{option_map_or}
 use Rattle.graph_colours.specs.declared.member.Member.{Member}
 use Rattle.graph_colours.specs.declared.member.Movers.{Movers}
 use Rattle.islands.specs.declared.label.IslandState.TheVariants.{Whole, Loose, Asleep}
@@ -14,13 +15,13 @@ use Rattle.islands.proofs.SplitLemmas.{split_size}
 use Rattle.islands.proofs.WideLemmas.{wide_at}
 use Rattle.sleep_wake.specs.declared.change.Change.{Change}
 use Rattle.sleep_wake.specs.declared.change.Change.TheVariants.{Begin, End}
-use Rattle.sleep_wake.specs.Acting.{Acting, AreMovers, IsConsistent, acting, are_awake, awake_label, is_mover_awake, links_of, second_awake}
+use Rattle.sleep_wake.specs.Acting.{Acting, AreMovers, IsConsistent, acting, are_awake, awake_label, is_mover_awake, links_of}
 use Rattle.sleep_wake.specs.Bodies.{mover_gone, mover_made}
 use Rattle.sleep_wake.specs.Changes.{begun, after_change, each_begun, each_ended, ended, parted, after_changes, united}
-use Rattle.sleep_wake.specs.SleepPhase.{all_put_to_rest, edges_of, picked_to_split, ready, sleep_phase, split_at, split_picked}
-use Rattle.sleep_wake.specs.Sleeping.{islands_woken, rested_at, rested_by, slept_at, slept_by, split_if_loose}
+use Rattle.sleep_wake.specs.SleepPhase.{edges_of, picked_to_split, ready, sleep_phase, split_at, split_picked}
+use Rattle.sleep_wake.specs.Sleeping.{islands_woken, rested_at, slept_at, split_if_loose}
 use Rattle.sleep_wake.specs.Widened.{widened}
-use Rattle.sleep_wake.specs.Waking.{movers_woken, put_to_rest, second_woken, set_woken, woken_at, woken_by}
+use Rattle.sleep_wake.specs.Waking.{movers_woken, put_to_rest, set_woken, woken_at}
 
 -- ---- labels
 
@@ -70,7 +71,7 @@ unfolding set_woken woken
 set_long number name true s = relabelled_long name name (record { name = name; state = Whole }) s.labels
 set_long number name false s = refl
 
-woken_by_long : {C : Type 0} (number : C → ℕ) (o : Option Label) (s : Acting C) → IsAsLong s (woken_by number o s)
+woken_by_long : {C : Type 0} (number : C → ℕ) (o : Option Label) (s : Acting C) → IsAsLong s (option_map_or (λ (l : Label). cond (is_asleep l.state) (set_woken number l.name s) s) o s)
 woken_by_long number None s = refl
 woken_by_long number (Some l) s = set_long number l.name (is_asleep l.state) s
 
@@ -78,7 +79,7 @@ woken_long : {C : Type 0} (number : C → ℕ) (slot : ℕ) (s : Acting C) → I
 unfolding woken_at
 woken_long number slot s = woken_by_long number (label_at s.labels slot) s
 
-second_long : {C : Type 0} (number : C → ℕ) (o : Option ℕ) (s : Acting C) → IsAsLong s (second_woken number o s)
+second_long : {C : Type 0} (number : C → ℕ) (o : Option ℕ) (s : Acting C) → IsAsLong s (option_map_or (λ slot. woken_at number slot s) o s)
 second_long number None s = refl
 second_long number (Some slot) s = woken_long number slot s
 
@@ -102,7 +103,7 @@ pub each_ended_long : {C : Type 0} (number : C → ℕ) (ms : List (Member C)) (
 each_ended_long number [] s = refl
 each_ended_long number (m ∷ ms) s = each_ended_long number ms (ended number m s) ∙ ended_long number m s
 
-both_long : {C : Type 0} (number : C → ℕ) (first : ℕ) (o : Option ℕ) (s : Acting C) → IsAsLong s (second_woken number o (woken_at number first s))
+both_long : {C : Type 0} (number : C → ℕ) (first : ℕ) (o : Option ℕ) (s : Acting C) → IsAsLong s (option_map_or (λ slot. woken_at number slot (woken_at number first s)) o (woken_at number first s))
 both_long number first o s = second_long number o (woken_at number first s) ∙ woken_long number first s
 
 changed_long : {C : Type 0} (number : C → ℕ) (c : Change C) (s : Acting C) → IsAsLong s (after_change number c s)
@@ -117,7 +118,7 @@ rest_long : {C : Type 0} (number : C → ℕ) (name : ℕ) (s : Acting C) → Is
 unfolding put_to_rest rested
 rest_long number name s = relabelled_long name name (record { name = name; state = Asleep }) s.labels
 
-pub all_rest_long : {C : Type 0} (number : C → ℕ) (names : List ℕ) (s : Acting C) → IsAsLong s (all_put_to_rest number names s)
+pub all_rest_long : {C : Type 0} (number : C → ℕ) (names : List ℕ) (s : Acting C) → IsAsLong s (fold (λ now name. put_to_rest number name now) s names)
 all_rest_long number [] s = refl
 all_rest_long number (name ∷ names) s = all_rest_long number names (put_to_rest number name s) ∙ rest_long number name s
 
@@ -129,7 +130,7 @@ split_if_long : {C : Type 0} (name : ℕ) (t : Bool) (s : Acting C) → IsAsLong
 split_if_long name true s = split_at_long name s
 split_if_long name false s = refl
 
-rested_by_long : {C : Type 0} (number : C → ℕ) (o : Option Label) (s : Acting C) → IsAsLong s (rested_by number o s)
+rested_by_long : {C : Type 0} (number : C → ℕ) (o : Option Label) (s : Acting C) → IsAsLong s (option_map_or (λ (l : Label). put_to_rest number l.name s) o s)
 rested_by_long number None s = refl
 rested_by_long number (Some l) s = rest_long number l.name s
 
@@ -139,7 +140,7 @@ slept_if_long {C} number slot l false s =
     let now : Acting C = split_if_loose l s in
     rested_by_long number (label_at now.labels slot) now ∙ split_if_long l.name (is_loose l.state) s
 
-slept_by_long : {C : Type 0} (number : C → ℕ) (slot : ℕ) (o : Option Label) (s : Acting C) → IsAsLong s (slept_by number slot o s)
+slept_by_long : {C : Type 0} (number : C → ℕ) (slot : ℕ) (o : Option Label) (s : Acting C) → IsAsLong s (option_map_or (λ (l : Label). cond (is_asleep l.state) s (rested_at number slot (split_if_loose l s))) o s)
 slept_by_long number slot None s = refl
 slept_by_long number slot (Some l) s = slept_if_long number slot l (is_asleep l.state) s
 
@@ -188,7 +189,7 @@ islands_same R a b same w = record {
 awake_same : (a b : Labels) → AreSame a b → (s : ℕ) → is_mover_awake a s ≡ is_mover_awake b s
 awake_same a b same s = ap (λ (o : Option Label). awake_label o) (same s)
 
-second_same : (a b : Labels) → AreSame a b → (o : Option ℕ) → second_awake a o ≡ second_awake b o
+second_same : (a b : Labels) → AreSame a b → (o : Option ℕ) → option_map_or (is_mover_awake a) o true ≡ option_map_or (is_mover_awake b) o true
 second_same a b same None = refl
 second_same a b same (Some s) = awake_same a b same s
 

@@ -1,6 +1,6 @@
 -- The names of sleeping islands: gathered slot by slot, sorted, and each taken once.
 use Rattle.std.proofs.Common.{◌≡◌, ◌≢◌, ℕ, zero, suc, ◌+◌, ◌<◌, ◌≤◌, ◌==◌, ◌⊎◌, Bool, true, false, cond, nat_lt, ltb-true, ltb-false, List, [], ◌∷◌, ◌++◌, length, get_or, drop, Option, None, Some, refl, sym, ap, ◌∙◌, inl, inr, subst, arith, add-one, eqb}
-use Rattle.std.specs.Prelude.{Contains}
+use Rattle.std.specs.Prelude.{Contains, fold}
 use Rattle.std.specs.List.{All, AllPairs, cons_option, dedup, filter_map}
 use Rattle.std.specs.List.Sorted.{IsPermutation, IsSorted, IsStrictlyIncreasing}
 use Rattle.std.specs.Option.{option_to_list}
@@ -14,7 +14,7 @@ use Rattle.std.proofs.lemmas.Map.Keys.{IsStrictlyIncreasing-dedup}
 use Rattle.graph_colours.proofs.ListLemmas.{pairs_head, pairs_tail, pairs_none}
 use Rattle.islands.specs.Labels.{Labels}
 use Rattle.islands.proofs.JoinLemmas.{contains_cases, contains_head, contains_tail}
-use Rattle.sleep_wake.specs.Sleeping.{name_at, with_one_name, with_name, names_from, sleeping_names}
+use Rattle.sleep_wake.specs.Sleeping.{name_at, with_one_name, with_name, sleeping_names}
 use Rattle.sleep_wake.proofs.ListLemmas.{none_in}
 use Rattle.sleep_wake.proofs.AwakeSlotsLaws.{same_rising}
 use Rattle.sleep_wake.proofs.LawLemmas.{name_in, names_kept}
@@ -110,7 +110,7 @@ with_rises : (o : Option ℕ) (names : List ℕ) → AllPairs Below names → Al
 with_rises None names r = r
 with_rises (Some name) names r = put_rises name names r
 
-names_rise : (labels : Labels) (names slots : List ℕ) → AllPairs Below names → AllPairs Below (names_from labels names slots)
+names_rise : (labels : Labels) (names slots : List ℕ) → AllPairs Below names → AllPairs Below (fold (λ ns slot. with_name (name_at labels slot) ns) names slots)
 names_rise labels names [] r = r
 names_rise labels names (slot ∷ slots) r = names_rise labels (with_name (name_at labels slot) names) slots (with_rises (name_at labels slot) names r)
 
@@ -120,7 +120,7 @@ in_option : (o : Option ℕ) (x : ℕ) (rest : List ℕ) → Contains (cons_opti
 in_option None x rest h = inr h
 in_option (Some n) x rest h = elim (contains_cases n rest x h) [ inl e ↦ inl (ap (λ (v : ℕ). Some v) e) | inr k ↦ inr k ]
 
-gathered_are : (labels : Labels) (names slots : List ℕ) (x : ℕ) → Contains (filter_map (name_at labels) slots) x → Contains (names_from labels names slots) x
+gathered_are : (labels : Labels) (names slots : List ℕ) (x : ℕ) → Contains (filter_map (name_at labels) slots) x → Contains (fold (λ ns slot. with_name (name_at labels slot) ns) names slots) x
 gathered_are labels names [] x h = absurd (none_in x h)
 gathered_are labels names (slot ∷ slots) x h = elim (in_option (name_at labels slot) x (filter_map (name_at labels) slots) h) [
   | inl e ↦ names_kept labels (with_name (name_at labels slot) names) slots x (name_in (name_at labels slot) names x (inl e))
@@ -137,7 +137,7 @@ with_from (Some name) names rest x h = elim h [
   | inr i ↦ inr (contains_tail name rest x i)
 ]
 
-are_gathered : (labels : Labels) (names slots : List ℕ) (x : ℕ) → Contains (names_from labels names slots) x → Contains names x ⊎ Contains (filter_map (name_at labels) slots) x
+are_gathered : (labels : Labels) (names slots : List ℕ) (x : ℕ) → Contains (fold (λ ns slot. with_name (name_at labels slot) ns) names slots) x → Contains names x ⊎ Contains (filter_map (name_at labels) slots) x
 are_gathered labels names [] x h = inl h
 are_gathered labels names (slot ∷ slots) x h = with_from (name_at labels slot) names (filter_map (name_at labels) slots) x (are_gathered labels (with_name (name_at labels slot) names) slots x h)
 

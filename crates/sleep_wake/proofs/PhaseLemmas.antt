@@ -1,7 +1,7 @@
 -- What keeps the sets as bodies come and go, and in the sleep phase.
 use Rattle.std.proofs.Common.{◌≡◌, ◌≢◌, ℕ, suc, ◌<◌, ◌+◌, ◌⊎◌, Bool, true, false, not, cond, ◌&&◌, ◌||◌, ◌==◌, List, [], ◌∷◌, Option, Some, None, inl, inr, refl, sym, ap, ◌∙◌, subst, arith, length}
 use Rattle.graph_colours.proofs.ListLemmas.{pairs_none}
-use Rattle.std.specs.Prelude.{Contains, filter, All, IfSome}
+use Rattle.std.specs.Prelude.{Contains, filter, All, IfSome, fold}
 use Rattle.std.proofs.lemmas.Bool.{false≢true, cases_lt, eqb-true, eq-eqb, lt-ltb, le-ltb}
 use Rattle.std.proofs.lemmas.List.Elements.{All-nil, All-cons}
 use Rattle.fixed_geom.proofs.UnbeatenLemmas.{found_is}
@@ -21,7 +21,7 @@ use Rattle.islands.proofs.SplitLemmas.{IsLabelled, splitting_keeps as splits_kee
 use Rattle.sleep_wake.specs.Acting.{Acting, AreMovers, IsConsistent, links_of, awake_label, is_mover_awake, are_awake}
 use Rattle.sleep_wake.specs.Waking.{released_all, put_to_rest}
 use Rattle.sleep_wake.specs.Bodies.{dropped, mover_gone, mover_made}
-use Rattle.sleep_wake.specs.SleepPhase.{split_at, edges_of, is_island, is_time_to_sleep, least_timer, ready_from, ready, picked_to_split, split_picked, all_put_to_rest, ready_put_to_rest}
+use Rattle.sleep_wake.specs.SleepPhase.{split_at, edges_of, is_island, is_time_to_sleep, least_timer, ready_from, ready, picked_to_split, split_picked, ready_put_to_rest}
 use Rattle.sleep_wake.specs.Laws.{DroppingKeeps, GoingKeeps, MakingKeeps, SplittingKeeps, SleepPhaseKeeps, EmptyIsConsistent}
 use Rattle.sleep_wake.proofs.ListLemmas.{none_in, filter_in, in_filter, one_of, releases, Releases, rising_filter, link_in, in_links, links_more}
 use Rattle.sleep_wake.proofs.AwakeLemmas.{same_awake, awake_as}
@@ -317,7 +317,7 @@ pub all_on : (P Q : ℕ → Type 0) (ns : List ℕ) → ((n : ℕ) → P n → Q
 all_on P Q [] f h = tt
 all_on P Q (n ∷ ns) f h = (f n h.0, all_on P Q ns f h.1)
 
-rest_keeps : {C : Type 0} (number : C → ℕ) (ns : List ℕ) (s : Acting C) → IsConsistent number s → AreAll (MayRest s.labels) ns → IsConsistent number (all_put_to_rest number ns s)
+rest_keeps : {C : Type 0} (number : C → ℕ) (ns : List ℕ) (s : Acting C) → IsConsistent number s → AreAll (MayRest s.labels) ns → IsConsistent number (fold (λ now name. put_to_rest number name now) s ns)
 unfolding put_to_rest rested
 rest_keeps number [] s w h = w
 rest_keeps number (n ∷ ns) s w h =

@@ -1,6 +1,6 @@
 -- To put islands to rest one after the other is to take the colours of all their constraints in one pass, and to rest their movers.
 use Rattle.std.proofs.Common.{◌≡◌, ℕ, zero, suc, ◌+◌, ◌<◌, ◌==◌, ◌&&◌, ◌||◌, Bool, true, false, not, cond, List, [], ◌∷◌, Option, Some, None, length, map, refl, sym, ap, ◌∙◌, arith}
-use Rattle.std.specs.Prelude.{filter}
+use Rattle.std.specs.Prelude.{filter, fold}
 use Rattle.std.specs.List.{list_any}
 use Rattle.std.proofs.lemmas.Bool.{false≢true, eqb-true, eq-eqb}
 use Rattle.graph_colours.proofs.PlaceLemmas.{not_same}
@@ -15,7 +15,7 @@ use Rattle.islands.proofs.LabelLemmas.{relabel_at, some_short}
 use Rattle.islands.specs.declared.label.IslandState.TheVariants.{Asleep}
 use Rattle.sleep_wake.specs.Acting.{Acting, acting}
 use Rattle.sleep_wake.specs.Waking.{second_in, has_mover_of, ties_of_mover, released_all, put_to_rest}
-use Rattle.sleep_wake.specs.SleepPhase.{is_time_to_sleep, all_put_to_rest, ready_put_to_rest}
+use Rattle.sleep_wake.specs.SleepPhase.{is_time_to_sleep, ready_put_to_rest}
 use Rattle.sleep_wake.specs.Resting.{least_at, AreLeast, is_ready_island, ready_after, ready_names, rests_by, second_rests, is_to_rest, all_rested}
 use Rattle.sleep_wake.proofs.LeastLemmas.{timer_in, ready_names_are}
 use Rattle.sleep_wake.proofs.AgreeLaws.{alike_ready, same_rests}
@@ -134,7 +134,7 @@ any_after : {C : Type 0} (labels : Labels) (name : ℕ) (names : List ℕ) (m : 
 any_after labels name [] m = refl
 any_after labels name (n ∷ names) m = rw (mover_after labels name n m, any_after labels name names m) refl
 
-pub all_lists : {C : Type 0} (number : C → ℕ) (names : List ℕ) (s : Acting C) → (all_put_to_rest number names s).lists ≡ cleared number (filter (of_any s.labels names) s.ties) s.lists
+pub all_lists : {C : Type 0} (number : C → ℕ) (names : List ℕ) (s : Acting C) → (fold (λ now name. put_to_rest number name now) s names).lists ≡ cleared number (filter (of_any s.labels names) s.ties) s.lists
 unfolding put_to_rest rested
 all_lists {C} number [] s =
     sym (ap (λ (v : List (Member C)). cleared number v s.lists) (none_of s.ties) ∙ map_stays (Others number []) (all_stay number) s.lists)
@@ -146,12 +146,12 @@ all_lists {C} number (n ∷ names) s =
     ∙ ap (λ (v : List (List (Member C))). cleared number (filter (of_any s.labels names) s.ties) v) (cleared_is number (ties_of_mover s n) s.lists)
     ∙ both_cleared number (has_mover_of s.labels n) (of_any s.labels names) s.ties s.lists
 
-pub all_labels : {C : Type 0} (number : C → ℕ) (names : List ℕ) (s : Acting C) → (all_put_to_rest number names s).labels ≡ all_rested names s.labels
+pub all_labels : {C : Type 0} (number : C → ℕ) (names : List ℕ) (s : Acting C) → (fold (λ now name. put_to_rest number name now) s names).labels ≡ all_rested names s.labels
 unfolding put_to_rest
 all_labels number [] s = refl
 all_labels number (n ∷ names) s = all_labels number names (put_to_rest number n s)
 
-pub all_ties : {C : Type 0} (number : C → ℕ) (names : List ℕ) (s : Acting C) → (all_put_to_rest number names s).ties ≡ s.ties
+pub all_ties : {C : Type 0} (number : C → ℕ) (names : List ℕ) (s : Acting C) → (fold (λ now name. put_to_rest number name now) s names).ties ≡ s.ties
 unfolding put_to_rest
 all_ties number [] s = refl
 all_ties number (n ∷ names) s = all_ties number names (put_to_rest number n s)
@@ -229,7 +229,7 @@ rests_together {C} number timers leasts s labels lists p w is_lists is_labels =
     let names : List ℕ = ready_names false timer s.labels in
     let test : of_any {C = C} s.labels names ≡ is_to_rest timer s.labels = λ i m. rests_are timer s.labels m p i in
     let told : is_to_rest {C = C} (least_at leasts) s.labels ≡ is_to_rest timer s.labels = same_rests s.labels (least_at leasts) timer w.each in
-    let now : Acting C = all_put_to_rest number names s in
+    let now : Acting C = fold (λ now name. put_to_rest number name now) s names in
     let t : s.ties ≡ now.ties = sym (all_ties number names s) in
     let l : labels ≡ now.labels = is_labels
     ∙ ap (λ (ns : List ℕ). all_rested ns s.labels) (alike_ready false s.labels (least_at leasts) timer w.each)
@@ -240,4 +240,4 @@ rests_together {C} number timers leasts s labels lists p w is_lists is_labels =
     ∙ ap (λ (q : Member C → Bool). cleared number (filter q s.ties) s.lists) (sym test)
     ∙ sym (all_lists number names s) in
     let each : acting s.ties labels lists ≡ now = λ i. record { ties = t i; labels = l i; lists = c i } in
-    each ∙ ap (λ (ns : List ℕ). all_put_to_rest number ns s) (ready_names_are false s.labels timers)
+    each ∙ ap (λ (ns : List ℕ). fold (λ now name. put_to_rest number name now) s ns) (ready_names_are false s.labels timers)

@@ -5,6 +5,7 @@ use Rattle.std.proofs.lemmas.Grind.{common_steps}
 use Rattle.std.proofs.lemmas.List.{length-map, length-set}
 use Rattle.std.proofs.lemmas.List.Filters.{length-filter_both}
 use Rattle.std.proofs.lemmas.List.Sorted.{length_permutation}
+use Rattle.std.specs.Option.{option_map_or}
 use Rattle.graph_colours.specs.declared.member.Movers.{Movers}
 use Rattle.graph_colours.specs.declared.member.Member.{Member}
 use Rattle.graph_colours.specs.Movers.{has_mover}
@@ -19,7 +20,7 @@ use Rattle.sleep_wake.specs.Acting.{Acting, acting}
 use Rattle.sleep_wake.specs.Changes.{parted, united, begun, ended}
 use Rattle.sleep_wake.specs.Bodies.{mover_made, mover_gone}
 use Rattle.sleep_wake.specs.SleepPhase.{split_at, edges_in}
-use Rattle.sleep_wake.specs.Waking.{set_woken, woken_by, woken_at, second_woken, movers_woken, put_to_rest}
+use Rattle.sleep_wake.specs.Waking.{set_woken, woken_at, movers_woken, put_to_rest}
 
 relabelled_size : (a b : ℕ) (to : Label) (labels : Labels) → length (relabelled a b to labels) ≡ length labels
 relabelled_size a b to labels = length-map labels (relabel a b to)
@@ -73,7 +74,7 @@ woken_if_size : {C : Type 0} (number : C → ℕ) (name : ℕ) (t : Bool) (s : A
 woken_if_size number name true s = set_woken_size number name s
 woken_if_size number name false s = refl
 
-woken_by_size : {C : Type 0} (number : C → ℕ) (o : Option Label) (s : Acting C) → length (woken_by number o s).labels ≡ length s.labels
+woken_by_size : {C : Type 0} (number : C → ℕ) (o : Option Label) (s : Acting C) → length (option_map_or (λ (l : Label). cond (is_asleep l.state) (set_woken number l.name s) s) o s).labels ≡ length s.labels
 woken_by_size number None s = refl
 woken_by_size number (Some l) s = woken_if_size number l.name (is_asleep l.state) s
 
@@ -81,7 +82,7 @@ pub woken_size : {C : Type 0} (number : C → ℕ) (slot : ℕ) (s : Acting C) �
 unfolding woken_at
 woken_size number slot s = woken_by_size number (label_at s.labels slot) s
 
-second_size : {C : Type 0} (number : C → ℕ) (o : Option ℕ) (s : Acting C) → length (second_woken number o s).labels ≡ length s.labels
+second_size : {C : Type 0} (number : C → ℕ) (o : Option ℕ) (s : Acting C) → length (option_map_or (λ slot. woken_at number slot s) o s).labels ≡ length s.labels
 second_size number None s = refl
 second_size number (Some slot) s = woken_size number slot s
 
@@ -99,7 +100,7 @@ unfolding set_woken
 set_woken_ties number name true s = refl
 set_woken_ties number name false s = refl
 
-woken_by_ties : {C : Type 0} (number : C → ℕ) (o : Option Label) (s : Acting C) → (woken_by number o s).ties ≡ s.ties
+woken_by_ties : {C : Type 0} (number : C → ℕ) (o : Option Label) (s : Acting C) → (option_map_or (λ (l : Label). cond (is_asleep l.state) (set_woken number l.name s) s) o s).ties ≡ s.ties
 woken_by_ties number None s = refl
 woken_by_ties number (Some l) s = set_woken_ties number l.name (is_asleep l.state) s
 
@@ -107,7 +108,7 @@ pub woken_ties : {C : Type 0} (number : C → ℕ) (slot : ℕ) (s : Acting C) �
 unfolding woken_at
 woken_ties number slot s = woken_by_ties number (label_at s.labels slot) s
 
-second_ties : {C : Type 0} (number : C → ℕ) (o : Option ℕ) (s : Acting C) → (second_woken number o s).ties ≡ s.ties
+second_ties : {C : Type 0} (number : C → ℕ) (o : Option ℕ) (s : Acting C) → (option_map_or (λ slot. woken_at number slot s) o s).ties ≡ s.ties
 second_ties number None s = refl
 second_ties number (Some slot) s = woken_ties number slot s
 
@@ -156,7 +157,7 @@ ended_is number m s ties labels lists fewer apart out = λ i. record { ties = fe
 -- the island of the mover whose slot names it
 pub woken_is : {C : Type 0} (number : C → ℕ) (l : Label) (s : Acting C) → label_at s.labels l.name ≡ Some l → is_asleep l.state ≡ true → woken_at number l.name s ≡ set_woken number l.name s
 unfolding woken_at
-woken_is {C} number l s here down = ap (λ (o : Option Label). woken_by number o s) here ∙ ap (λ (t : Bool). cond t (set_woken number l.name s) s) down
+woken_is {C} number l s here down = ap (λ (o : Option Label). option_map_or (λ (l : Label). cond (is_asleep l.state) (set_woken number l.name s) s) o s) here ∙ ap (λ (t : Bool). cond t (set_woken number l.name s) s) down
 
 pub made_is : {C : Type 0} (slot : ℕ) (s : Acting C) (labels : Labels) → labels ≡ added s.labels slot → acting s.ties labels s.lists ≡ mover_made slot s
 unfolding mover_made

@@ -2,6 +2,7 @@
 use Rattle.std.proofs.Common.{◌≡◌, ◌≢◌, ℕ, ◌==◌, ◌||◌, Bool, true, false, not, cond, nat_lt, List, [], ◌∷◌, Option, Some, None, inl, inr, refl, sym, ap, ◌∙◌, subst}
 use Rattle.std.specs.Prelude.{filter, Contains}
 use Rattle.std.proofs.lemmas.Bool.{cases_eq, false≢true}
+use Rattle.std.specs.Option.{option_map_or}
 use Rattle.graph_colours.specs.declared.member.Movers.{Movers}
 use Rattle.graph_colours.specs.declared.member.Member.{Member}
 use Rattle.graph_colours.specs.Members.{AreRising, inserted, without_member}
@@ -20,7 +21,7 @@ use Rattle.sleep_wake.specs.ChangeLists.{IsChange}
 use Rattle.sleep_wake.specs.Sleeping.{name_at, split_if_loose}
 use Rattle.sleep_wake.specs.SleepPhase.{split_at}
 use Rattle.sleep_wake.specs.Sources.{TellsAsleep, is_asleep_under, is_named}
-use Rattle.sleep_wake.specs.Waking.{second_in, has_mover_of, set_woken, woken_by, woken_at, second_woken, movers_woken}
+use Rattle.sleep_wake.specs.Waking.{second_in, has_mover_of, set_woken, woken_at, movers_woken}
 use Rattle.sleep_wake.specs.declared.change.Change.{Change}
 use Rattle.sleep_wake.specs.declared.change.Change.TheVariants.{Begin, End}
 use Rattle.sleep_wake.proofs.AwakeLemmas.{awake_as, in_or_out}
@@ -231,7 +232,7 @@ woken_if_keeps : {C : Type 0} (number : C → ℕ) (n : ℕ) (t : Bool) (s : Act
 woken_if_keeps number n true s = woken_set_keeps number n s
 woken_if_keeps number n false s = keep_same s
 
-woken_by_keeps : {C : Type 0} (number : C → ℕ) (o : Option Label) (s : Acting C) → KeepAsleep s (woken_by number o s)
+woken_by_keeps : {C : Type 0} (number : C → ℕ) (o : Option Label) (s : Acting C) → KeepAsleep s (option_map_or (λ (l : Label). cond (is_asleep l.state) (set_woken number l.name s) s) o s)
 woken_by_keeps number None s = keep_same s
 woken_by_keeps number (Some l) s = woken_if_keeps number l.name (is_asleep l.state) s
 
@@ -239,7 +240,7 @@ pub woken_keeps : {C : Type 0} (number : C → ℕ) (slot : ℕ) (s : Acting C) 
 unfolding woken_at
 woken_keeps number slot s = woken_by_keeps number (label_at s.labels slot) s
 
-second_keeps : {C : Type 0} (number : C → ℕ) (o : Option ℕ) (s : Acting C) → KeepAsleep s (second_woken number o s)
+second_keeps : {C : Type 0} (number : C → ℕ) (o : Option ℕ) (s : Acting C) → KeepAsleep s (option_map_or (λ slot. woken_at number slot s) o s)
 second_keeps number None s = keep_same s
 second_keeps number (Some slot) s = woken_keeps number slot s
 

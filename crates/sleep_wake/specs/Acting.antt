@@ -1,6 +1,7 @@
 -- Trusted: What acts: the constraints, the islands of their movers, and the colours of those whose movers are awake.
 use Rattle.std.specs.Prelude.{◌≡◌, ℕ, ◌&&◌, ◌↔◌, Bool, true, false, not, List, Option, Some, None, option_map, Contains}
 use Rattle.std.specs.List.{filter_map}
+use Rattle.std.specs.Option.{option_map_or}
 use Rattle.graph_colours.specs.declared.member.Movers.{Movers}
 use Rattle.graph_colours.specs.declared.member.Member.{Member}
 use Rattle.graph_colours.specs.Members.{AreRising}
@@ -42,13 +43,9 @@ awake_label (Some l) = not (is_asleep l.state)
 abbrev pub is_mover_awake : Labels → ℕ → Bool
 is_mover_awake labels slot = awake_label (label_at labels slot)
 
-abbrev pub second_awake : Labels → Option ℕ → Bool
-second_awake labels None = true
-second_awake labels (Some slot) = is_mover_awake labels slot
-
 -- a constraint acts while all its movers are awake
 abbrev pub are_awake : Labels → Movers → Bool
-are_awake labels m = is_mover_awake labels m.first && second_awake labels m.second
+are_awake labels m = is_mover_awake labels m.first && option_map_or (is_mover_awake labels) m.second true
 
 -- ---- what holds
 

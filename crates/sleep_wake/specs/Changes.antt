@@ -1,5 +1,6 @@
 -- Trusted: Constraints that begin and end, one after the other, and lists of these changes.
-use Rattle.std.specs.Prelude.{ℕ, cond, nat_lt, List, [], ◌∷◌, Option, Some, None}
+use Rattle.std.specs.Prelude.{ℕ, cond, nat_lt, List, [], ◌∷◌, Option, is_some, fold}
+use Rattle.std.specs.Option.{option_map_or}
 use Rattle.graph_colours.specs.declared.member.Member.{Member}
 use Rattle.graph_colours.specs.Members.{inserted, without_member}
 use Rattle.graph_colours.specs.Colours.{with_placed, released}
@@ -13,13 +14,11 @@ use Rattle.sleep_wake.specs.Waking.{movers_woken}
 
 -- two movers lose a link, and their island gets loose
 abbrev pub parted : Option ℕ → ℕ → Labels → Labels
-parted None first labels = labels
-parted (Some second) first labels = loosened labels first
+parted second first labels = cond (is_some second) (loosened labels first) labels
 
 -- two movers get a link, and their islands are merged
 abbrev pub united : Option ℕ → ℕ → Labels → Labels
-united None first labels = labels
-united (Some second) first labels = merged labels first second
+united second first labels = option_map_or (merged labels first) second labels
 
 -- the constraint goes, and gives up its colour
 unfoldable pub ended : {C : Type 0} → (C → ℕ) → Member C → Acting C → Acting C
@@ -32,12 +31,10 @@ begun number m s = record { ties = inserted number m s.ties; labels = united m.m
 -- ---- several begin or end, one after the other, while their movers are awake
 
 abbrev pub each_begun : {C : Type 0} → (C → ℕ) → List (Member C) → Acting C → Acting C
-each_begun number [] s = s
-each_begun number (m ∷ ms) s = each_begun number ms (begun number m s)
+each_begun number ms s = fold (λ now m. begun number m now) s ms
 
 abbrev pub each_ended : {C : Type 0} → (C → ℕ) → List (Member C) → Acting C → Acting C
-each_ended number [] s = s
-each_ended number (m ∷ ms) s = each_ended number ms (ended number m s)
+each_ended number ms s = fold (λ now m. ended number m now) s ms
 
 -- ---- changes, each at its turn
 
@@ -48,8 +45,7 @@ after_change number (End m) s = ended number m (movers_woken number m.movers s)
 
 -- the changes one after the other
 abbrev pub after_changes : {C : Type 0} → (C → ℕ) → List (Change C) → Acting C → Acting C
-after_changes number [] s = s
-after_changes number (c ∷ changes) s = after_changes number changes (after_change number c s)
+after_changes number changes s = fold (λ now c. after_change number c now) s changes
 
 -- ---- changes in a list that ascends by number
 

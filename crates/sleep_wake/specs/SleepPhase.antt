@@ -1,5 +1,6 @@
 -- Trusted: The sleep phase: which islands are ready to sleep, by the timers of their movers, and what becomes of them.
-use Rattle.std.specs.Prelude.{ℕ, suc, ◌&&◌, ◌==◌, Bool, true, false, not, cond, nat_lt, nat_le, min, List, [], ◌∷◌, Option, Some, None, filter}
+use Rattle.std.specs.Prelude.{ℕ, suc, ◌&&◌, ◌==◌, Bool, true, false, not, cond, nat_lt, nat_le, min, List, [], ◌∷◌, Option, Some, None, filter, fold}
+use Rattle.std.specs.Option.{option_map_or}
 use Rattle.fixed_geom.specs.Options.{unbeaten}
 use Rattle.graph_colours.specs.declared.member.Member.{Member}
 use Rattle.islands.specs.declared.label.Label.{Label}
@@ -38,8 +39,7 @@ least_timer name (o ∷ labels) [] = None
 least_timer name (o ∷ labels) (t ∷ timers) = cond (is_in o name) (Some (lesser t (least_timer name labels timers))) (least_timer name labels timers)
 
 abbrev pub is_time_to_sleep : Option ℕ → Bool
-is_time_to_sleep None = false
-is_time_to_sleep (Some t) = nat_le ticks_to_sleep t
+is_time_to_sleep least = option_map_or (nat_le ticks_to_sleep) least false
 
 -- the label is that of an awake island of this name, a loose one or a whole one
 abbrev pub is_island : Bool → ℕ → Option Label → Bool
@@ -71,16 +71,11 @@ abbrev pub picked_to_split : Labels → List ℕ → Option ℕ
 picked_to_split labels timers = unbeaten (λ a b. is_less (least_timer b labels timers) (least_timer a labels timers)) (ready true labels timers)
 
 abbrev pub split_picked : {C : Type 0} → Option ℕ → Acting C → Acting C
-split_picked None s = s
-split_picked (Some name) s = split_at name s
-
-abbrev pub all_put_to_rest : {C : Type 0} → (C → ℕ) → List ℕ → Acting C → Acting C
-all_put_to_rest number [] s = s
-all_put_to_rest number (name ∷ names) s = all_put_to_rest number names (put_to_rest number name s)
+split_picked picked s = option_map_or (λ name. split_at name s) picked s
 
 -- all whole islands that are ready fall asleep
 abbrev pub ready_put_to_rest : {C : Type 0} → (C → ℕ) → List ℕ → Acting C → Acting C
-ready_put_to_rest number timers s = all_put_to_rest number (ready false s.labels timers) s
+ready_put_to_rest number timers s = fold (λ now name. put_to_rest number name now) s (ready false s.labels timers)
 
 -- one loose island that is ready is split, and then all whole ones that are ready fall asleep
 abbrev pub sleep_phase : {C : Type 0} → (C → ℕ) → List ℕ → Acting C → Acting C

@@ -1,17 +1,16 @@
 -- Trusted: Islands wake, and their constraints take colours; islands are put to rest, and their constraints give them up.
-use Rattle.std.specs.Prelude.{ℕ, ◌||◌, Bool, false, cond, List, [], ◌∷◌, Option, Some, None, filter}
+use Rattle.std.specs.Prelude.{ℕ, ◌||◌, Bool, false, cond, List, [], ◌∷◌, Option, filter, fold}
+use Rattle.std.specs.Option.{option_map_or}
 use Rattle.graph_colours.specs.declared.member.Movers.{Movers}
 use Rattle.graph_colours.specs.declared.member.Member.{Member}
 use Rattle.graph_colours.specs.Colours.{with_placed, released}
-use Rattle.islands.specs.declared.label.Label.{Label}
 use Rattle.islands.specs.Labels.{Labels, label_at, is_in, is_asleep, rested, woken}
 use Rattle.sleep_wake.specs.Acting.{Acting}
 
 -- ---- the constraints of an island
 
 abbrev pub second_in : Labels → ℕ → Option ℕ → Bool
-second_in labels name None = false
-second_in labels name (Some slot) = is_in (label_at labels slot) name
+second_in labels name second = option_map_or (λ slot. is_in (label_at labels slot) name) second false
 
 -- one of the movers is in the island
 abbrev pub are_in : Labels → ℕ → Movers → Bool
@@ -27,33 +26,23 @@ ties_of_mover s name = filter (has_mover_of s.labels name) s.ties
 -- ---- a sleeping island wakes: its constraints take colours, in their order
 
 abbrev pub placed_all : {C : Type 0} → (C → ℕ) → List (List (Member C)) → List (Member C) → List (List (Member C))
-placed_all number lists [] = lists
-placed_all number lists (m ∷ ms) = placed_all number (with_placed number m lists) ms
+placed_all number lists ms = fold (λ now m. with_placed number m now) lists ms
 
 unfoldable pub set_woken : {C : Type 0} → (C → ℕ) → ℕ → Acting C → Acting C
 set_woken number name s = record { ties = s.ties; labels = woken s.labels name; lists = placed_all number s.lists (ties_of_mover s name) }
 
-abbrev pub woken_by : {C : Type 0} → (C → ℕ) → Option Label → Acting C → Acting C
-woken_by number None s = s
-woken_by number (Some l) s = cond (is_asleep l.state) (set_woken number l.name s) s
-
 -- the island of the mover in the slot, if it sleeps
 unfoldable pub woken_at : {C : Type 0} → (C → ℕ) → ℕ → Acting C → Acting C
-woken_at number slot s = woken_by number (label_at s.labels slot) s
-
-abbrev pub second_woken : {C : Type 0} → (C → ℕ) → Option ℕ → Acting C → Acting C
-second_woken number None s = s
-second_woken number (Some slot) s = woken_at number slot s
+woken_at number slot s = option_map_or (λ l. cond (is_asleep l.state) (set_woken number l.name s) s) (label_at s.labels slot) s
 
 -- the islands of a constraint's movers, the first one's first
 abbrev pub movers_woken : {C : Type 0} → (C → ℕ) → Movers → Acting C → Acting C
-movers_woken number m s = second_woken number m.second (woken_at number m.first s)
+movers_woken number m s = let now = woken_at number m.first s in option_map_or (λ slot. woken_at number slot now) m.second now
 
 -- ---- an island is put to rest: its constraints give up their colours
 
 abbrev pub released_all : {C : Type 0} → (C → ℕ) → List (List (Member C)) → List (Member C) → List (List (Member C))
-released_all number lists [] = lists
-released_all number lists (m ∷ ms) = released_all number (released number m.id lists) ms
+released_all number lists ms = fold (λ now m. released number m.id now) lists ms
 
 unfoldable pub put_to_rest : {C : Type 0} → (C → ℕ) → ℕ → Acting C → Acting C
 put_to_rest number name s = record { ties = s.ties; labels = rested s.labels name; lists = released_all number s.lists (ties_of_mover s name) }

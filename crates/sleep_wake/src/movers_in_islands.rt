@@ -1,9 +1,10 @@
 //! Where a constraint's movers are: awake, or in an island of some name. And lists of constraints that take colours or give them up.
 
 ghost use Rattle.std.specs.Prelude.{◌≡◌, ◌+◌, true, length, None, Some};
+ghost use Rattle.std.specs.Option.{option_map_or};
 ghost use Rattle.graph_colours.specs.Colours.{all_members};
 ghost use Rattle.islands.specs.Labels.{label_at, is_in};
-ghost use Rattle.sleep_wake.specs.Acting.{is_mover_awake, second_awake, are_awake};
+ghost use Rattle.sleep_wake.specs.Acting.{is_mover_awake, are_awake};
 ghost use Rattle.sleep_wake.specs.Waking.{second_in, are_in, placed_all, released_all};
 ghost use Rattle.sleep_wake.specs.Rooms.{CanPlace, OwnMovers};
 
@@ -40,7 +41,7 @@ pub(crate) fn is_awake(islands: &Islands, slot: u32) -> bool
 }
 
 fn is_second_awake(islands: &Islands, slot: Option<u32>) -> bool
-    ensures { result ≡ second_awake islands.now.labels slot }
+    ensures { result ≡ option_map_or (is_mover_awake islands.now.labels) slot true }
 {
     match slot {
         None => true,

@@ -3,6 +3,7 @@ use Rattle.std.proofs.Common.{◌≡◌, ◌⊎◌, ℕ, zero, suc, ◌&&◌, �
 use Rattle.std.specs.Prelude.{◌==◌, Contains}
 use Rattle.std.specs.List.{list_any}
 use Rattle.std.proofs.lemmas.Option.{same_Some}
+use Rattle.std.specs.Option.{option_map_or}
 use Rattle.body_handles.specs.declared.slot_table.SlotEntry.{SlotEntry}
 use Rattle.contacts.proofs.Members.{IsIn, contains_from_in, in_from_contains}
 use Rattle.contacts.specs.Constraints.{constraint_number}
@@ -22,7 +23,7 @@ use Rattle.plain_world.specs.declared.kind.Kind.TheVariants.{Static, Kinematic, 
 use Rattle.plain_world.specs.Joints.{joint_at}
 use Rattle.plain_world.specs.Kinds.{carried_by, is_dynamic, is_moving}
 use Rattle.plain_world.specs.Slots.{body_at}
-use Rattle.sleep_wake.specs.Acting.{Acting, IsConsistent, are_awake, awake_label, is_mover_awake, second_awake}
+use Rattle.sleep_wake.specs.Acting.{Acting, IsConsistent, are_awake, awake_label, is_mover_awake}
 use Rattle.solver_sets.specs.Beside.{is_beside_moving, is_joined_to_moving, is_moving_at, is_moving_in, is_stirred_between, is_touched_by_moving}
 use Rattle.solver_sets.specs.BesideByTies.{is_to_moving, ties_to_moving}
 use Rattle.solver_sets.specs.Laws as laws
@@ -159,7 +160,7 @@ acts bodies s contacts a slot bond consistent ties up there movers =
     let m : Member Constraint = record { id = bond.id; movers = alone slot } in
     let tie : IsIn m (ties_of bodies s contacts) = map_in (tie_of bodies) (bonds_of s contacts) bond m there (ap (tie_with bond.id) movers) in
     let listed : Contains a.ties m = subst (λ (l : List (Member Constraint)). Contains l m) (sym ties) (contains_from_in (ties_of bodies s contacts) m tie) in
-    let awake : are_awake a.labels m.movers ≡ true = ap (λ (t : Bool). t && second_awake a.labels None) up in
+    let awake : are_awake a.labels m.movers ≡ true = ap (λ (t : Bool). t && option_map_or (is_mover_awake a.labels) None true) up in
     in_from_contains (all_members a.lists) m ((consistent.acting m).1 (listed, awake))
 
 tells : (bodies : List (Option Body)) (s : JointSlots) (contacts : List ContactEntry) (a : Acting Constraint) (slot : ℕ) (bond : Bond) → IsConsistent constraint_number a → a.ties ≡ ties_of bodies s contacts → moves bodies slot ≡ true → is_mover_awake a.labels slot ≡ true

@@ -4,12 +4,12 @@ use Rattle.std.specs.Prelude.{Contains, filter_map, option_map}
 use Rattle.std.specs.List.{cons_option}
 use Rattle.std.proofs.lemmas.Bool.{false≢true}
 use Rattle.std.proofs.lemmas.List.Elements.{All-contains, All-weaker}
+use Rattle.std.specs.Option.{option_map_or}
 use Rattle.contacts.specs.Changes.{key_if_new, key_if_touching, keys_touching_only_in}
 use Rattle.contacts.specs.Constraints.{constraint_number}
 use Rattle.contacts.specs.declared.constraint.Constraint.{Constraint}
 use Rattle.contacts.specs.declared.constraint.Constraint.TheVariants.{Contact}
 use Rattle.contacts.specs.Touching.{TouchesOnlyIn}
-use Rattle.contacts.specs.declared.number_book.NumberedContact.{NumberedContact}
 use Rattle.contacts_base.specs.declared.contact.ContactEntry.{ContactEntry}
 use Rattle.contacts_base.specs.declared.key.ContactKey.{ContactKey}
 use Rattle.contacts_base.specs.Contacts.{AreKeysRising, is_touching, lookup, number_of}
@@ -33,7 +33,7 @@ use Rattle.plain_world.specs.Sleep.{told, told_body}
 use Rattle.plain_world.specs.Slots.{body_at, shapes_in}
 use Rattle.sleep_wake.proofs.ChangeOwn.{IsReady, change_keeps, ready_for}
 use Rattle.sleep_wake.proofs.FoldLemmas.{Labelled, change_next, change_now, changed_labelled, woken_ready}
-use Rattle.sleep_wake.specs.Acting.{Acting, IsConsistent, are_awake, is_mover_awake, second_awake}
+use Rattle.sleep_wake.specs.Acting.{Acting, IsConsistent, are_awake, is_mover_awake}
 use Rattle.sleep_wake.specs.ChangeLists.{AreChanges, IsChange}
 use Rattle.sleep_wake.specs.Changes.{after_change, after_changes, begins_inserted, begun, change_inserted, change_number, ended}
 use Rattle.sleep_wake.specs.declared.change.Change.{Change}
@@ -79,8 +79,8 @@ movers_of (End m) = m.movers
 
 pub awake_up : (labels : Labels) (m : Movers) → are_awake labels m ≡ true → AreUp labels m
 awake_up labels m h = record {
-  first = awake_name (label_at labels m.first) (and_first (is_mover_awake labels m.first) (second_awake labels m.second) h);
-  second = λ slot e. awake_name (label_at labels slot) (sym (ap (second_awake labels) e) ∙ and_second (is_mover_awake labels m.first) (second_awake labels m.second) h);
+  first = awake_name (label_at labels m.first) (and_first (is_mover_awake labels m.first) (option_map_or (is_mover_awake labels) m.second true) h);
+  second = λ slot e. awake_name (label_at labels slot) (sym (ap (λ (o : Option ℕ). option_map_or (is_mover_awake labels) o true) e) ∙ and_second (is_mover_awake labels m.first) (option_map_or (is_mover_awake labels) m.second true) h);
 }
 
 alike_up : (old new : Labels) (m : Movers) → SleepAlike old new → AreUp old m → AreUp new m

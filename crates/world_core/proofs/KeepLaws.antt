@@ -1,6 +1,7 @@
 -- Labels that keep the sets: whoever wakes does so with all of its island, and whoever sleeps keeps its label as others fall asleep.
 use Rattle.std.proofs.Common.{◌≡◌, ◌⊎◌, ℕ, ◌<◌, ◌≤◌, ◌&&◌, Bool, true, false, cond, is_some, List, [], ◌∷◌, length, Option, Some, None, inl, inr, refl, sym, ap, ◌∙◌, subst, arith}
 use Rattle.std.specs.Prelude.{option_map}
+use Rattle.std.specs.Option.{option_map_or}
 use Rattle.contacts.specs.Constraints.{constraint_number}
 use Rattle.contacts.specs.declared.constraint.Constraint.{Constraint}
 use Rattle.graph_colours.specs.declared.member.Member.{Member}
@@ -20,7 +21,7 @@ use Rattle.plain_world.specs.Slots.{body_at}
 use Rattle.sleep_wake.specs.Acting.{Acting, IsConsistent, is_mover_awake}
 use Rattle.sleep_wake.specs.Changes.{begun, after_change, ended, parted, after_changes, united}
 use Rattle.sleep_wake.specs.Sleeping.{islands_woken}
-use Rattle.sleep_wake.specs.Waking.{movers_woken, second_woken, set_woken, woken_at, woken_by}
+use Rattle.sleep_wake.specs.Waking.{movers_woken, set_woken, woken_at}
 use Rattle.sleep_wake.specs.declared.change.Change.{Change}
 use Rattle.sleep_wake.specs.declared.change.Change.TheVariants.{Begin, End}
 use Rattle.packed_sets.specs.declared.stands.Stand.{Stand}
@@ -70,11 +71,11 @@ woken_alike s slot = by_label (label_at s.labels slot)
     by_asleep l true = relabelled_alike l.name l.name (record { name = l.name; state = Whole }) s.labels
     by_asleep l false = alike_still s.labels
 
-    by_label : (o : Option Label) → StayAlike s.labels (woken_by constraint_number o s).labels
+    by_label : (o : Option Label) → StayAlike s.labels (option_map_or (λ (l : Label). cond (is_asleep l.state) (set_woken constraint_number l.name s) s) o s).labels
     by_label None = alike_still s.labels
     by_label (Some l) = by_asleep l (is_asleep l.state)
 
-second_alike : (s : Acting Constraint) (o : Option ℕ) → StayAlike s.labels (second_woken constraint_number o s).labels
+second_alike : (s : Acting Constraint) (o : Option ℕ) → StayAlike s.labels (option_map_or (λ slot. woken_at constraint_number slot s) o s).labels
 second_alike s None = alike_still s.labels
 second_alike s (Some slot) = woken_alike s slot
 

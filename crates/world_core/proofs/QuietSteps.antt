@@ -1,8 +1,8 @@
 -- A step in which nobody falls asleep tells no body anything by its sleep phase.
 use Rattle.std.proofs.Common.{◌≡◌, ◌≢◌, ℕ, zero, suc, ◌+◌, ◌<◌, ◌≤◌, ◌&&◌, Bool, true, false, not, cond, is_some, All, List, [], ◌∷◌, length, Option, Some, None, inl, inr, refl, sym, ap, ◌∙◌, subst, arith}
-use Rattle.std.specs.Prelude.{◌==◌, Contains, nat_lt, slice_get, slice_set}
+use Rattle.std.specs.Prelude.{◌==◌, Contains, nat_lt, slice_get, slice_set, fold}
 use Rattle.std.specs.List.{AllWithin}
-use Rattle.std.specs.Option.{is_none}
+use Rattle.std.specs.Option.{is_none, option_map_or}
 use Rattle.std.proofs.lemmas.Bool.{cases_eq, eq-eqb, false≢true, lt-leb}
 use Rattle.std.proofs.lemmas.Grind.{common_steps}
 use Rattle.std.proofs.lemmas.List.Elements.{All-contains, All-from_all_within}
@@ -25,10 +25,11 @@ use Rattle.plain_world.specs.Sleep.{timed_bodies, told}
 use Rattle.plain_world.specs.Slots.{body_at}
 use Rattle.sleep_wake.specs.Acting.{Acting, awake_label}
 use Rattle.sleep_wake.specs.Acting as acting
-use Rattle.sleep_wake.specs.SleepPhase.{all_put_to_rest, is_time_to_sleep, is_island, is_less, is_ready, least_timer, lesser, picked_to_split, ready, ready_from, ready_put_to_rest, sleep_phase, split_picked, ticks_to_sleep}
+use Rattle.sleep_wake.specs.SleepPhase.{is_time_to_sleep, is_island, is_less, is_ready, least_timer, lesser, picked_to_split, ready, ready_from, ready_put_to_rest, sleep_phase, split_picked, ticks_to_sleep}
 use Rattle.sleep_wake.specs.Resting.{may_be_ready}
-use Rattle.sleep_wake.specs.Sleeping.{rested_at, slept_at, slept_by, split_if_loose}
+use Rattle.sleep_wake.specs.Sleeping.{rested_at, slept_at, split_if_loose}
 use Rattle.sleep_wake.proofs.AwakeLemmas.{and_is}
+use Rattle.sleep_wake.specs.Waking.{put_to_rest}
 use Rattle.solver_sets.specs.Beside.{is_beside_moving, timer_if, timers_from, timers_of}
 use Rattle.solver_sets.specs.Slept.{handles_where, is_asleep_label, sleeps}
 use Rattle.solver_sets.specs.SinceTold.{is_asleep_in, newly_asleep, was_asleep}
@@ -197,7 +198,7 @@ none_ready loose labels timers up =
 quiet_phase : (s : Acting Constraint) (timers : List ℕ) → ready true s.labels timers ≡ [] → ready false s.labels timers ≡ [] → sleep_phase constraint_number timers s ≡ s
 quiet_phase s timers loose whole =
     let none : picked_to_split s.labels timers ≡ None = ap (unbeaten (λ a b. is_less (least_timer b s.labels timers) (least_timer a s.labels timers))) loose in
-    ap (λ (o : Option ℕ). ready_put_to_rest constraint_number timers (split_picked o s)) none ∙ ap (λ (names : List ℕ). all_put_to_rest constraint_number names s) whole
+    ap (λ (o : Option ℕ). ready_put_to_rest constraint_number timers (split_picked o s)) none ∙ ap (λ (names : List ℕ). fold (λ now name. put_to_rest constraint_number name now) s names) whole
 
 -- ---- the awake movers, by their slots
 
@@ -306,7 +307,7 @@ is_not : (t : Bool) → not t ≡ false → t ≡ true
 is_not true h = refl
 is_not false h = cc
 
-slept_label : (slot : ℕ) (o : Option Label) (s : Acting Constraint) → awake_label o ≡ false → slept_by constraint_number slot o s ≡ s
+slept_label : (slot : ℕ) (o : Option Label) (s : Acting Constraint) → awake_label o ≡ false → option_map_or (λ (l : Label). cond (is_asleep l.state) s (rested_at constraint_number slot (split_if_loose l s))) o s ≡ s
 slept_label slot None s h = refl
 slept_label slot (Some l) s h = ap (λ (t : Bool). cond t s (rested_at constraint_number slot (split_if_loose l s))) (is_not (is_asleep l.state) h)
 

@@ -1,7 +1,7 @@
 -- Who wakes as constraints begin and end: movers of the sleeping islands of the constraints' movers alone.
 use Rattle.std.proofs.Common.{◌≡◌, ℕ, ◌&&◌, ◌⊎◌, Bool, true, false, not, cond, is_some, List, [], ◌∷◌, ◌++◌, Option, Some, None, inl, inr, refl, sym, ap, ◌∙◌, subst}
 use Rattle.std.specs.Prelude.{Contains}
-use Rattle.std.specs.Option.{option_to_list}
+use Rattle.std.specs.Option.{option_to_list, option_map_or}
 use Rattle.std.proofs.lemmas.Bool.{false≢true}
 use Rattle.std.proofs.lemmas.List.Elements.{All-head, All-tail, All-weaker, Contains-append_right}
 use Rattle.contacts.specs.Constraints.{constraint_number}
@@ -18,7 +18,7 @@ use Rattle.plain_world.specs.Slots.{body_at}
 use Rattle.sleep_wake.specs.Acting.{Acting, IsConsistent}
 use Rattle.sleep_wake.specs.Changes.{begun, after_change, ended, after_changes}
 use Rattle.sleep_wake.specs.ChangeLists.{AreChanges, IsChange}
-use Rattle.sleep_wake.specs.Waking.{movers_woken, second_woken, set_woken, woken_at, woken_by}
+use Rattle.sleep_wake.specs.Waking.{movers_woken, set_woken, woken_at}
 use Rattle.sleep_wake.specs.declared.change.Change.{Change}
 use Rattle.sleep_wake.specs.declared.change.Change.TheVariants.{Begin, End}
 use Rattle.sleep_wake.proofs.AwakeLemmas.{and_is}
@@ -51,7 +51,7 @@ woken_set slots old s slot l has slept e a kept t n q =
       | inr c ↦ inr c
     ]
 
-woken_label : (slots : List ℕ) (old : Labels) (s : Acting Constraint) (slot : ℕ) (o : Option Label) → HasSleepers old slots slot → HaveSlept old s.labels → label_at s.labels slot ≡ o → SleepOrListed slots old s.labels → SleepOrListed slots old (woken_by constraint_number o s).labels
+woken_label : (slots : List ℕ) (old : Labels) (s : Acting Constraint) (slot : ℕ) (o : Option Label) → HasSleepers old slots slot → HaveSlept old s.labels → label_at s.labels slot ≡ o → SleepOrListed slots old s.labels → SleepOrListed slots old (option_map_or (λ (l : Label). cond (is_asleep l.state) (set_woken constraint_number l.name s) s) o s).labels
 woken_label slots old s slot None has slept e kept = kept
 woken_label slots old s slot (Some l) has slept e kept = by_asleep (is_asleep l.state) refl
   where
@@ -63,7 +63,7 @@ woken_kept : (slots : List ℕ) (old : Labels) (s : Acting Constraint) (slot : �
 unfolding woken_at
 woken_kept slots old s slot has slept kept = woken_label slots old s slot (label_at s.labels slot) has slept refl kept
 
-second_kept : (slots : List ℕ) (old : Labels) (s : Acting Constraint) (o : Option ℕ) → OfSecond (HasSleepers old slots) o → HaveSlept old s.labels → SleepOrListed slots old s.labels → SleepOrListed slots old (second_woken constraint_number o s).labels
+second_kept : (slots : List ℕ) (old : Labels) (s : Acting Constraint) (o : Option ℕ) → OfSecond (HasSleepers old slots) o → HaveSlept old s.labels → SleepOrListed slots old s.labels → SleepOrListed slots old (option_map_or (λ slot. woken_at constraint_number slot s) o s).labels
 second_kept slots old s None has slept kept = kept
 second_kept slots old s (Some slot) has slept kept = woken_kept slots old s slot has slept kept
 

@@ -1,10 +1,11 @@
 -- Which bodies are to be told: labels change in few islands, and whoever sleeps as before stays as it is.
 use Rattle.std.proofs.Common.{◌≡◌, ℕ, zero, suc, ◌+◌, ◌<◌, ◌≤◌, ◌==◌, ◌&&◌, ◌||◌, Bool, true, false, not, cond, is_some, List, [], ◌∷◌, ◌++◌, length, map, drop, get_or, Option, Some, None, inl, inr, refl, sym, ap, ◌∙◌, subst, arith, add-one}
-use Rattle.std.specs.Prelude.{◌↔◌, Contains, option_map}
+use Rattle.std.specs.Prelude.{◌↔◌, Contains, option_map, fold}
 use Rattle.std.proofs.Math.Seq.{drop-cons}
 use Rattle.std.proofs.lemmas.Bool.{cases_eq}
 use Rattle.std.proofs.lemmas.List.{append-nil, append_assoc}
 use Rattle.std.proofs.lemmas.List.Elements.{Contains-append_left, Contains-append_right}
+use Rattle.std.specs.Option.{option_map_or}
 use Rattle.body_handles.specs.declared.handle.Handle.{Handle}
 use Rattle.body_handles.specs.declared.slot_table.SlotEntry.{SlotEntry}
 use Rattle.contacts.specs.Constraints.{constraint_number}
@@ -27,9 +28,9 @@ use Rattle.plain_world.specs.Sleep.{roused, told, told_body, told_by}
 use Rattle.plain_world.specs.Slots.{body_at}
 use Rattle.sleep_wake.specs.Acting.{Acting, IsConsistent}
 use Rattle.sleep_wake.specs.Changes.{begun, after_change, ended, parted, after_changes, united}
-use Rattle.sleep_wake.specs.SleepPhase.{all_put_to_rest, edges_of, is_island, picked_to_split, ready, sleep_phase, split_at, split_picked}
-use Rattle.sleep_wake.specs.Sleeping.{islands_woken, rested_at, rested_by, slept_at, slept_by, split_if_loose}
-use Rattle.sleep_wake.specs.Waking.{movers_woken, put_to_rest, second_woken, set_woken, woken_at, woken_by}
+use Rattle.sleep_wake.specs.SleepPhase.{edges_of, is_island, picked_to_split, ready, sleep_phase, split_at, split_picked}
+use Rattle.sleep_wake.specs.Sleeping.{islands_woken, rested_at, slept_at, split_if_loose}
+use Rattle.sleep_wake.specs.Waking.{movers_woken, put_to_rest, set_woken, woken_at}
 use Rattle.sleep_wake.specs.declared.change.Change.{Change}
 use Rattle.sleep_wake.specs.declared.change.Change.TheVariants.{Begin, End}
 use Rattle.sleep_wake.proofs.EdgeLemmas.{edges_inside}
@@ -130,7 +131,7 @@ woken_if : (s : Acting Constraint) (slot : ℕ) (l : Label) (t : Bool) → label
 woken_if s slot l true e = set_in s slot l e
 woken_if s slot l false e = record { same = λ n t. refl; others = λ t off. refl }
 
-woken_label : (s : Acting Constraint) (slot : ℕ) (o : Option Label) → label_at s.labels slot ≡ o → IsWokenIn s.labels (woken_by constraint_number o s).labels slot
+woken_label : (s : Acting Constraint) (slot : ℕ) (o : Option Label) → label_at s.labels slot ≡ o → IsWokenIn s.labels (option_map_or (λ (l : Label). cond (is_asleep l.state) (set_woken constraint_number l.name s) s) o s).labels slot
 woken_label s slot None e = record { same = λ n t. refl; others = λ t off. refl }
 woken_label s slot (Some l) e = woken_if s slot l (is_asleep l.state) e
 
@@ -185,7 +186,7 @@ split_if : (s : Acting Constraint) (slot : ℕ) (l : Label) (t : Bool) → IsCon
 split_if s slot l true w e = split_in s slot l w e
 split_if s slot l false w e = record { others = λ t off. refl; apart = λ t off. off }
 
-rested_others : (s : Acting Constraint) (slot t : ℕ) (o : Option Label) → label_at s.labels slot ≡ o → AreApart s.labels slot t → label_at (rested_by constraint_number o s).labels t ≡ label_at s.labels t
+rested_others : (s : Acting Constraint) (slot t : ℕ) (o : Option Label) → label_at s.labels slot ≡ o → AreApart s.labels slot t → label_at (option_map_or (λ (l : Label). put_to_rest constraint_number l.name s) o s).labels t ≡ label_at s.labels t
 unfolding put_to_rest rested
 rested_others s slot t None e off = refl
 rested_others s slot t (Some l) e off = label_with l.name Asleep s.labels t (not_in (label_at s.labels t) l.name (off l.name (in_of (label_at s.labels slot) l l.name e refl)))
@@ -197,7 +198,7 @@ slept_if s slot t l false w e off =
     let parts : IsSplitIn s.labels now.labels slot = split_if s slot l (is_loose l.state) w e in
     rested_others now slot t (label_at now.labels slot) refl (parts.apart t off) ∙ parts.others t off
 
-slept_label : (s : Acting Constraint) (slot t : ℕ) (o : Option Label) → IsConsistent constraint_number s → label_at s.labels slot ≡ o → AreApart s.labels slot t → label_at (slept_by constraint_number slot o s).labels t ≡ label_at s.labels t
+slept_label : (s : Acting Constraint) (slot t : ℕ) (o : Option Label) → IsConsistent constraint_number s → label_at s.labels slot ≡ o → AreApart s.labels slot t → label_at (option_map_or (λ (l : Label). cond (is_asleep l.state) s (rested_at constraint_number slot (split_if_loose l s))) o s).labels t ≡ label_at s.labels t
 slept_label s slot t None w e off = refl
 slept_label s slot t (Some l) w e off = slept_if s slot t l (is_asleep l.state) w e off
 
@@ -305,11 +306,11 @@ woken_slept s slot = by_label (label_at s.labels slot)
     by_asleep l true = relabelled_slept l.name l.name (record { name = l.name; state = Whole }) s.labels refl
     by_asleep l false = λ t n e. refl
 
-    by_label : (o : Option Label) → HaveSlept s.labels (woken_by constraint_number o s).labels
+    by_label : (o : Option Label) → HaveSlept s.labels (option_map_or (λ (l : Label). cond (is_asleep l.state) (set_woken constraint_number l.name s) s) o s).labels
     by_label None = λ t n e. refl
     by_label (Some l) = by_asleep l (is_asleep l.state)
 
-second_slept : (s : Acting Constraint) (o : Option ℕ) → HaveSlept s.labels (second_woken constraint_number o s).labels
+second_slept : (s : Acting Constraint) (o : Option ℕ) → HaveSlept s.labels (option_map_or (λ slot. woken_at constraint_number slot s) o s).labels
 second_slept s None = λ t n e. refl
 second_slept s (Some slot) = woken_slept s slot
 
@@ -412,12 +413,12 @@ on_then old now new h k t n e =
     let same : label_at now t ≡ label_at old t = h t n e in
     k t n (ap sleeping_name same ∙ e) ∙ same
 
-all_rested_on : (names : List ℕ) (s : Acting Constraint) → SleepOn s.labels (all_put_to_rest constraint_number names s).labels
+all_rested_on : (names : List ℕ) (s : Acting Constraint) → SleepOn s.labels (fold (λ now name. put_to_rest constraint_number name now) s names).labels
 unfolding put_to_rest
 all_rested_on [] s = λ t n e. refl
 all_rested_on (name ∷ names) s =
     let now : Acting Constraint = put_to_rest constraint_number name s in
-    on_then s.labels now.labels (all_put_to_rest constraint_number names now).labels (rested_on name s.labels) (all_rested_on names now)
+    on_then s.labels now.labels (fold (λ now name. put_to_rest constraint_number name now) now names).labels (rested_on name s.labels) (all_rested_on names now)
 
 loose_named : (name : ℕ) (o : Option Label) → is_island true name o ≡ true → (l : Label) × (o ≡ Some l) × (is_loose l.state ≡ true)
 loose_named name None h = cc
@@ -452,7 +453,7 @@ pub slept_on : (slot : ℕ) (s : Acting Constraint) → IsConsistent constraint_
 unfolding slept_at put_to_rest
 slept_on slot s w = by_label (label_at s.labels slot) refl
   where
-    rested_by_on : (now : Acting Constraint) (o : Option Label) → SleepOn now.labels (rested_by constraint_number o now).labels
+    rested_by_on : (now : Acting Constraint) (o : Option Label) → SleepOn now.labels (option_map_or (λ (l : Label). put_to_rest constraint_number l.name now) o now).labels
     rested_by_on now None = λ t n e. refl
     rested_by_on now (Some l) = rested_on l.name now.labels
 
@@ -468,7 +469,7 @@ slept_on slot s w = by_label (label_at s.labels slot) refl
         let now : Acting Constraint = split_if_loose l s in
         on_then s.labels now.labels (rested_at constraint_number slot now).labels (by_loose l (is_loose l.state) refl e) (rested_by_on now (label_at now.labels slot))
 
-    by_label : (o : Option Label) → label_at s.labels slot ≡ o → SleepOn s.labels (slept_by constraint_number slot o s).labels
+    by_label : (o : Option Label) → label_at s.labels slot ≡ o → SleepOn s.labels (option_map_or (λ (l : Label). cond (is_asleep l.state) s (rested_at constraint_number slot (split_if_loose l s))) o s).labels
     by_label None e = λ t n h. refl
     by_label (Some l) e = by_asleep l (is_asleep l.state) e
 

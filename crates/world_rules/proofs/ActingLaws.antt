@@ -1,7 +1,7 @@
 -- The constraints, islands and colours that a command leaves, put into the world with its bodies told: they are those of the new world, and it is consistent.
 use Rattle.std.proofs.Common.{◌≡◌, ℕ, ◌+◌, ◌*◌, ◌^◌, ◌≤◌, List, [], ◌∷◌, length, All, Bool, true, false, cond, is_some, Option, Some, None, refl, sym, ap, ◌∙◌, subst}
 use Rattle.std.specs.Prelude.{Contains, not}
-use Rattle.std.specs.Option.{is_none}
+use Rattle.std.specs.Option.{is_none, option_map_or}
 use Rattle.fixed_geom.specs.Vectors.{IsWithin}
 use Rattle.body_handles.specs.SlotEntries.{IsSlotEntry}
 use Rattle.impulse_ledger.specs.Sums.{total}
@@ -26,7 +26,7 @@ use Rattle.sleep_wake.specs.Acting.{Acting, IsConsistent}
 use Rattle.sleep_wake.specs.Acting as acting
 use Rattle.sleep_wake.specs.Sleeping.{islands_woken, sleeping_names}
 use Rattle.sleep_wake.specs.Sleeping as naming
-use Rattle.sleep_wake.specs.Waking.{set_woken, woken_at, woken_by}
+use Rattle.sleep_wake.specs.Waking.{set_woken, woken_at}
 use Rattle.solver_sets.specs.Tied.{AreTied}
 use Rattle.solver_sets.specs.Alike.{AreAlike}
 use Rattle.solver_sets.specs.Ties.{members_of, ties_of}
@@ -244,7 +244,7 @@ woken_ties slot s = by_label (label_at s.labels slot)
     by_sleep true name = refl
     by_sleep false name = refl
 
-    by_label : (o : Option Label) → (woken_by constraint_number o s).ties ≡ s.ties
+    by_label : (o : Option Label) → (option_map_or (λ (l : Label). cond (is_asleep l.state) (set_woken constraint_number l.name s) s) o s).ties ≡ s.ties
     by_label None = refl
     by_label (Some l) = by_sleep (is_asleep l.state) l.name
 

@@ -2,6 +2,7 @@
 use Rattle.std.proofs.Common.{◌≡◌, ◌≢◌, ℕ, zero, suc, ◌==◌, ◌&&◌, ◌||◌, Bool, true, false, cond, nat_lt, List, [], ◌∷◌, length, Option, Some, None, refl, sym, ap, ◌∙◌, inl, inr, slice_set, get_or-set_other}
 use Rattle.std.specs.Prelude.{Contains}
 use Rattle.std.proofs.lemmas.Bool.{cases_eq, false≢true}
+use Rattle.std.specs.Option.{option_map_or}
 use Rattle.graph_colours.specs.declared.member.Member.{Member}
 use Rattle.graph_colours.specs.Movers.{has_mover}
 use Rattle.graph_colours.proofs.PlaceLemmas.{same_from}
@@ -14,7 +15,7 @@ use Rattle.islands.proofs.LabelLemmas.{relabel_at}
 use Rattle.plain_world.specs.declared.body.Body.{Body}
 use Rattle.plain_world.specs.Bodies as bodies
 use Rattle.plain_world.specs.Slots.{body_at}
-use Rattle.sleep_wake.specs.Acting.{Acting, are_awake, awake_label, is_mover_awake, second_awake}
+use Rattle.sleep_wake.specs.Acting.{Acting, are_awake, awake_label, is_mover_awake}
 use Rattle.sleep_wake.specs.Bodies.{mover_gone}
 use Rattle.sleep_wake.proofs.ListLemmas.{in_links}
 use Rattle.plain_world.specs.Bodies.{moves}
@@ -62,7 +63,7 @@ second_as : (w : World) (m : Member Constraint) (b : ℕ) → IsKept w → Conta
 unfolding acting_of
 second_as w m b k h e = (linked_stand_together (acting_of w.plain) m.movers.first b k.consistent (inl (in_links (acting_of w.plain).ties m m.movers.first b h refl e))).1
 
-pub both_awake : (labels : Labels) (first : ℕ) (second : Option ℕ) → is_mover_awake labels first ≡ true → ((b : ℕ) → second ≡ Some b → is_mover_awake labels b ≡ true) → (is_mover_awake labels first && second_awake labels second) ≡ true
+pub both_awake : (labels : Labels) (first : ℕ) (second : Option ℕ) → is_mover_awake labels first ≡ true → ((b : ℕ) → second ≡ Some b → is_mover_awake labels b ≡ true) → (is_mover_awake labels first && option_map_or (is_mover_awake labels) second true) ≡ true
 both_awake labels first None a b = rw a refl
 both_awake labels first (Some slot) a b = rw (a, b slot refl) refl
 

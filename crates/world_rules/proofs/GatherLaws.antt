@@ -5,6 +5,7 @@ use Rattle.std.specs.List.{filter_map, flat_map, cons_option}
 use Rattle.std.proofs.lemmas.List.{length-append}
 use Rattle.std.proofs.lemmas.List.Elements.{All-append, All-cons, All-nil, Contains-get_or}
 use Rattle.std.proofs.lemmas.Option.{none-some, same_Some}
+use Rattle.std.specs.Option.{option_map_or}
 use Rattle.contacts.specs.declared.constraint.Constraint.{Constraint}
 use Rattle.contacts.specs.declared.constraint.Constraint.TheVariants as constraints
 use Rattle.contacts_base.specs.Contacts.{AreKeysRising}
@@ -18,7 +19,7 @@ use Rattle.plain_world.specs.declared.joint.BodyJoint.{BodyJoint}
 use Rattle.plain_world.specs.Joints.{joint_at}
 use Rattle.plain_world.specs.Sleep.{told}
 use Rattle.colour_solver.specs.States.{nobody}
-use Rattle.sleep_wake.specs.Acting.{Acting, are_awake, awake_label, is_mover_awake, second_awake}
+use Rattle.sleep_wake.specs.Acting.{Acting, are_awake, awake_label, is_mover_awake}
 use Rattle.plain_world.specs.Bodies.{moves}
 use Rattle.solver_sets.specs.Ties.{JointSlots, member_of, members_of, movers_if, movers_in, movers_of, movers_with, is_enabled, tie_with}
 use Rattle.world_core_base.specs.ConstraintRows.{HasJointOn, IsJointThere, IsMovable}
@@ -129,7 +130,7 @@ unfolding acting_of
 all_gathered w k i d lt =
     let m : Member Constraint = get_or (all_members (coloured w)) i d in
     let up : are_awake w.plain.islands m.movers ≡ true = ((k.consistent.acting m).0 (Contains-get_or (all_members (coloured w)) i d lt)).1 in
-    one_gathered w m.id m.movers k (all_have w.plain.bodies (joints_in_slots w.plain) w.plain.colours i d lt) (first_awake (is_mover_awake w.plain.islands m.movers.first) (second_awake w.plain.islands m.movers.second) up)
+    one_gathered w m.id m.movers k (all_have w.plain.bodies (joints_in_slots w.plain) w.plain.colours i d lt) (first_awake (is_mover_awake w.plain.islands m.movers.first) (option_map_or (is_mover_awake w.plain.islands) m.movers.second true) up)
 
 -- a kept world can be gathered
 pub can_gather : (w : World) → IsKept w → CanGather w.plain.bodies w.plain.joints w.plain.contacts (coloured w)

@@ -1,7 +1,7 @@
 -- What being sound means for those who touch or are joined, and for the colours.
 use Rattle.std.proofs.Common.{◌≡◌, ℕ, Bool, true, false, cond, ◌&&◌, is_some, List, Option, Some, None, refl, sym, ap, ◌∙◌}
 use Rattle.std.specs.Prelude.{not}
-use Rattle.std.specs.Option.{is_none}
+use Rattle.std.specs.Option.{is_none, option_map_or}
 use Rattle.std.proofs.lemmas.Option.{none-some, same_Some}
 use Rattle.graph_colours.specs.declared.member.Movers.{Movers}
 use Rattle.islands.specs.Labels.{Labels, is_asleep, label_at, sleeping_name}
@@ -16,7 +16,7 @@ use Rattle.plain_world.specs.Bodies.{is_mover, is_mover_in, set_of, sleeping_set
 use Rattle.plain_world.specs.Changes.{is_awake_in}
 use Rattle.plain_world.specs.Kinds.{is_dynamic}
 use Rattle.plain_world.specs.Slots.{body_at}
-use Rattle.sleep_wake.specs.Acting.{are_awake, awake_label, is_mover_awake, second_awake}
+use Rattle.sleep_wake.specs.Acting.{are_awake, awake_label, is_mover_awake}
 use Rattle.solver_sets.specs.Tied.{AreTied}
 use Rattle.world_rules.specs.Laws.{ColoursAreApart, LinkedMoversStandTogether, SleepingSetsAreComponents, SleepsIn, WhatActsHasAColour, movers_awake, second_awake_in}
 use Rattle.world_rules.specs.Sets.{acting_of}
@@ -120,7 +120,7 @@ awake_by (Some b) (Some l) tied told =
 pub awake_same : (bodies : List (Option Body)) (labels : Labels) (slot : ℕ) → AreTied bodies labels → AreTold bodies labels → is_mover_awake labels slot ≡ is_awake_in (body_at bodies slot)
 awake_same bodies labels slot tied told = awake_by (body_at bodies slot) (label_at labels slot) (tied slot) (told slot)
 
-second_same : (bodies : List (Option Body)) (labels : Labels) (o : Option ℕ) → AreTied bodies labels → AreTold bodies labels → second_awake labels o ≡ second_awake_in bodies o
+second_same : (bodies : List (Option Body)) (labels : Labels) (o : Option ℕ) → AreTied bodies labels → AreTold bodies labels → option_map_or (is_mover_awake labels) o true ≡ second_awake_in bodies o
 second_same bodies labels None tied told = refl
 second_same bodies labels (Some slot) tied told = awake_same bodies labels slot tied told
 

@@ -2,6 +2,7 @@
 use Rattle.std.proofs.Common.{◌≡◌, ℕ, ◌+◌, ◌*◌, ◌<◌, ◌≤◌, ◌^◌, List, ◌++◌, length, Option, Some, None, Bool, true, false, cond, ℤ, ◌+ℤ◌, unsigned_abs, arith, refl, ◌∙◌}
 use Rattle.std.specs.Prelude.{◌-ℤ◌}
 use Rattle.std.proofs.lemmas.Int.{ints}
+use Rattle.std.specs.Option.{option_map_or}
 use Rattle.body_handles.specs.declared.slot_table.TheConstants.{MAX_SLOTS}
 use Rattle.impulse_ledger.specs.declared.entry.Cause.TheVariants as causes
 use Rattle.contacts.specs.Constraints.{constraint_number}
@@ -15,7 +16,7 @@ use Rattle.plain_world.specs.Sleep.{told}
 use Rattle.sleep_wake.specs.Acting.{Acting}
 use Rattle.sleep_wake.proofs.LengthLemmas.{slept_long}
 use Rattle.sleep_wake.specs.SleepPhase.{split_at}
-use Rattle.sleep_wake.specs.Sleeping.{rested_at, rested_by, slept_at, slept_by, split_if_loose}
+use Rattle.sleep_wake.specs.Sleeping.{rested_at, slept_at, split_if_loose}
 use Rattle.sleep_wake.specs.Waking.{put_to_rest}
 use Rattle.world_rules.specs.Apply.{counted, gained, rest_entries}
 use Rattle.world_rules.specs.Sets.{acting_of, with_acting}
@@ -100,7 +101,7 @@ rest_put w s l is few =
 
 -- ---- Sleep
 
-rested_ties : (o : Option Label) (s : Acting Constraint) → (rested_by constraint_number o s).ties ≡ s.ties
+rested_ties : (o : Option Label) (s : Acting Constraint) → (option_map_or (λ (l : Label). put_to_rest constraint_number l.name s) o s).ties ≡ s.ties
 unfolding put_to_rest
 rested_ties None s = refl
 rested_ties (Some l) s = refl
@@ -122,7 +123,7 @@ slept_ties slot s = by_label (label_at s.labels slot)
     by_sleep true l = refl
     by_sleep false l = rested_ties (label_at (split_if_loose l s).labels slot) (split_if_loose l s) ∙ split_ties l s
 
-    by_label : (o : Option Label) → (slept_by constraint_number slot o s).ties ≡ s.ties
+    by_label : (o : Option Label) → (option_map_or (λ (l : Label). cond (is_asleep l.state) s (rested_at constraint_number slot (split_if_loose l s))) o s).ties ≡ s.ties
     by_label None = refl
     by_label (Some l) = by_sleep (is_asleep l.state) l
 

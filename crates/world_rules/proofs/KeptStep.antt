@@ -1,6 +1,6 @@
 -- A step keeps a world: the collide, the ticks and the sleep phase.
 use Rattle.std.proofs.Common.{◌≡◌, ℕ, zero, suc, ◌+◌, ◌*◌, ◌<◌, ◌≤◌, ◌^◌, List, [], ◌∷◌, ◌++◌, length, map, Option, Some, None, false, All, is_some, ℤ, ◌+ℤ◌, arith, refl, sym, ap, ◌∙◌, subst}
-use Rattle.std.specs.Prelude.{◌-ℤ◌}
+use Rattle.std.specs.Prelude.{◌-ℤ◌, fold}
 use Rattle.std.proofs.lemmas.Int.{ints}
 use Rattle.std.proofs.lemmas.List.Elements.{All-weaker}
 use Rattle.fixed_geom.specs.Vectors.{plus}
@@ -25,7 +25,7 @@ use Rattle.plain_world.specs.InSlots.{HaveSameSlots}
 use Rattle.sleep_wake.proofs.LengthLemmas.{phase_long, after_changes_long}
 use Rattle.sleep_wake.specs.Acting.{Acting, IsConsistent}
 use Rattle.sleep_wake.specs.Changes.{after_changes}
-use Rattle.sleep_wake.specs.SleepPhase.{all_put_to_rest, picked_to_split, ready, sleep_phase, split_at, split_picked}
+use Rattle.sleep_wake.specs.SleepPhase.{picked_to_split, ready, sleep_phase, split_at, split_picked}
 use Rattle.sleep_wake.specs.Waking.{put_to_rest}
 use Rattle.sleep_wake.specs.declared.change.Change.{Change}
 use Rattle.solver_sets.specs.Beside.{timers_of}
@@ -211,7 +211,7 @@ rested_one : (name : ℕ) (s : Acting Constraint) → (put_to_rest constraint_nu
 unfolding put_to_rest
 rested_one name s = refl
 
-rested_ties : (names : List ℕ) (s : Acting Constraint) → (all_put_to_rest constraint_number names s).ties ≡ s.ties
+rested_ties : (names : List ℕ) (s : Acting Constraint) → (fold (λ now name. put_to_rest constraint_number name now) s names).ties ≡ s.ties
 rested_ties [] s = refl
 rested_ties (name ∷ names) s = rested_ties names (put_to_rest constraint_number name s) ∙ rested_one name s
 
