@@ -1,6 +1,7 @@
 -- Trusted: Slots that are given out, with a generation each.
-use Rattle.std.specs.Prelude.{◌≡◌, ℕ, ◌+◌, ◌<◌, ◌≤◌, Bool, true, false, not, ◌&&◌, nat_lt, ◌==◌, List, [], ◌∷◌, ◌++◌, length, slice_get, slice_set, Some, None, Option, IsSomeAnd, All, if◌then◌else◌}
+use Rattle.std.specs.Prelude.{◌≡◌, ℕ, ◌+◌, ◌<◌, ◌≤◌, Bool, true, false, not, ◌&&◌, nat_lt, ◌==◌, List, [], ◌∷◌, ◌++◌, length, slice_get, slice_set, Some, Option, IsSomeAnd, All, if◌then◌else◌}
 use Rattle.std.specs.List.{position_or_len}
+use Rattle.std.specs.Option.{option_map_or}
 use Rattle.body_handles.specs.declared.slot_table.TheConstants.{MAX_SLOTS, WORN_OUT}
 use Rattle.body_handles.specs.declared.handle.Handle.{Handle}
 use Rattle.body_handles.specs.declared.slot_table.SlotEntry.{SlotEntry}
@@ -20,8 +21,7 @@ lowest slot_entries = position_or_len is_open slot_entries
 
 -- the generation at which a slot is given out: that of its entry, and 1 for a new one
 abbrev pub generation_of : Option SlotEntry → ℕ
-generation_of None = 1
-generation_of (Some p) = p.generation
+generation_of entry = option_map_or (λ (p : SlotEntry). p.generation) entry 1
 
 abbrev pub generation_at : List SlotEntry → ℕ → ℕ
 generation_at slot_entries slot = generation_of (slice_get slot_entries slot)
@@ -42,8 +42,7 @@ IsLive slot_entries h = slice_get slot_entries h.slot ≡ Some (record { generat
 
 -- the same as a test
 abbrev pub is_live_at : Option SlotEntry → ℕ → Bool
-is_live_at None generation = false
-is_live_at (Some p) generation = p.live && (p.generation == generation)
+is_live_at entry generation = option_map_or (λ (p : SlotEntry). p.live && (p.generation == generation)) entry false
 
 abbrev pub is_live : List SlotEntry → Handle → Bool
 is_live slot_entries h = is_live_at (slice_get slot_entries h.slot) h.generation

@@ -1,6 +1,6 @@
 -- The visit of a row is what the definition makes of its contact.
 use Rattle.std.proofs.Common.{◌≡◌, ◌∙◌, ◌^◌, Bool, true, false, cond, Option, Some, None, ℤ, pos, neg_ℤ, ◌+ℤ◌, ◌-ℤ◌, ◌*ℤ◌, int_lt, refl, sym, ap, subst}
-use Rattle.std.specs.Prelude.{option_map}
+use Rattle.std.specs.Prelude.{option_map, unwrap_or}
 use Rattle.fixed_geom.specs.Numbers.{rdiv}
 use Rattle.fixed_geom.specs.Reciprocals.{over_inverse_reciprocal}
 use Rattle.fixed_geom.specs.Vectors.{unit_length, cross, opposite}
@@ -11,7 +11,7 @@ use Rattle.momenta.specs.declared.state.BodyState.{BodyState}
 use Rattle.momenta.specs.declared.state.Ends.{Ends}
 use Rattle.momenta.specs.declared.line.Line.{Line}
 use Rattle.momenta.specs.declared.line.Exerted.{Exerted}
-use Rattle.momenta.specs.Impulses.{along, between, both, exerted, fits, given, impulse_pair, inverse_mass, inverse_share, line_along, or_dropped, or_kept, solved_impulse, speed_along, taken, turning_share, wanted, warmed}
+use Rattle.momenta.specs.Impulses.{along, between, both, exerted, fits, given, impulse_pair, inverse_mass, inverse_share, line_along, or_dropped, solved_impulse, speed_along, taken, turning_share, wanted, warmed}
 use Rattle.contacts_base.specs.declared.contact.ContactPoint.{ContactPoint}
 use Rattle.contacts_base.specs.declared.contact.Contact.{Contact}
 use Rattle.fixed_geom.specs.declared.limits.TheConstants.{MAX_NORMAL_IMPULSE}
@@ -48,16 +48,16 @@ given_like : (j r : Vec2) (s : BodyState) → IsMovedFrom s (given j r s)
 unfolding given
 given_like j r s = like_by s.movable s _
 
-kept_by : (t u : Bool) (e : Ends) (a b : BodyState) → IsMovedFrom e.a a → IsMovedFrom e.b b → AreMovedFrom e (or_kept e (both (cond t (Some a) None) (cond u (Some b) None)))
+kept_by : (t u : Bool) (e : Ends) (a b : BodyState) → IsMovedFrom e.a a → IsMovedFrom e.b b → AreMovedFrom e (unwrap_or (both (cond t (Some a) None) (cond u (Some b) None)) e)
 kept_by true true e a b h k = record { a = h; b = k }
 kept_by true false e a b h k = same_bodies e
 kept_by false u e a b h k = same_bodies e
 
-pair_masses : (j ra rb : Vec2) (e : Ends) → AreMovedFrom e (or_kept e (impulse_pair j ra rb e))
+pair_masses : (j ra rb : Vec2) (e : Ends) → AreMovedFrom e (unwrap_or (impulse_pair j ra rb e) e)
 unfolding impulse_pair taken
 pair_masses j ra rb e = kept_by (fits (given (opposite j) ra e.a).motion) (fits (given j rb e.b).motion) e (given (opposite j) ra e.a) (given j rb e.b) (given_like (opposite j) ra e.a) (given_like j rb e.b)
 
-dropped_ends : (old new : ℤ) (e : Ends) (o : Option Ends) → or_kept e o ≡ (or_dropped old e new o).ends
+dropped_ends : (old new : ℤ) (e : Ends) (o : Option Ends) → unwrap_or o e ≡ (or_dropped old e new o).ends
 dropped_ends old new e (Some after) = refl
 dropped_ends old new e None = refl
 

@@ -7,11 +7,13 @@ use Rattle.contacts_base.specs.declared.contact.ContactEntry.{ContactEntry}
 use Rattle.contacts_base.specs.Near.{is_near}
 use Rattle.contacts_base.specs.NearCodes.{near_codes, near_from, near_with, pair_code}
 use Rattle.contacts.specs.declared.forbidden.BodyPair.{BodyPair}
-use Rattle.contacts.specs.ByPairs.{contact_of_pair, contacts_between, may_collide, near_pairs, pairs_with}
+use Rattle.contacts.specs.ByPairs.{contacts_between, near_pairs}
 use Rattle.contacts.specs.ByCodes.{contacts_of, entry_at, allowed_codes, is_allowed, ContactsByCodes}
 use Rattle.contacts.specs.Pairs.{first_place, proxy_at, second_place}
 use Rattle.contacts.proofs.KnownLemmas.{code_places}
 use Rattle.contacts.proofs.ProxyLemmas.{few}
+use Rattle.contacts.specs.Changes.{entry_of}
+use Rattle.contacts.specs.Forbidden.{is_forbidden}
 
 -- the two shapes that a code names
 abbrev pair_at : List Proxy → ℕ → Proxy × Proxy
@@ -41,7 +43,7 @@ with_step : (all : List Proxy) (t : Bool) (p q : Proxy) (code : ℕ) (codes : Li
 with_step all true p q code codes qs e h = λ k. e k ∷ h k
 with_step all false p q code codes qs e h = h
 
-with_names : (all : List Proxy) (p : Proxy) (i j : ℕ) (qs : List Proxy) → proxy_at all i ≡ p → AreFrom all j qs → j + length qs ≤ 2 ^ 32 → map (pair_at all) (near_with p i j qs) ≡ pairs_with p qs
+with_names : (all : List Proxy) (p : Proxy) (i j : ℕ) (qs : List Proxy) → proxy_at all i ≡ p → AreFrom all j qs → j + length qs ≤ 2 ^ 32 → map (pair_at all) (near_with p i j qs) ≡ map (λ (other : Proxy). (p, other)) (filter (is_near p) qs)
 with_names all p i j [] a at small = refl
 with_names all p i j (q ∷ qs) a at small =
     let here : proxy_at all j ≡ q = at 0 j (omega arith) (omega arith) in
@@ -52,7 +54,7 @@ from_names : (all : List Proxy) (i : ℕ) (ps : List Proxy) → AreFrom all i ps
 from_names all i [] at small = refl
 from_names all i (p ∷ ps) at small =
     let here : proxy_at all i ≡ p = at 0 i (omega arith) (omega arith) in
-    let first : map (pair_at all) (near_with p i (suc i) ps) ≡ pairs_with p ps = with_names all p i (suc i) ps here (later all i p ps at) (omega (arith, small)) in
+    let first : map (pair_at all) (near_with p i (suc i) ps) ≡ map (λ (other : Proxy). (p, other)) (filter (is_near p) ps) = with_names all p i (suc i) ps here (later all i p ps at) (omega (arith, small)) in
     let rest : map (pair_at all) (near_from (suc i) ps) ≡ near_pairs ps = from_names all (suc i) ps (later all i p ps at) (omega (arith, small)) in
     map-append (pair_at all) (near_with p i (suc i) ps) (near_from (suc i) ps) ∙ ap₂ (λ (xs ys : List (Proxy × Proxy)). xs ++ ys) first rest
 
@@ -62,21 +64,21 @@ codes_name ps small = from_names ps 0 ps (λ k place e lt. let same : place ≡ 
 
 -- ---- their contacts
 
-fused_step : (old : List ContactEntry) (ps : List Proxy) (code : ℕ) (t : Bool) (pairs : List (Proxy × Proxy)) (codes : List ℕ) → map (contact_of_pair old) pairs ≡ contacts_of old ps codes
-    → map (contact_of_pair old) (cond t (pair_at ps code ∷ pairs) pairs) ≡ contacts_of old ps (cond t (code ∷ codes) codes)
+fused_step : (old : List ContactEntry) (ps : List Proxy) (code : ℕ) (t : Bool) (pairs : List (Proxy × Proxy)) (codes : List ℕ) → map (λ (pair : Proxy × Proxy). entry_of old pair.0 pair.1) pairs ≡ contacts_of old ps codes
+    → map (λ (pair : Proxy × Proxy). entry_of old pair.0 pair.1) (cond t (pair_at ps code ∷ pairs) pairs) ≡ contacts_of old ps (cond t (code ∷ codes) codes)
 fused_step old ps code true pairs codes h = ap (λ (es : List ContactEntry). entry_at old ps code ∷ es) h
 fused_step old ps code false pairs codes h = h
 
-fused : (forbidden : List BodyPair) (ps : List Proxy) (old : List ContactEntry) (codes : List ℕ) → map (contact_of_pair old) (filter (may_collide forbidden) (map (pair_at ps) codes)) ≡ contacts_of old ps (filter (is_allowed forbidden ps) codes)
+fused : (forbidden : List BodyPair) (ps : List Proxy) (old : List ContactEntry) (codes : List ℕ) → map (λ (pair : Proxy × Proxy). entry_of old pair.0 pair.1) (filter (λ (pair : Proxy × Proxy). not (is_forbidden forbidden pair.0 pair.1)) (map (pair_at ps) codes)) ≡ contacts_of old ps (filter (is_allowed forbidden ps) codes)
 fused forbidden ps old [] = refl
 fused forbidden ps old (code ∷ codes) =
-    fused_step old ps code (is_allowed forbidden ps code) (filter (may_collide forbidden) (map (pair_at ps) codes)) (filter (is_allowed forbidden ps) codes) (fused forbidden ps old codes)
+    fused_step old ps code (is_allowed forbidden ps code) (filter (λ (pair : Proxy × Proxy). not (is_forbidden forbidden pair.0 pair.1)) (map (pair_at ps) codes)) (filter (is_allowed forbidden ps) codes) (fused forbidden ps old codes)
 
 -- so it is where the codes can tell the places of all shapes apart
 by_codes : (forbidden : List BodyPair) (ps : List Proxy) (old : List ContactEntry) → length ps ≤ 2 ^ 32 → contacts_between forbidden ps old ≡ contacts_of old ps (allowed_codes forbidden ps)
 unfolding contacts_between
 by_codes forbidden ps old small =
-    ap (λ (pairs : List (Proxy × Proxy)). map (contact_of_pair old) (filter (may_collide forbidden) pairs)) (sym (codes_name ps small))
+    ap (λ (pairs : List (Proxy × Proxy)). map (λ (pair : Proxy × Proxy). entry_of old pair.0 pair.1) (filter (λ (pair : Proxy × Proxy). not (is_forbidden forbidden pair.0 pair.1)) pairs)) (sym (codes_name ps small))
     ∙ fused forbidden ps old (near_codes ps)
 
 pub contacts_by_codes-holds : ContactsByCodes

@@ -1,6 +1,7 @@
 -- Trusted: What becomes of the contacts.
 use Rattle.std.specs.Prelude.{cond, List, Option, Some, None}
 use Rattle.std.specs.List.{filter_map}
+use Rattle.std.specs.Option.{option_map_or}
 use Rattle.shapes.specs.Manifolds.{manifold_of}
 use Rattle.contacts_base.specs.declared.near.Proxy.{Proxy}
 use Rattle.contacts_base.specs.declared.key.ContactKey.{ContactKey}
@@ -14,13 +15,11 @@ use Rattle.contacts_base.specs.Near.{one_stirs}
 
 -- a contact keeps its surface; a new one has what the two shapes' mix to
 abbrev pub surface_with : Option ContactEntry → Proxy → Proxy → Surface
-surface_with None p q = mixed p.surface q.surface
-surface_with (Some e) p q = e.surface
+surface_with old p q = option_map_or (λ (e : ContactEntry). e.surface) old (mixed p.surface q.surface)
 
 -- the points that a contact has; a new one has none
 abbrev pub kept_contact : Option ContactEntry → Contact
-kept_contact None = apart
-kept_contact (Some e) = e.contact
+kept_contact old = option_map_or (λ (e : ContactEntry). e.contact) old apart
 
 -- evaluated anew, if the body of one of the shapes stirs; else kept
 abbrev pub contact_with : Option ContactEntry → Proxy → Proxy → Contact

@@ -1,6 +1,7 @@
 -- Trusted: Lists of contacts by key.
 use Rattle.std.specs.Prelude.{ℕ, ◌==◌, ◌||◌, Bool, false, not, cond, List, [], ◌∷◌, map, filter, Option, Some, None}
 use Rattle.std.specs.List.Sorted.{IsStrictlyIncreasing}
+use Rattle.std.specs.Option.{option_map_or}
 use Rattle.contacts_base.specs.declared.key.ContactKey.{ContactKey}
 use Rattle.contacts_base.specs.declared.contact.ContactEntry.{ContactEntry}
 use Rattle.contacts_base.specs.Keys.{key_number}
@@ -19,8 +20,7 @@ lookup [] key = None
 lookup (e ∷ es) key = cond (number_of e == key_number key) (Some e) (lookup es key)
 
 abbrev pub is_touching : Option ContactEntry → Bool
-is_touching None = false
-is_touching (Some e) = touches e.contact
+is_touching entry = option_map_or (λ (e : ContactEntry). touches e.contact) entry false
 
 -- ---- what becomes of the list
 

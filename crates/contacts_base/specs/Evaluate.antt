@@ -1,5 +1,6 @@
 -- Trusted: What a contact becomes when its shapes are evaluated.
-use Rattle.std.specs.Prelude.{ℕ, ◌==◌, Bool, cond, pos, int_lt, Option, Some, None, option_map, is_some}
+use Rattle.std.specs.Prelude.{ℕ, ◌==◌, Bool, cond, pos, int_lt, Option, Some, None, option_map, is_some, option_and_then, unwrap_or}
+use Rattle.std.specs.Option.{option_or}
 use Rattle.shapes.specs.declared.points.Point.{Point}
 use Rattle.shapes.specs.declared.points.Manifold.{Manifold}
 use Rattle.contacts_base.specs.declared.contact.ContactPoint.{ContactPoint}
@@ -12,18 +13,12 @@ no_impulses = record { normal_impulse = pos 0; tangent_impulse = pos 0 }
 
 -- the impulses of the point, if it is the candidate's
 abbrev pub impulses_at : Option ContactPoint → ℕ → Option Impulses
-impulses_at None candidate = None
-impulses_at (Some p) candidate = cond (p.candidate == candidate) (Some (record { normal_impulse = p.normal_impulse; tangent_impulse = p.tangent_impulse })) None
-
-abbrev pub first_impulses : Option Impulses → Option Impulses → Impulses
-first_impulses (Some i) other = i
-first_impulses None (Some i) = i
-first_impulses None None = no_impulses
+impulses_at point candidate = option_and_then (λ (p : ContactPoint). cond (p.candidate == candidate) (Some (record { normal_impulse = p.normal_impulse; tangent_impulse = p.tangent_impulse })) None) point
 
 -- the impulses that the contact kept at the candidate
 abbrev pub kept : Option ContactEntry → ℕ → Impulses
 kept None candidate = no_impulses
-kept (Some e) candidate = first_impulses (impulses_at e.contact.first candidate) (impulses_at e.contact.second candidate)
+kept (Some e) candidate = unwrap_or (option_or (impulses_at e.contact.first candidate) (impulses_at e.contact.second candidate)) no_impulses
 
 -- the point with the impulses kept at its candidate
 abbrev pub kept_point : Option ContactEntry → Point → ContactPoint

@@ -1,8 +1,9 @@
 -- Movers that constraints share.
 use Rattle.std.proofs.Common.{◌≡◌, ℕ, ◌==◌, ◌||◌, true, false, Option, Some, None, refl, sym, ap, ◌∙◌, subst, arith}
 use Rattle.std.proofs.lemmas.Bool.Decides.{nat_tests}
+use Rattle.std.specs.Option.{option_map_or}
 use Rattle.graph_colours.specs.declared.member.Movers.{Movers}
-use Rattle.graph_colours.specs.Movers.{is_slot, has_mover, has_second, shares}
+use Rattle.graph_colours.specs.Movers.{has_mover, shares}
 use Rattle.graph_colours.proofs.Cases.{or_pairs, or_false, or_left, or_right}
 use Rattle.graph_colours.proofs.PlaceLemmas.{not_same}
 
@@ -23,12 +24,12 @@ shares_back m o = back_by_slots m.first o.first m.second o.second
 pub not_slot : (m : Movers) (n k : ℕ) → has_mover m n ≡ false → has_mover m k ≡ true → (n == k) ≡ false
 not_slot m n k without_it with_it = not_same n k (λ q. let P : ℕ → Type 0 = λ i. has_mover m i ≡ false in let wrong : true ≡ false = sym with_it ∙ subst P q without_it in cc)
 
-pub not_second : (m : Movers) (s : Option ℕ) (k : ℕ) → has_second m s ≡ false → has_mover m k ≡ true → is_slot s k ≡ false
+pub not_second : (m : Movers) (s : Option ℕ) (k : ℕ) → option_map_or (has_mover m) s false ≡ false → has_mover m k ≡ true → option_map_or (λ other. other == k) s false ≡ false
 not_second m None k without_it with_it = refl
 not_second m (Some n) k without_it with_it = not_slot m n k without_it with_it
 
 pub unshared : (m o : Movers) (k : ℕ) → shares m o ≡ false → has_mover m k ≡ true → has_mover o k ≡ false
 unshared m o k without_it with_it =
-    let first : (o.first == k) ≡ false = not_slot m o.first k (or_left (has_mover m o.first) (has_second m o.second) without_it) with_it in
-    let second : is_slot o.second k ≡ false = not_second m o.second k (or_right (has_mover m o.first) (has_second m o.second) without_it) with_it in
+    let first : (o.first == k) ≡ false = not_slot m o.first k (or_left (has_mover m o.first) (option_map_or (has_mover m) o.second false) without_it) with_it in
+    let second : option_map_or (λ other. other == k) o.second false ≡ false = not_second m o.second k (or_right (has_mover m o.first) (option_map_or (has_mover m) o.second false) without_it) with_it in
     rw (first, second) refl

@@ -4,10 +4,11 @@ use Rattle.std.specs.Prelude.{IsSome}
 use Rattle.std.proofs.lemmas.Grind.{common_steps}
 use Rattle.std.proofs.lemmas.Bool.{false≢true}
 use Rattle.std.proofs.lemmas.List.{length-map}
+use Rattle.std.specs.Option.{option_map_or}
 use Rattle.islands.specs.declared.threads.Note.{Note}
 use Rattle.islands.specs.declared.label.Label.{Label}
 use Rattle.islands.specs.declared.label.IslandState.TheVariants.{Loose}
-use Rattle.islands.specs.Labels.{Labels, label_at, IsIn, added, with_state, loosened, loosened_by, merged}
+use Rattle.islands.specs.Labels.{Labels, label_at, IsIn, added, with_state, loosened, merged}
 use Rattle.islands.specs.Packed.{Notes, note_at, Heads, head_at, part_in, name_of, label_in, labels_of, labels_by, by_slot, IsStanding, IsKept}
 use Rattle.islands.specs.Standing.{NodeEntries}
 use Rattle.islands.proofs.LabelLemmas.{in_is}
@@ -61,7 +62,7 @@ label_by_part notes heads slot part e = labels_at heads notes slot ∙ label_of_
 
 pub loosened_part : (notes : Notes) (heads : Heads) (slot part : ℕ) → part_in (note_at notes slot) ≡ Some part → loosened (labels_of notes heads) slot ≡ with_state (name_of heads part) Loose (labels_of notes heads)
 unfolding loosened
-loosened_part notes heads slot part e = ap (λ o. loosened_by o (labels_of notes heads)) (label_by_part notes heads slot part e)
+loosened_part notes heads slot part e = ap (λ o. option_map_or (λ (label : Label). with_state label.name Loose (labels_of notes heads)) o (labels_of notes heads)) (label_by_part notes heads slot part e)
 
 -- the mover in the slot of an island's name is in it
 pub named_part : (notes : Notes) (heads : Heads) (name part : ℕ) → IsIn (labels_of notes heads) name name → part_in (note_at notes name) ≡ Some part → name_of heads part ≡ name

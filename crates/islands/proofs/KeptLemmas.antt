@@ -1,11 +1,13 @@
 -- What keeps the islands: R are the links before, and S those after.
 use Rattle.std.proofs.Common.{◌≡◌, ◌≢◌, ℕ, [], length, Option, Some, None, true, false, ◌⊎◌, inl, inr, refl, sym, ap, ◌∙◌, subst}
 use Rattle.std.proofs.lemmas.Bool.{cases_lt, false≢true, lt-ltb, le-ltb}
+use Rattle.std.specs.Option.{option_map_or}
+use Rattle.std.specs.Prelude.{slice_set}
 use Rattle.islands.specs.declared.label.IslandState.{IslandState}
 use Rattle.islands.specs.declared.label.IslandState.TheVariants.{Loose}
 use Rattle.islands.specs.declared.label.Label.{Label}
 use Rattle.islands.specs.Links.{Linked, Joined, IsPairOf}
-use Rattle.islands.specs.Labels.{Labels, label_at, IsIn, relabelled, added, merged, loosened, loosened_by, taken_out, with_state, lowest_member, union_label, left_behind, left_alone, is_loose}
+use Rattle.islands.specs.Labels.{Labels, label_at, IsIn, relabelled, added, merged, loosened, taken_out, with_state, lowest_member, union_label, left_behind, is_loose}
 use Rattle.islands.specs.Partition.{AreTogether, AreIslands}
 use Rattle.islands.specs.Laws.{AddingKeeps, MergingKeeps, LooseningKeeps, TakingOutKeeps, StateChangeKeeps}
 use Rattle.islands.proofs.JoinLemmas.{linked_back, joined_both, joined_one, joined_more, joined_within}
@@ -152,7 +154,7 @@ nothing_lost R S labels slot w d e = same_links R S labels (λ s t h. elim (d.lo
 together_in : (labels : Labels) (slot s : ℕ) (l : Label) → label_at labels slot ≡ Some l → AreTogether labels slot s → IsIn labels l.name s
 together_in labels slot s l e w = in_of (label_at labels s) w.0 l.name w.2 (ap (λ (x : Label). x.name) (one_label labels slot w.0 l w.1 e))
 
-loosening_by : (R S : ℕ → ℕ → Type 0) (labels : Labels) (slot : ℕ) (o : Option Label) → label_at labels slot ≡ o → AreIslands R labels → Drops R S labels slot → AreIslands S (loosened_by o labels)
+loosening_by : (R S : ℕ → ℕ → Type 0) (labels : Labels) (slot : ℕ) (o : Option Label) → label_at labels slot ≡ o → AreIslands R labels → Drops R S labels slot → AreIslands S (option_map_or (λ (label : Label). with_state label.name Loose labels) o labels)
 loosening_by R S labels slot None e w d = nothing_lost R S labels slot w d e
 loosening_by R S labels slot (Some l) e w d =
     restating_labels R S labels l.name Loose w (in_of (label_at labels l.name) l l.name (w.partition.named slot l e) refl) d.kept
@@ -219,7 +221,7 @@ taking_out_at R S labels slot l e w d none =
       })
     ]
 
-taking_out_by : (R S : ℕ → ℕ → Type 0) (labels : Labels) (slot : ℕ) (o : Option Label) → label_at labels slot ≡ o → AreIslands R labels → Drops R S labels slot → ((s t : ℕ) → S s t → ((s ≡ slot) ⊎ (t ≡ slot)) → ⊥) → AreIslands S (left_alone o slot labels)
+taking_out_by : (R S : ℕ → ℕ → Type 0) (labels : Labels) (slot : ℕ) (o : Option Label) → label_at labels slot ≡ o → AreIslands R labels → Drops R S labels slot → ((s t : ℕ) → S s t → ((s ≡ slot) ⊎ (t ≡ slot)) → ⊥) → AreIslands S (option_map_or (λ (label : Label). left_behind (lowest_member label.name (slice_set labels slot None)) label.name (slice_set labels slot None)) o labels)
 taking_out_by R S labels slot None e w d none = nothing_lost R S labels slot w d e
 taking_out_by R S labels slot (Some l) e w d none = taking_out_at R S labels slot l e w d none
 

@@ -4,11 +4,12 @@ use Rattle.std.specs.Prelude.{cond}
 use Rattle.std.proofs.lemmas.Bool.{cases_eq, false≢true, lt-ltb, le-ltb}
 use Rattle.std.proofs.lemmas.List.{length-set, length-map}
 use Rattle.std.proofs.lemmas.List.Sums.{position_or_len_is}
+use Rattle.std.specs.Option.{option_map_or}
 use Rattle.islands.specs.declared.threads.Note.{Note}
 use Rattle.islands.specs.declared.threads.Head.{Head}
 use Rattle.islands.specs.declared.label.Label.{Label}
 use Rattle.islands.specs.declared.label.IslandState.TheVariants.{Loose}
-use Rattle.islands.specs.Labels.{Labels, label_at, is_in, relabel, relabelled, lowest_member, left_behind, left_alone, taken_out}
+use Rattle.islands.specs.Labels.{Labels, label_at, is_in, relabel, relabelled, lowest_member, left_behind, taken_out}
 use Rattle.islands.specs.Standing.{AreExchanged, AreInverse, NodeEntries, node_at, slot_at}
 use Rattle.islands.specs.Packed.{Notes, note_at, Heads, head_at, in_part, InPart, part_in, name_of, label_in, labels_of, by_slot, labels_by, AreNamed, IsLowestIn, IsPart, IsPacked, IsStanding, IsDropped, dropped_head, labelled_head, HasNoneBelow, IsLeftBy}
 use Rattle.islands.proofs.LabelLemmas.{relabel_at}
@@ -79,7 +80,7 @@ rest_in old heads k slot new s p there g = ap (λ l. is_in l (name_of heads k)) 
 without_is : (old : Notes) (heads : Heads) (k slot : ℕ) (new : Notes) → InPart old k slot → IsGone old slot new → taken_out (labels_of old heads) slot ≡ left_behind (lowest_member (name_of heads k) (labels_of new heads)) (name_of heads k) (labels_of new heads)
 unfolding taken_out
 without_is old heads k slot new there g =
-    ap (λ o. left_alone o slot (labels_of old heads)) (label_here old heads k slot there)
+    ap (λ o. option_map_or (λ (label : Label). left_behind (lowest_member label.name (slice_set (labels_of old heads) slot None)) label.name (slice_set (labels_of old heads) slot None)) o (labels_of old heads)) (label_here old heads k slot there)
     ∙ ap (λ (ls : Labels). left_behind (lowest_member (name_of heads k) ls) (name_of heads k) ls) (rest_labels old heads k slot new there g)
 
 -- ---- some are left behind

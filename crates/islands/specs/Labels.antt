@@ -1,6 +1,7 @@
 -- Trusted: Islands as labels: by slot the island of the mover there, and what each call makes of them.
 use Rattle.std.specs.Prelude.{◌≡◌, ℕ, ◌+◌, ◌-◌, List, ◌++◌, length, Some, None, Option, map, replicate, slice_set, ◌==◌, ◌||◌, ◌&&◌, Bool, true, false, cond, min, nat_lt}
 use Rattle.std.specs.List.{slice_index_or, position_or_len, range_with_len}
+use Rattle.std.specs.Option.{option_map_or}
 use Rattle.islands.specs.declared.label.IslandState.{IslandState}
 use Rattle.islands.specs.declared.label.IslandState.TheVariants.{Whole, Loose, Asleep}
 use Rattle.islands.specs.declared.label.Label.{Label}
@@ -78,12 +79,8 @@ merged labels a b = merged_by (label_at labels a) (label_at labels b) labels
 
 -- ---- the island of a mover has lost a link: it may have come apart
 
-abbrev pub loosened_by : Option Label → Labels → Labels
-loosened_by None labels = labels
-loosened_by (Some l) labels = with_state l.name Loose labels
-
 unfoldable pub loosened : Labels → ℕ → Labels
-loosened labels slot = loosened_by (label_at labels slot) labels
+loosened labels slot = option_map_or (λ (l : Label). with_state l.name Loose labels) (label_at labels slot) labels
 
 -- ---- a mover goes: those that it leaves behind are loose, under their lowest slot
 
@@ -94,12 +91,8 @@ lowest_member name labels = position_or_len (λ o. is_in o name) labels
 abbrev pub left_behind : ℕ → ℕ → Labels → Labels
 left_behind low name labels = cond (nat_lt low (length labels)) (relabelled name name (record { name = low; state = Loose }) labels) labels
 
-abbrev pub left_alone : Option Label → ℕ → Labels → Labels
-left_alone None slot labels = labels
-left_alone (Some l) slot labels = left_behind (lowest_member l.name (slice_set labels slot None)) l.name (slice_set labels slot None)
-
 unfoldable pub taken_out : Labels → ℕ → Labels
-taken_out labels slot = left_alone (label_at labels slot) slot labels
+taken_out labels slot = option_map_or (λ (l : Label). left_behind (lowest_member l.name (slice_set labels slot None)) l.name (slice_set labels slot None)) (label_at labels slot) labels
 
 -- ---- an island falls asleep, or wakes
 

@@ -3,6 +3,7 @@ use Rattle.std.proofs.Common.{◌≡◌, zero, suc, ◌^◌, ◌≤◌, Bool, �
 use Rattle.std.proofs.lemmas.Bool.{le-leb}
 use Rattle.std.proofs.lemmas.Bool.Decides.{Decides-int_eq}
 use Rattle.std.specs.Ordering.{int_eq}
+use Rattle.std.specs.Prelude.{unwrap_or}
 use lib.IntN.{zero-*ℤ, *ℤ-zero, +ℤ_idr}
 use Rattle.fixed_geom.specs.Numbers.{rdiv}
 use Rattle.fixed_geom.specs.Facings.{rotate}
@@ -15,7 +16,7 @@ use Rattle.momenta.specs.declared.line.Line.{Line}
 use Rattle.momenta.specs.declared.line.Exerted.{Exerted}
 use Rattle.momenta.specs.declared.line_64.Exerted64.{Exerted64}
 use Rattle.momenta.specs.Motions.{spin, velocity}
-use Rattle.momenta.specs.Impulses.{along, between, both, exerted, fits, given, impulse_pair, or_dropped, or_kept, parting, solved_impulse, speed_along, taken, turned_by, velocity_at, wanted, warmed}
+use Rattle.momenta.specs.Impulses.{along, between, both, exerted, fits, given, impulse_pair, or_dropped, parting, solved_impulse, speed_along, taken, turned_by, velocity_at, wanted, warmed}
 use Rattle.momenta.specs.ImpulseBounds.{AreStates, IsSameBody, IsState}
 use Rattle.momenta.specs.Line64.{both_ends, ends_with, with_momenta}
 use Rattle.joint_rows.specs.declared.row.JointRow.{JointRow}
@@ -157,7 +158,7 @@ unfolding solved_impulse
 solved_alike line bias low high total k l e c h =
     rw (speed_alike line k l e c.ra c.rb) (exerted_alike line total (between low high (total +ℤ wanted (speed_along line e) bias line.inverse_mass)) k l e c h)
 
-or_kept_alike : (k l : ℤ) (e : Ends) (o : Option Ends) → or_kept (both_turning k l e) (some_both_turning k l o) ≡ both_turning k l (or_kept e o)
+or_kept_alike : (k l : ℤ) (e : Ends) (o : Option Ends) → unwrap_or (some_both_turning k l o) (both_turning k l e) ≡ both_turning k l (unwrap_or o e)
 or_kept_alike k l e (Some after) = refl
 or_kept_alike k l e None = refl
 

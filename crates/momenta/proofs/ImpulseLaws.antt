@@ -2,12 +2,13 @@
 use Rattle.std.proofs.Common.{◌≡◌, ◌^◌, ◌≤◌, Bool, true, false, cond, Option, Some, None, is_some, ℤ, pos, neg_ℤ, ◌+ℤ◌, unsigned_abs, arith, refl}
 use Rattle.std.proofs.lemmas.Bool.Decides.{nat_tests}
 use Rattle.std.proofs.lemmas.Int.{ints}
+use Rattle.std.specs.Prelude.{unwrap_or}
 use Rattle.fixed_geom.specs.Vectors.{IsWithin, cross, opposite, plus}
 use Rattle.fixed_geom.specs.declared.vectors.Vec2.{Vec2}
 use Rattle.momenta.specs.declared.motion.Motion.{Motion}
 use Rattle.momenta.specs.declared.state.BodyState.{BodyState}
 use Rattle.momenta.specs.declared.state.Ends.{Ends}
-use Rattle.momenta.specs.Impulses.{fits, given, impulse_pair, or_dropped, or_kept, taken, turned_by}
+use Rattle.momenta.specs.Impulses.{fits, given, impulse_pair, or_dropped, taken, turned_by}
 use Rattle.momenta.specs.ImpulseBounds.{AreStates, AreSameBodies, IsState, IsSameBody, IsMomentumKept}
 
 -- ---- the state after it
@@ -97,14 +98,14 @@ pair_second j ra rb e a b first second h k = rw (← first, ← second, h, k) re
 
 -- ---- the accumulated impulse with it
 
-pub total_given : (old new : ℤ) (e after : Ends) (o : Option Ends) → after ≡ or_kept e o → true ≡ is_some o → record { ends = after; total = new } ≡ or_dropped old e new o
+pub total_given : (old new : ℤ) (e after : Ends) (o : Option Ends) → after ≡ unwrap_or o e → true ≡ is_some o → record { ends = after; total = new } ≡ or_dropped old e new o
 total_given old new e after (Some x) h k = rw h refl
 total_given old new e after None h k = cc
 
-pub total_dropped : (old new : ℤ) (e after : Ends) (o : Option Ends) → after ≡ or_kept e o → false ≡ is_some o → record { ends = after; total = old } ≡ or_dropped old e new o
+pub total_dropped : (old new : ℤ) (e after : Ends) (o : Option Ends) → after ≡ unwrap_or o e → false ≡ is_some o → record { ends = after; total = old } ≡ or_dropped old e new o
 total_dropped old new e after (Some x) h k = cc
 total_dropped old new e after None h k = rw h refl
 
-pub kept_dropped : (e after : Ends) (o : Option Ends) → after ≡ or_kept e o → false ≡ is_some o → after ≡ e
+pub kept_dropped : (e after : Ends) (o : Option Ends) → after ≡ unwrap_or o e → false ≡ is_some o → after ≡ e
 kept_dropped e after (Some x) h k = cc
 kept_dropped e after None h k = h

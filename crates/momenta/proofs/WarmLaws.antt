@@ -3,6 +3,7 @@ use Rattle.std.proofs.Common.{◌≡◌, ◌*◌, ◌^◌, ◌≤◌, Bool, true
 use Rattle.std.proofs.lemmas.Bool.{le-leb}
 use Rattle.std.proofs.lemmas.Int.{ints}
 use Rattle.std.proofs.Math.IntN.{+ℤ_assoc}
+use Rattle.std.specs.Prelude.{unwrap_or}
 use Rattle.fixed_geom.proofs.Multiples.{times_sum}
 use Rattle.fixed_geom.proofs.Sizes.{difference_le, product_le}
 use Rattle.fixed_geom.specs.Vectors.{IsWithin, cross, opposite, plus}
@@ -10,7 +11,7 @@ use Rattle.fixed_geom.specs.declared.vectors.Vec2.{Vec2}
 use Rattle.momenta.specs.declared.motion.Motion.{Motion}
 use Rattle.momenta.specs.declared.state.BodyState.{BodyState}
 use Rattle.momenta.specs.declared.state.Ends.{Ends}
-use Rattle.momenta.specs.Impulses.{fits, given, impulse_pair, or_kept, turned_by}
+use Rattle.momenta.specs.Impulses.{fits, given, impulse_pair, turned_by}
 use Rattle.momenta.specs.ImpulseBounds.{IsRoomy}
 use Rattle.momenta.proofs.ImpulseLaws.{moved_by, pair_is}
 
@@ -119,6 +120,6 @@ second_fits j k ra rb e room h i first second =
     (given_fits (plus j k) rb e.b room.b within second)
 
 pub pairs_are_one : (j k ra rb : Vec2) (e : Ends) → AreRoomy e → IsWithin (2 ^ 44) j → IsWithin (2 ^ 44) k → IsWithin (2 ^ 27) ra → IsWithin (2 ^ 27) rb
-    → or_kept e (impulse_pair (plus j k) ra rb e) ≡ or_kept (or_kept e (impulse_pair j ra rb e)) (impulse_pair k ra rb (or_kept e (impulse_pair j ra rb e)))
+    → unwrap_or (impulse_pair (plus j k) ra rb e) e ≡ unwrap_or (impulse_pair k ra rb (unwrap_or (impulse_pair j ra rb e) e)) (unwrap_or (impulse_pair j ra rb e) e)
 pairs_are_one j k ra rb e room h i first second =
     rw (pair_fits j ra rb e room (wider j h) first second, pair_fits (plus j k) ra rb e room (sum_within j k h i) first second, second_fits j k ra rb e room h i first second) refl

@@ -1,5 +1,6 @@
 -- Trusted: Impulses: what a body gets of one, what two bodies give one another, and one impulse of the sequential solver along a line.
-use Rattle.std.specs.Prelude.{zero, ◌^◌, Bool, false, cond, nat_le, Option, Some, None, ℤ, pos, neg_ℤ, ◌+ℤ◌, ◌-ℤ◌, ◌*ℤ◌, unsigned_abs, int_lt}
+use Rattle.std.specs.Prelude.{zero, ◌^◌, Bool, false, cond, nat_le, Option, Some, None, ℤ, pos, neg_ℤ, ◌+ℤ◌, ◌-ℤ◌, ◌*ℤ◌, unsigned_abs, int_lt, unwrap_or}
+use Rattle.std.specs.Option.{option_map_or}
 use Rattle.fixed_geom.specs.Numbers.{rdiv}
 use Rattle.fixed_geom.specs.Reciprocals.{over_inverse_reciprocal}
 use Rattle.fixed_geom.specs.Vectors.{is_within, unit_length, dot, cross, plus, minus, opposite}
@@ -91,8 +92,7 @@ unfoldable pub along : Vec2 → ℤ → Vec2
 along n size = record { x = rdiv (size *ℤ n.x) unit_length; y = rdiv (size *ℤ n.y) unit_length }
 
 abbrev pub or_dropped : ℤ → Ends → ℤ → Option Ends → Exerted
-or_dropped old e new (Some after) = record { ends = after; total = new }
-or_dropped old e new None = record { ends = e; total = old }
+or_dropped old e new given = option_map_or (λ after. record { ends = after; total = new }) given (record { ends = e; total = old })
 
 -- the accumulated impulse brought from the old total to the new; it stays where the impulse is dropped
 unfoldable pub exerted : Line → ℤ → ℤ → Ends → Exerted
@@ -102,10 +102,6 @@ exerted line old new e = or_dropped old e new (impulse_pair (along line.directio
 unfoldable pub solved_impulse : Line → ℤ → ℤ → ℤ → ℤ → Ends → Exerted
 solved_impulse line bias low high total e = exerted line total (between low high (total +ℤ wanted (speed_along line e) bias line.inverse_mass)) e
 
-abbrev pub or_kept : Ends → Option Ends → Ends
-or_kept e (Some after) = after
-or_kept e None = e
-
 -- the warm start: the whole kept impulse given once; its total stays
 unfoldable pub warmed : Line → ℤ → Ends → Ends
-warmed line total e = or_kept e (impulse_pair (along line.direction total) line.ra line.rb e)
+warmed line total e = unwrap_or (impulse_pair (along line.direction total) line.ra line.rb e) e

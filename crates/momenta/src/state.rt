@@ -1,10 +1,10 @@
 //! A body within a step: how it moves, and how an impulse changes it.
 
-ghost use Rattle.std.specs.Prelude.{◌≡◌, ◌^◌, ◌≤◌, ◌+◌, ◌+ℤ◌, ◌-ℤ◌, ◌*ℤ◌, true, unsigned_abs, is_some, nat_le};
+ghost use Rattle.std.specs.Prelude.{◌≡◌, ◌^◌, ◌≤◌, ◌+◌, ◌+ℤ◌, ◌-ℤ◌, ◌*ℤ◌, true, unsigned_abs, is_some, nat_le, unwrap_or};
 ghost use Rattle.fixed_geom.specs.Numbers.{rdiv};
 ghost use Rattle.fixed_geom.specs.Vectors.{IsWithin, unit_length};
 ghost use Rattle.momenta.specs.declared.motion.Motion.{Motion};
-ghost use Rattle.momenta.specs.Impulses.{velocity_at, travelled, given, turned_by, fits, impulse_pair, or_kept};
+ghost use Rattle.momenta.specs.Impulses.{velocity_at, travelled, given, turned_by, fits, impulse_pair};
 ghost use Rattle.momenta.specs.ImpulseBounds.{IsRoomy, IsState, AreStates, AreSameBodies};
 
 use crate::ranges::is_in;
@@ -209,7 +209,7 @@ pub fn impulse_pair(ends: &mut Ends, j: Vec2, ra: Vec2, rb: Vec2) -> bool
     requires impulse { IsWithin (2 ^ 45) j }
     requires first { IsWithin (unsigned_abs MAX_OFFSET) ra }
     requires second { IsWithin (unsigned_abs MAX_OFFSET) rb }
-    ensures value { ends.new ≡ or_kept ends.old (impulse_pair j ra rb ends.old) }
+    ensures value { ends.new ≡ unwrap_or (impulse_pair j ra rb ends.old) ends.old }
     ensures given { result ≡ is_some (impulse_pair j ra rb ends.old) }
     ensures states { AreStates ends.new }
     ensures same { AreSameBodies ends.old ends.new }

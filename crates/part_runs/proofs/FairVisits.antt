@@ -1,12 +1,13 @@
 -- What visits leave alone of two bodies, and that two movers' momenta keep their sum, whatever the row and the bodies are.
 use Rattle.std.proofs.Common.{◌≡◌, Bool, true, false, cond, Option, Some, None, ℤ, ◌+ℤ◌, neg_ℤ, arith, refl, ◌∙◌}
 use Rattle.std.proofs.lemmas.Int.{ints}
+use Rattle.std.specs.Prelude.{unwrap_or}
 use Rattle.fixed_geom.specs.Vectors.{opposite, plus}
 use Rattle.fixed_geom.specs.declared.vectors.Vec2.{Vec2}
 use Rattle.momenta.specs.declared.state.BodyState.{BodyState}
 use Rattle.momenta.specs.declared.state.Ends.{Ends}
 use Rattle.momenta.specs.declared.line.Line.{Line}
-use Rattle.momenta.specs.Impulses.{both, exerted, fits, given, impulse_pair, or_dropped, or_kept, solved_impulse, taken, warmed}
+use Rattle.momenta.specs.Impulses.{both, exerted, fits, given, impulse_pair, or_dropped, solved_impulse, taken, warmed}
 use Rattle.momenta.proofs.ImpulseLaws.{given_same}
 use Rattle.momenta.proofs.NoImpulse.{same_bodies, same_momentum}
 use Rattle.joint_rows.specs.Rows.{joint_solved, joint_warmed}
@@ -53,16 +54,16 @@ given_fair j ra rb e = record {
   };
 }
 
-pair_if : (t u : Bool) (e : Ends) (a b : BodyState) → AreFair e (record { a = a; b = b }) → AreFair e (or_kept e (both (cond t (Some a) None) (cond u (Some b) None)))
+pair_if : (t u : Bool) (e : Ends) (a b : BodyState) → AreFair e (record { a = a; b = b }) → AreFair e (unwrap_or (both (cond t (Some a) None) (cond u (Some b) None)) e)
 pair_if true true e a b h = h
 pair_if true false e a b h = still e
 pair_if false u e a b h = still e
 
-impulse_fair : (j ra rb : Vec2) (e : Ends) → AreFair e (or_kept e (impulse_pair j ra rb e))
+impulse_fair : (j ra rb : Vec2) (e : Ends) → AreFair e (unwrap_or (impulse_pair j ra rb e) e)
 unfolding impulse_pair taken
 impulse_fair j ra rb e = pair_if (fits (given (opposite j) ra e.a).motion) (fits (given j rb e.b).motion) e (given (opposite j) ra e.a) (given j rb e.b) (given_fair j ra rb e)
 
-dropped_is : (old new : ℤ) (e : Ends) (o : Option Ends) → (or_dropped old e new o).ends ≡ or_kept e o
+dropped_is : (old new : ℤ) (e : Ends) (o : Option Ends) → (or_dropped old e new o).ends ≡ unwrap_or o e
 dropped_is old new e (Some after) = refl
 dropped_is old new e None = refl
 

@@ -7,7 +7,7 @@ use Rattle.graph_colours.specs.declared.member.Member.{Member}
 use Rattle.islands.specs.declared.label.IslandState.{IslandState}
 use Rattle.islands.specs.declared.label.IslandState.TheVariants.{Whole, Loose}
 use Rattle.islands.specs.declared.label.Label.{Label}
-use Rattle.islands.specs.Labels.{Labels, label_at, is_in, IsIn, is_asleep, is_loose, with_state, union_label, merged, loosened, loosened_by}
+use Rattle.islands.specs.Labels.{Labels, label_at, is_in, IsIn, is_asleep, is_loose, with_state, union_label, merged, loosened}
 use Rattle.islands.specs.Partition.{IsPartition, AreTogether}
 use Rattle.islands.proofs.LabelLemmas.{in_is, same_by_name, of_either, either_case, either_is, either_to, others_stay, one_either}
 use Rattle.islands.proofs.SplitLemmas.{IsLabelled, still_labelled}
@@ -87,7 +87,7 @@ pub in_or_out : (labels : Labels) (name s : ℕ) → (is_in (label_at labels s) 
 in_or_out labels name s = elim (is_in (label_at labels s) name) as (λ t. (t ≡ true) ⊎ (t ≡ false)) [ true ↦ inl refl | false ↦ inr refl ]
 
 -- an awake island that gets loose leaves all as they are
-loosened_awake_by : (labels : Labels) (first t : ℕ) (o : Option Label) → label_at labels first ≡ o → IsPartition labels → is_mover_awake labels first ≡ true → is_mover_awake (loosened_by o labels) t ≡ is_mover_awake labels t
+loosened_awake_by : (labels : Labels) (first t : ℕ) (o : Option Label) → label_at labels first ≡ o → IsPartition labels → is_mover_awake labels first ≡ true → is_mover_awake (option_map_or (λ (label : Label). with_state label.name Loose labels) o labels) t ≡ is_mover_awake labels t
 loosened_awake_by labels first t None e p h = refl
 loosened_awake_by labels first t (Some l) e p h =
     let up : not (is_asleep l.state) ≡ true = sym (ap awake_label e) ∙ h in
@@ -101,7 +101,7 @@ unfolding loosened
 parted_awake labels first t None p h = refl
 parted_awake labels first t (Some b) p h = loosened_awake_by labels first t (label_at labels first) refl p h
 
-loosened_labelled_by : (labels : Labels) (t : ℕ) (o : Option Label) → IsLabelled labels t → IsLabelled (loosened_by o labels) t
+loosened_labelled_by : (labels : Labels) (t : ℕ) (o : Option Label) → IsLabelled labels t → IsLabelled (option_map_or (λ (label : Label). with_state label.name Loose labels) o labels) t
 loosened_labelled_by labels t None h = h
 loosened_labelled_by labels t (Some l) h = stated_labelled labels l.name Loose t h
 

@@ -8,7 +8,7 @@ use Rattle.graph_colours.specs.FoundMembers.{has_id}
 use Rattle.graph_colours.proofs.PlaceLemmas.{is_same, not_same, same_from}
 use Rattle.islands.specs.declared.label.IslandState.TheVariants.{Whole, Loose, Asleep}
 use Rattle.islands.specs.declared.label.Label.{Label}
-use Rattle.islands.specs.Labels.{Labels, label_at, is_in, is_loose, is_asleep, sleeping_name, relabel, relabelled, merged, merged_by, loosened, loosened_by, rested, woken, added, left_alone, taken_out, lowest_member}
+use Rattle.islands.specs.Labels.{Labels, label_at, is_in, is_loose, is_asleep, sleeping_name, relabel, relabelled, merged, merged_by, loosened, rested, woken, added, taken_out, lowest_member, left_behind, with_state}
 use Rattle.islands.specs.Partition.{IsPartition}
 use Rattle.islands.proofs.JoinLemmas.{contains_cases, contains_head, contains_tail}
 use Rattle.islands.proofs.LabelLemmas.{relabel_at, others_stay, added_here, added_other, in_case, in_is}
@@ -114,7 +114,7 @@ unfolding merged
 united_slots None first labels = λ t. refl
 united_slots (Some b) first labels = merged_slots (label_at labels first) (label_at labels b) labels
 
-loosened_slots : (o : Option Label) (labels : Labels) → SameSlots labels (loosened_by o labels)
+loosened_slots : (o : Option Label) (labels : Labels) → SameSlots labels (option_map_or (λ (label : Label). with_state label.name Loose labels) o labels)
 loosened_slots None labels = λ t. refl
 loosened_slots (Some l) labels = relabelled_slots l.name l.name (record { name = l.name; state = Loose }) labels
 
@@ -234,7 +234,7 @@ emptied labels slot other = elim (cases_eq other slot) [
   | inr e ↦ rw (not_same other slot e) (ap is_some (get_or-set_other labels slot other None None e))
 ]
 
-gone_by : (labels : Labels) (slot other : ℕ) (o : Option Label) → label_at labels slot ≡ o → is_some (label_at (left_alone o slot labels) other) ≡ (not (other == slot) && is_some (label_at labels other))
+gone_by : (labels : Labels) (slot other : ℕ) (o : Option Label) → label_at labels slot ≡ o → is_some (label_at (option_map_or (λ (label : Label). left_behind (lowest_member label.name (slice_set labels slot None)) label.name (slice_set labels slot None)) o labels) other) ≡ (not (other == slot) && is_some (label_at labels other))
 gone_by labels slot other None e = elim (cases_eq other slot) [
   | inl h ↦ rw (is_same other slot h) (ap (λ n. is_some (label_at labels n)) h ∙ ap is_some e)
   | inr h ↦ rw (not_same other slot h) refl

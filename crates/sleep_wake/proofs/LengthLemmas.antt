@@ -8,7 +8,7 @@ use Rattle.graph_colours.specs.declared.member.Member.{Member}
 use Rattle.graph_colours.specs.declared.member.Movers.{Movers}
 use Rattle.islands.specs.declared.label.IslandState.TheVariants.{Whole, Loose, Asleep}
 use Rattle.islands.specs.declared.label.Label.{Label}
-use Rattle.islands.specs.Labels.{Labels, added, is_asleep, is_loose, label_at, loosened, loosened_by, lowest_member, merged, merged_by, padded, relabel, relabelled, rested, taken_out, left_alone, woken}
+use Rattle.islands.specs.Labels.{Labels, added, is_asleep, is_loose, label_at, loosened, lowest_member, merged, merged_by, padded, relabel, relabelled, rested, taken_out, woken, left_behind, with_state}
 use Rattle.islands.specs.Links.{Linked}
 use Rattle.islands.specs.Partition.{AreIslands}
 use Rattle.islands.proofs.SplitLemmas.{split_size}
@@ -37,7 +37,7 @@ merged_long : (labels : Labels) (a b : ℕ) → length (merged labels a b) ≡ l
 unfolding merged
 merged_long labels a b = merged_by_long (label_at labels a) (label_at labels b) labels
 
-loosened_by_long : (o : Option Label) (labels : Labels) → length (loosened_by o labels) ≡ length labels
+loosened_by_long : (o : Option Label) (labels : Labels) → length (option_map_or (λ (label : Label). with_state label.name Loose labels) o labels) ≡ length labels
 loosened_by_long None labels = refl
 loosened_by_long (Some l) labels = relabelled_long l.name l.name (record { name = l.name; state = Loose }) labels
 
@@ -54,7 +54,7 @@ left_long : (t : Bool) (low name : ℕ) (labels : Labels) → length (cond t (re
 left_long true low name labels = relabelled_long name name (record { name = low; state = Loose }) labels
 left_long false low name labels = refl
 
-without_long : (o : Option Label) (slot : ℕ) (labels : Labels) → length (left_alone o slot labels) ≡ length labels
+without_long : (o : Option Label) (slot : ℕ) (labels : Labels) → length (option_map_or (λ (label : Label). left_behind (lowest_member label.name (slice_set labels slot None)) label.name (slice_set labels slot None)) o labels) ≡ length labels
 without_long None slot labels = refl
 without_long (Some l) slot labels =
     let rest : Labels = slice_set labels slot None in

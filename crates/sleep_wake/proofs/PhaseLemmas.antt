@@ -4,10 +4,11 @@ use Rattle.graph_colours.proofs.ListLemmas.{pairs_none}
 use Rattle.std.specs.Prelude.{Contains, filter, All, IfSome, fold}
 use Rattle.std.proofs.lemmas.Bool.{false≢true, cases_lt, eqb-true, eq-eqb, lt-ltb, le-ltb}
 use Rattle.std.proofs.lemmas.List.Elements.{All-nil, All-cons}
+use Rattle.std.specs.Option.{option_map_or}
 use Rattle.fixed_geom.proofs.UnbeatenLemmas.{found_is}
 use Rattle.graph_colours.specs.declared.member.Movers.{Movers}
 use Rattle.graph_colours.specs.declared.member.Member.{Member}
-use Rattle.graph_colours.specs.Movers.{has_mover, is_slot}
+use Rattle.graph_colours.specs.Movers.{has_mover}
 use Rattle.islands.specs.declared.label.IslandState.{IslandState}
 use Rattle.islands.specs.declared.label.IslandState.TheVariants.{Whole, Loose, Asleep}
 use Rattle.islands.specs.declared.label.Label.{Label}
@@ -101,9 +102,9 @@ not_slot a slot h e = false≢true (sym h ∙ eq-eqb a slot e)
 
 -- a constraint without the mover
 without_mover : (m : Movers) (slot : ℕ) → has_mover m slot ≡ false → (m.first ≢ slot) × ((b : ℕ) → m.second ≡ Some b → b ≢ slot)
-without_mover m slot h = let o = or_false (m.first == slot) (is_slot m.second slot) h in (not_slot m.first slot o.0, λ b e. not_slot b slot (sym (ap (λ v. is_slot v slot) e) ∙ o.1))
+without_mover m slot h = let o = or_false (m.first == slot) (option_map_or (λ other. other == slot) m.second false) h in (not_slot m.first slot o.0, λ b e. not_slot b slot (sym (ap (λ v. option_map_or (λ other. other == slot) v false) e) ∙ o.1))
 
-with_mover_by : (a slot : ℕ) (o : Option ℕ) (t : Bool) → (a == slot) ≡ t → ((a == slot) || is_slot o slot) ≡ true → (a ≡ slot) ⊎ (o ≡ Some slot)
+with_mover_by : (a slot : ℕ) (o : Option ℕ) (t : Bool) → (a == slot) ≡ t → ((a == slot) || option_map_or (λ other. other == slot) o false) ≡ true → (a ≡ slot) ⊎ (o ≡ Some slot)
 with_mover_by a slot o true e h = inl (eqb-true a slot e)
 with_mover_by a slot None false e h = let k : false ≡ true = rw e at h in absurd (false≢true k)
 with_mover_by a slot (Some b) false e h = let k : (b == slot) ≡ true = rw e at h in inr (ap (λ v. Some v) (eqb-true b slot k))

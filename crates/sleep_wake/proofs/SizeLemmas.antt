@@ -14,7 +14,7 @@ use Rattle.graph_colours.specs.Colours.{with_placed, released}
 use Rattle.graph_colours.proofs.ListLemmas.{same_inserted}
 use Rattle.islands.specs.declared.label.IslandState.TheVariants.{Whole, Loose, Asleep}
 use Rattle.islands.specs.declared.label.Label.{Label}
-use Rattle.islands.specs.Labels.{Labels, label_at, relabel, relabelled, added, is_asleep, merged, merged_by, loosened, loosened_by, taken_out, split_by, lowest_member, rested, woken}
+use Rattle.islands.specs.Labels.{Labels, label_at, relabel, relabelled, added, is_asleep, merged, merged_by, loosened, taken_out, split_by, lowest_member, rested, woken, with_state}
 use Rattle.islands.specs.Labels as labelled
 use Rattle.sleep_wake.specs.Acting.{Acting, acting}
 use Rattle.sleep_wake.specs.Changes.{parted, united, begun, ended}
@@ -38,7 +38,7 @@ pub united_size : (o : Option ℕ) (first : ℕ) (labels : Labels) → length (u
 united_size None first labels = refl
 united_size (Some b) first labels = merged_size labels first b
 
-loosened_by_size : (o : Option Label) (labels : Labels) → length (loosened_by o labels) ≡ length labels
+loosened_by_size : (o : Option Label) (labels : Labels) → length (option_map_or (λ (label : Label). with_state label.name Loose labels) o labels) ≡ length labels
 loosened_by_size None labels = refl
 loosened_by_size (Some l) labels = relabelled_size l.name l.name (record { name = l.name; state = Loose }) labels
 
@@ -51,7 +51,7 @@ left_size : (t : Bool) (low name : ℕ) (labels : Labels) → length (cond t (re
 left_size true low name labels = relabelled_size name name (record { name = low; state = Loose }) labels
 left_size false low name labels = refl
 
-gone_size : (o : Option Label) (slot : ℕ) (labels : Labels) → length (labelled.left_alone o slot labels) ≡ length labels
+gone_size : (o : Option Label) (slot : ℕ) (labels : Labels) → length (option_map_or (λ (label : Label). labelled.left_behind (lowest_member label.name (slice_set labels slot None)) label.name (slice_set labels slot None)) o labels) ≡ length labels
 gone_size None slot labels = refl
 gone_size (Some l) slot labels =
     let rest : Labels = slice_set labels slot None in

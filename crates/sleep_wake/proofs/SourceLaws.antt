@@ -11,7 +11,7 @@ use Rattle.graph_colours.proofs.PlaceLemmas.{not_same}
 use Rattle.islands.specs.declared.label.IslandState.{IslandState}
 use Rattle.islands.specs.declared.label.IslandState.TheVariants.{Whole, Loose}
 use Rattle.islands.specs.declared.label.Label.{Label}
-use Rattle.islands.specs.Labels.{Labels, label_at, is_in, is_asleep, is_loose, sleeping_name, relabel, relabelled, with_state, union_label, merged, merged_by, loosened, loosened_by, woken}
+use Rattle.islands.specs.Labels.{Labels, label_at, is_in, is_asleep, is_loose, sleeping_name, relabel, relabelled, with_state, union_label, merged, merged_by, loosened, woken}
 use Rattle.islands.specs.Partition.{IsPartition}
 use Rattle.islands.proofs.LabelLemmas.{in_is, same_by_name, relabel_at, either_case, either_is, either_to, either_one, others_stay, union_low}
 use Rattle.islands.proofs.SplitLemmas.{IsLabelled}
@@ -111,7 +111,7 @@ stated_sleepers labels n state up =
       members = λ name h t. ap (λ (v : Option Label). is_in v name) (relabel_at n n to labels t) ∙ stated_in n to (label_at labels t) name refl;
     }
 
-loosened_sleepers : (labels : Labels) (o : Option Label) → KeepSleepers labels (loosened_by o labels)
+loosened_sleepers : (labels : Labels) (o : Option Label) → KeepSleepers labels (option_map_or (λ (label : Label). with_state label.name Loose labels) o labels)
 loosened_sleepers labels None = sleepers_same labels
 loosened_sleepers labels (Some l) = stated_sleepers labels l.name Loose refl
 

@@ -1,12 +1,12 @@
 -- The momenta of two bodies stay within a bound, whatever impulses they give one another.
 use Rattle.std.proofs.Common.{◌≡◌, ℕ, ◌≤◌, ◌^◌, Bool, true, false, cond, nat_le, Option, Some, None, ℤ, unsigned_abs, arith, refl, subst}
-use Rattle.std.specs.Prelude.{◌-ℤ◌}
+use Rattle.std.specs.Prelude.{◌-ℤ◌, unwrap_or}
 use Rattle.std.proofs.lemmas.Grind.{common_steps}
 use Rattle.std.proofs.lemmas.Option.{none-some, same_Some}
 use Rattle.fixed_geom.specs.Vectors.{IsWithin, is_within, opposite}
 use Rattle.fixed_geom.specs.declared.vectors.Vec2.{Vec2}
 use Rattle.momenta.specs.Impulses as impulses
-use Rattle.momenta.specs.Impulses.{along, both, exerted, fits, given, impulse_pair, or_dropped, or_kept, taken, warmed}
+use Rattle.momenta.specs.Impulses.{along, both, exerted, fits, given, impulse_pair, or_dropped, taken, warmed}
 use Rattle.momenta.specs.declared.limits.TheConstants.{MAX_ANGULAR_MOMENTUM, MAX_MOMENTUM}
 use Rattle.momenta.specs.declared.line.Line.{Line}
 use Rattle.momenta.specs.declared.motion.Motion.{Motion}
@@ -61,7 +61,7 @@ pair_within j ra rb e now h = both_within (taken (opposite j) ra e.a) (taken j r
 wider_ends : (k : ℕ) (e : Ends) → 2 ^ 60 ≤ k → AreEndsWithin (2 ^ 60) e → AreEndsWithin k e
 wider_ends k e le h = record { a = wider (2 ^ 60) k e.a.motion.p le h.a; b = wider (2 ^ 60) k e.b.motion.p le h.b }
 
-kept_within : (k : ℕ) (e : Ends) (o : Option Ends) → 2 ^ 60 ≤ k → AreEndsWithin k e → ((now : Ends) → o ≡ Some now → AreEndsWithin (2 ^ 60) now) → AreEndsWithin k (or_kept e o)
+kept_within : (k : ℕ) (e : Ends) (o : Option Ends) → 2 ^ 60 ≤ k → AreEndsWithin k e → ((now : Ends) → o ≡ Some now → AreEndsWithin (2 ^ 60) now) → AreEndsWithin k (unwrap_or o e)
 kept_within k e None le h f = h
 kept_within k e (Some now) le h f = wider_ends k now le (f now refl)
 

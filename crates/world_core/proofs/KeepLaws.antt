@@ -8,7 +8,7 @@ use Rattle.graph_colours.specs.declared.member.Member.{Member}
 use Rattle.islands.specs.declared.label.IslandState.{IslandState}
 use Rattle.islands.specs.declared.label.IslandState.TheVariants.{Whole, Loose, Asleep}
 use Rattle.islands.specs.declared.label.Label.{Label}
-use Rattle.islands.specs.Labels.{Labels, is_asleep, label_at, loosened, loosened_by, merged, merged_by, relabel, relabelled, sleeping_name, union_label, woken}
+use Rattle.islands.specs.Labels.{Labels, is_asleep, label_at, loosened, merged, merged_by, relabel, relabelled, sleeping_name, union_label, woken, with_state}
 use Rattle.islands.proofs.LabelLemmas.{relabel_at}
 use Rattle.plain_world.specs.declared.body.Body.{Body}
 use Rattle.plain_world.specs.declared.body.SetName.TheVariants as sets
@@ -94,7 +94,7 @@ unfolding merged
 united_alike labels first None = alike_still labels
 united_alike labels first (Some second) = merged_alike labels (label_at labels first) (label_at labels second)
 
-loosened_alike : (labels : Labels) (o : Option Label) → StayAlike labels (loosened_by o labels)
+loosened_alike : (labels : Labels) (o : Option Label) → StayAlike labels (option_map_or (λ (label : Label). with_state label.name Loose labels) o labels)
 loosened_alike labels None = alike_still labels
 loosened_alike labels (Some l) = relabelled_alike l.name l.name (record { name = l.name; state = Loose }) labels
 

@@ -3,6 +3,7 @@ use Rattle.std.proofs.Common.{◌≡◌, ◌≢◌, ℕ, ◌+◌, ◌<◌, ◌^�
 use Rattle.std.specs.Prelude.{nat_lt, option_map, slice_set}
 use Rattle.std.proofs.lemmas.Bool.{cases_eq}
 use Rattle.std.proofs.lemmas.Option.{none-some, same_Some}
+use Rattle.std.specs.Option.{option_map_or}
 use Rattle.body_handles.specs.declared.handle.Handle.{Handle}
 use Rattle.body_handles.specs.SlotEntries.{slot_entries_without}
 use Rattle.contacts.specs.Constraints.{constraint_number}
@@ -13,7 +14,7 @@ use Rattle.graph_colours.specs.declared.member.Member.{Member}
 use Rattle.graph_colours.proofs.PlaceLemmas.{is_same}
 use Rattle.islands.specs.declared.label.IslandState.TheVariants.{Loose}
 use Rattle.islands.specs.declared.label.Label.{Label}
-use Rattle.islands.specs.Labels.{Labels, is_in, label_at, lowest_member, relabelled, sleeping_name, taken_out, left_alone}
+use Rattle.islands.specs.Labels.{Labels, is_in, label_at, lowest_member, relabelled, sleeping_name, taken_out, left_behind}
 use Rattle.islands.specs.Partition.{IsPartition}
 use Rattle.islands.proofs.JoinLemmas.{contains_head}
 use Rattle.islands.proofs.LabelLemmas.{either_case, either_one, either_to, others_stay, rest_of, rest_stays}
@@ -59,7 +60,7 @@ each_ended_alike (m ∷ ms) s w can k =
 
 -- ---- a mover leaves its island
 
-without_alike : (labels : Labels) (slot n : ℕ) (o : Option Label) → label_at labels slot ≡ o → IsPartition labels → is_mover_awake labels slot ≡ true → n ≢ slot → sleeping_name (label_at (left_alone o slot labels) n) ≡ sleeping_name (label_at labels n)
+without_alike : (labels : Labels) (slot n : ℕ) (o : Option Label) → label_at labels slot ≡ o → IsPartition labels → is_mover_awake labels slot ≡ true → n ≢ slot → sleeping_name (label_at (option_map_or (λ (label : Label). left_behind (lowest_member label.name (slice_set labels slot None)) label.name (slice_set labels slot None)) o labels) n) ≡ sleeping_name (label_at labels n)
 without_alike labels slot n None e p up off = refl
 without_alike labels slot n (Some l) e p up off = by (nat_lt (lowest_member l.name (rest_of labels slot)) (length (rest_of labels slot)))
   where

@@ -15,7 +15,7 @@ use Rattle.graph_colours.proofs.PlaceLemmas.{is_same, not_same}
 use Rattle.islands.specs.declared.label.IslandState.{IslandState}
 use Rattle.islands.specs.declared.label.IslandState.TheVariants.{Whole, Loose, Asleep}
 use Rattle.islands.specs.declared.label.Label.{Label}
-use Rattle.islands.specs.Labels.{IsIn, Labels, is_asleep, is_in, is_loose, label_at, loosened, loosened_by, merged, merged_by, own_label, relabel, relabelled, rested, sleeping_name, union_label, with_state, woken}
+use Rattle.islands.specs.Labels.{IsIn, Labels, is_asleep, is_in, is_loose, label_at, loosened, merged, merged_by, own_label, relabel, relabelled, rested, sleeping_name, union_label, with_state, woken}
 use Rattle.islands.specs.Links.{Edges, Linked}
 use Rattle.islands.specs.Partition.{Inside, IsPartition, IsSplit}
 use Rattle.islands.proofs.JoinLemmas.{contains_head, contains_tail, joined_within}
@@ -333,7 +333,7 @@ unfolding merged
 united_slept labels first None = λ t n e. refl
 united_slept labels first (Some second) = merged_slept labels (label_at labels first) (label_at labels second)
 
-loosened_slept : (labels : Labels) (o : Option Label) → HaveSlept labels (loosened_by o labels)
+loosened_slept : (labels : Labels) (o : Option Label) → HaveSlept labels (option_map_or (λ (label : Label). with_state label.name Loose labels) o labels)
 loosened_slept labels None = λ t n e. refl
 loosened_slept labels (Some l) = relabelled_slept l.name l.name (record { name = l.name; state = Loose }) labels refl
 

@@ -4,8 +4,9 @@ use Rattle.std.specs.Prelude.{slice_index_or}
 use Rattle.std.proofs.lemmas.Bool.{false≢true}
 use Rattle.std.proofs.lemmas.List.Folds.{list_any_none}
 use Rattle.std.specs.List.{list_any}
+use Rattle.std.specs.Option.{option_map_or}
 use Rattle.graph_colours.specs.Members.{is_free}
-use Rattle.graph_colours.specs.Movers.{has_mover, has_second}
+use Rattle.graph_colours.specs.Movers.{has_mover}
 use Rattle.graph_colours.specs.declared.member.Movers.{Movers}
 use Rattle.graph_colours.specs.declared.member.Member.{Member}
 use Rattle.graph_colours.proofs.Cases.{or_pairs}
@@ -19,14 +20,14 @@ any_or : {X : Type 0} (p q : X → Bool) (xs : List X) → list_any (λ x. p x |
 any_or p q [] = refl
 any_or p q (x ∷ xs) = ap (λ t. (p x || q x) || t) (any_or p q xs) ∙ or_pairs (p x) (q x) (list_any p xs) (list_any q xs)
 
-second_taken : {C : Type 0} (ms : List (Member C)) (used : List Bool) (second : Option ℕ) → AreTaken ms used → list_any (λ m. has_second m.movers second) ms ≡ is_second_taken used second
+second_taken : {C : Type 0} (ms : List (Member C)) (used : List Bool) (second : Option ℕ) → AreTaken ms used → list_any (λ m. option_map_or (has_mover m.movers) second false) ms ≡ is_second_taken used second
 second_taken ms used None taken = list_any_none (λ m. false) ms (λ k d lt. refl)
 second_taken ms used (Some s) taken = sym (taken s)
 
 free_is_untaken : {C : Type 0} (ms : List (Member C)) (used : List Bool) (movers : Movers) → AreTaken ms used → not (is_mover_taken used movers) ≡ is_free ms movers
 unfolding is_free
 free_is_untaken ms used movers taken =
-    let all : list_any (λ m. has_mover m.movers movers.first || has_second m.movers movers.second) ms ≡ (list_any (λ m. has_mover m.movers movers.first) ms || list_any (λ m. has_second m.movers movers.second) ms) = any_or (λ m. has_mover m.movers movers.first) (λ m. has_second m.movers movers.second) ms in
+    let all : list_any (λ m. has_mover m.movers movers.first || option_map_or (has_mover m.movers) movers.second false) ms ≡ (list_any (λ m. has_mover m.movers movers.first) ms || list_any (λ m. option_map_or (has_mover m.movers) movers.second false) ms) = any_or (λ m. has_mover m.movers movers.first) (λ m. option_map_or (has_mover m.movers) movers.second false) ms in
     ap not (sym (all ∙ rw (second_taken ms used movers.second taken, taken movers.first) refl))
 
 apart_by : (b : Bool) (t : Tie) (ms : List (Member Constraint)) (used : List Bool) → AreTaken ms used → (cond b (not (is_mover_taken used t.member.movers)) true && share_no_mover ms) ≡ share_no_mover (cond b (t.member ∷ ms) ms)

@@ -10,7 +10,7 @@ use Rattle.contacts.specs.Constraints.{constraint_number}
 use Rattle.contacts.specs.declared.constraint.Constraint.{Constraint}
 use Rattle.islands.specs.declared.label.IslandState.TheVariants.{Loose}
 use Rattle.islands.specs.declared.label.Label.{Label}
-use Rattle.islands.specs.Labels.{Labels, is_in, label_at, lowest_member, relabelled, taken_out, left_alone}
+use Rattle.islands.specs.Labels.{Labels, is_in, label_at, lowest_member, relabelled, taken_out, left_behind}
 use Rattle.islands.proofs.LabelLemmas.{relabel_at}
 use Rattle.plain_world.specs.declared.body.Body.{Body}
 use Rattle.plain_world.specs.Bodies as bodies
@@ -40,7 +40,7 @@ left_awake true low name k labels h =
     ap awake_label (relabel_at name name (record { name = low; state = Loose }) labels k) ∙ relabel_awake (is_in (label_at labels k) name || is_in (label_at labels k) name) low (label_at labels k) h
 left_awake false low name k labels h = h
 
-without_awake : (o : Option Label) (slot k : ℕ) (labels : Labels) → k ≢ slot → is_mover_awake labels k ≡ true → is_mover_awake (left_alone o slot labels) k ≡ true
+without_awake : (o : Option Label) (slot k : ℕ) (labels : Labels) → k ≢ slot → is_mover_awake labels k ≡ true → is_mover_awake (option_map_or (λ (label : Label). left_behind (lowest_member label.name (slice_set labels slot None)) label.name (slice_set labels slot None)) o labels) k ≡ true
 without_awake None slot k labels far h = h
 without_awake (Some l) slot k labels far h =
     let rest : Labels = slice_set labels slot None in

@@ -1,9 +1,9 @@
 -- The contacts that a collide makes are of bodies that are there, one of them a mover, and their numbers are within their limits.
 use Rattle.std.proofs.Common.{◌≡◌, ℕ, suc, ◌+◌, ◌^◌, ◌<◌, ◌≤◌, Bool, true, false, cond, ℤ, pos, ◌≤ℤ◌, unsigned_abs, List, [], ◌∷◌, ◌++◌, length, Option, Some, None, option_map, IfSome, All, ◌⊎◌, inl, inr, arith, refl, sym, ap, ap₂, ◌∙◌, subst, is_some, le-leb, map}
-use Rattle.std.specs.Prelude.{◌==◌, ◌&&◌, ◌||◌, ◌≢◌, filter, int_le, int_lt, nat_le, slice_get}
+use Rattle.std.specs.Prelude.{◌==◌, ◌&&◌, ◌||◌, ◌≢◌, filter, int_le, int_lt, nat_le, slice_get, unwrap_or}
 use Rattle.std.specs.List.{list_all}
 use Rattle.fixed_geom.specs.declared.refusal.Refusal.TheVariants.{BadShape, OutOfRange}
-use Rattle.std.specs.Option.{ForSome}
+use Rattle.std.specs.Option.{ForSome, option_or}
 use Rattle.std.proofs.lemmas.Bool.{eqb-false, leb-true}
 use Rattle.std.proofs.lemmas.Bool.Decides.{nat_tests}
 use Rattle.std.proofs.lemmas.Grind.{common_steps}
@@ -33,12 +33,13 @@ use Rattle.contacts_base.specs.Surfaces.{mixed}
 use Rattle.contacts_base.specs.declared.limits.TheConstants.{MAX_FRICTION, MAX_RESTITUTION}
 use Rattle.contacts_base.specs.declared.surface.Surface.{Surface}
 use Rattle.contacts_base.specs.Contacts.{number_of, lookup}
-use Rattle.contacts_base.specs.Evaluate.{apart, impulses_at, first_impulses, kept, kept_point, evaluated}
+use Rattle.contacts_base.specs.Evaluate.{apart, impulses_at, kept, kept_point, evaluated, no_impulses}
 use Rattle.contacts_base.specs.Limits.{IsContactPoint, IsContact}
 use Rattle.contacts_base.specs.Near.{is_near, one_stirs}
-use Rattle.contacts.specs.ByPairs.{contact_of_pair, contacts_between, may_collide, near_pairs, pairs_with}
+use Rattle.contacts.specs.ByPairs.{contacts_between, near_pairs}
 use Rattle.contacts.specs.Changes.{entry_with, entry_of, kept_contact, surface_with, key_of}
 use Rattle.contacts.proofs.Members.{Each, each_in, each_from, each_append, all_from_each}
+use Rattle.contacts.specs.Forbidden.{is_forbidden}
 use Rattle.graph_colours.proofs.PlaceLemmas.{same_from}
 use Rattle.body_handles.specs.declared.slot_table.TheConstants.{MAX_SLOTS}
 use Rattle.plain_world.specs.declared.body.Body.{Body}
@@ -204,14 +205,14 @@ near_step : (bodies : List (Option Body)) (p q : Proxy) (t : Bool) (qs : List Pr
 near_step bodies p q true qs h rest = (h refl, rest)
 near_step bodies p q false qs h rest = rest
 
-with_are : (bodies : List (Option Body)) (p : Proxy) (qs : List Proxy) → IsProxyIn 0 bodies p → Each (IsProxyIn 0 bodies) qs → Each (IsFrom p.id.slot) qs → Each (IsNearPair bodies) (pairs_with p qs)
+with_are : (bodies : List (Option Body)) (p : Proxy) (qs : List Proxy) → IsProxyIn 0 bodies p → Each (IsProxyIn 0 bodies) qs → Each (IsFrom p.id.slot) qs → Each (IsNearPair bodies) (map (λ (other : Proxy). (p, other)) (filter (is_near p) qs))
 with_are bodies p [] is are from = tt
 with_are bodies p (q ∷ qs) is are from =
     near_step bodies p q (is_near p q) (filter (is_near p) qs) (λ e. record { first = is; second = are.0; order = from.0; near = e }) (with_are bodies p qs is are.1 from.1)
 
 near_pairs_are : (bodies : List (Option Body)) (ps : List Proxy) → Each (IsProxyIn 0 bodies) ps → AreAscending ps → Each (IsNearPair bodies) (near_pairs ps)
 near_pairs_are bodies [] are up = tt
-near_pairs_are bodies (p ∷ ps) are up = each_append (IsNearPair bodies) (pairs_with p ps) (near_pairs ps) (with_are bodies p ps are.0 are.1 up.0) (near_pairs_are bodies ps are.1 up.1)
+near_pairs_are bodies (p ∷ ps) are up = each_append (IsNearPair bodies) (map (λ (other : Proxy). (p, other)) (filter (is_near p) ps)) (near_pairs ps) (with_are bodies p ps are.0 are.1 up.0) (near_pairs_are bodies ps are.1 up.1)
 
 near_if : (same a b collide over : Bool) → cond same false (cond (a || b) (cond collide over false) false) ≡ true → (same ≡ false) × ((a ≡ true) ⊎ (b ≡ true))
 near_if true a b collide over e = cc
@@ -259,7 +260,7 @@ impulses_within (Some p) candidate h =
     let is : IsContactPoint p = h p refl in
     chosen_within (p.candidate == candidate) (record { normal_impulse = p.normal_impulse; tangent_impulse = p.tangent_impulse }) (record { normal_impulse_low = is.normal_impulse_low; normal_impulse_high = is.normal_impulse_high; tangent_impulse = is.tangent_impulse })
 
-first_within : (o other : Option Impulses) → ForSome o AreImpulses → ForSome other AreImpulses → AreImpulses (first_impulses o other)
+first_within : (o other : Option Impulses) → ForSome o AreImpulses → ForSome other AreImpulses → AreImpulses (unwrap_or (option_or o other) no_impulses)
 first_within (Some i) other h l = h i refl
 first_within None (Some i) h l = l i refl
 first_within None None h l = record { normal_impulse_low = omega arith; normal_impulse_high = omega arith; tangent_impulse = omega arith }
@@ -463,8 +464,8 @@ unfolding contacts_after contacts_between
 all_after P bodies joints old all each =
     let pairs : List (Proxy × Proxy) = near_pairs (proxies_of bodies) in
     let are : All (IsNearPair bodies) pairs = all_from_each (IsNearPair bodies) pairs (near_pairs_are bodies (proxies_of bodies) (proxies_are 0 bodies all) (proxies_ascend 0 bodies)) in
-    let each_pair : All (λ pair. P (contact_of_pair old pair)) pairs = All-weaker (IsNearPair bodies) (λ pair. P (contact_of_pair old pair)) (λ pair h. each pair.0 pair.1 h.first h.second h.order h.near) pairs are in
-    All-map P (contact_of_pair old) (filter (may_collide (forbidden_pairs joints)) pairs) (All-filter (may_collide (forbidden_pairs joints)) (λ pair. P (contact_of_pair old pair)) pairs each_pair)
+    let each_pair : All (λ pair. P (entry_of old pair.0 pair.1)) pairs = All-weaker (IsNearPair bodies) (λ pair. P (entry_of old pair.0 pair.1)) (λ pair h. each pair.0 pair.1 h.first h.second h.order h.near) pairs are in
+    All-map P (λ (pair : Proxy × Proxy). entry_of old pair.0 pair.1) (filter (λ (pair : Proxy × Proxy). not (is_forbidden (forbidden_pairs joints) pair.0 pair.1)) pairs) (All-filter (λ (pair : Proxy × Proxy). not (is_forbidden (forbidden_pairs joints) pair.0 pair.1)) (λ pair. P (entry_of old pair.0 pair.1)) pairs each_pair)
 
 pub contacts_of_after : (bodies : List (Option Body)) (joints : List (Option BodyJoint)) (old : List ContactEntry) → AreBodies bodies → AreContactsOf bodies old → AreContactsOf bodies (contacts_after bodies joints old)
 contacts_of_after bodies joints old all pairs =

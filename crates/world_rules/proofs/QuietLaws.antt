@@ -2,13 +2,14 @@
 use Rattle.std.proofs.Common.{◌≡◌, ℕ, suc, List, [], ◌∷◌, All, get_or, Bool, true, false, cond, Option, Some, None, inl, inr, refl, sym, ap, ◌∙◌, subst}
 use Rattle.std.specs.Prelude.{Contains, ◌||◌, option_map}
 use Rattle.std.proofs.lemmas.List.Elements.{All-head, All-tail, All-weaker, Contains-get_or}
+use Rattle.std.specs.Option.{option_map_or}
 use Rattle.graph_colours.specs.declared.member.Member.{Member}
 use Rattle.graph_colours.specs.declared.member.Movers.{Movers}
 use Rattle.contacts.specs.Constraints.{constraint_number}
 use Rattle.contacts.specs.declared.constraint.Constraint.{Constraint}
 use Rattle.islands.specs.declared.label.IslandState.TheVariants.{Whole, Loose}
 use Rattle.islands.specs.declared.label.Label.{Label}
-use Rattle.islands.specs.Labels.{Labels, is_loose, label_at, loosened, loosened_by, merged, merged_by, relabelled, sleeping_name, union_label, with_state}
+use Rattle.islands.specs.Labels.{Labels, is_loose, label_at, loosened, merged, merged_by, relabelled, sleeping_name, union_label, with_state}
 use Rattle.islands.specs.Partition.{IsPartition}
 use Rattle.islands.proofs.LabelLemmas.{either_case, either_to, merged_partition, others_stay}
 use Rattle.plain_world.specs.declared.body.Body.{Body}
@@ -112,7 +113,7 @@ united_partition labels first (Some b) p h =
 
 -- ---- an island that is awake gets loose
 
-loosened_alike_by : (labels : Labels) (first : ℕ) (o : Option Label) → label_at labels first ≡ o → ((k : ℕ) → is_mover_awake (loosened_by o labels) k ≡ is_mover_awake labels k) → SleepAlike labels (loosened_by o labels)
+loosened_alike_by : (labels : Labels) (first : ℕ) (o : Option Label) → label_at labels first ≡ o → ((k : ℕ) → is_mover_awake (option_map_or (λ (label : Label). with_state label.name Loose labels) o labels) k ≡ is_mover_awake labels k) → SleepAlike labels (option_map_or (λ (label : Label). with_state label.name Loose labels) o labels)
 loosened_alike_by labels first None e same k = refl
 loosened_alike_by labels first (Some l) e same k =
     elim (either_case l.name l.name (label_at labels k)) [
