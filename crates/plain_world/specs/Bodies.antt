@@ -1,6 +1,6 @@
 -- Trusted: Bodies: which are movers, where each stands, and what may be made.
 use Rattle.std.specs.Prelude.{◌≡◌, ℕ, ◌^◌, Bool, true, false, ◌&&◌, ◌||◌, cond, All, List, Option, Some, None, pos, slice_get}
-use Rattle.std.specs.Option.{is_none}
+use Rattle.std.specs.Option.{is_none, option_map_or, option_or}
 use Rattle.std.specs.Ordering.{int_eq}
 use Rattle.fixed_geom.specs.Vectors.{IsWithin, is_within}
 use Rattle.fixed_geom.specs.Facings.{IsFacing, is_facing}
@@ -32,8 +32,7 @@ abbrev pub is_mover : Body → Bool
 is_mover b = cond b.enabled (is_dynamic b.kind) false
 
 abbrev pub is_mover_in : Option Body → Bool
-is_mover_in None = false
-is_mover_in (Some b) = is_mover b
+is_mover_in body = option_map_or is_mover body false
 
 -- a mover is in the slot
 abbrev pub moves : List (Option Body) → ℕ → Bool
@@ -86,21 +85,15 @@ is_mass_allowed Static m = is_no_mass m
 is_mass_allowed (Kinematic course) m = is_no_mass m
 is_mass_allowed Dynamic m = is_between (pos 1) (pos (2 ^ 20)) m.mass && is_between (pos 0) (pos (2 ^ 60)) m.inertia
 
-abbrev pub numbers_refusal : BodyDef → Option Refusal
-numbers_refusal d =
+-- why a body can't be made: first its shapes, of which segments are for static bodies alone, then its numbers
+unfoldable pub def_refusal : BodyDef → Option Refusal
+def_refusal d =
+    option_or (shapes_refusal (is_static d.kind) d.shapes) (
     refused_unless (is_mass_allowed d.kind d.mass) OutOfRange (
     refused_unless (is_course_allowed d.kind) OutOfRange (
     refused_unless (is_within (2 ^ 36) d.x) OutOfRange (
     refused_unless (is_facing d.rot) OutOfRange (
-    None))))
-
-abbrev pub first_refusal : Option Refusal → Option Refusal → Option Refusal
-first_refusal (Some e) later = Some e
-first_refusal None later = later
-
--- why a body can't be made: first its shapes, of which segments are for static bodies alone, then its numbers
-unfoldable pub def_refusal : BodyDef → Option Refusal
-def_refusal d = first_refusal (shapes_refusal (is_static d.kind) d.shapes) (numbers_refusal d)
+    None)))))
 
 abbrev pub at_rest : Vec2 → Rot → Motion
 at_rest x rot = record { p = record { x = pos 0; y = pos 0 }; l = pos 0; x = x; rot = rot }

@@ -1,5 +1,6 @@
 -- Trusted: Changes of one body in its slot: those that leave it an awake mover, or carried along, or neither, as it was, and those that disable and enable it.
-use Rattle.std.specs.Prelude.{Bool, true, false, cond, ℕ, List, Option, Some, None, option_map, slice_set}
+use Rattle.std.specs.Prelude.{Bool, true, false, cond, ℕ, List, Option, None, option_map, slice_set}
+use Rattle.std.specs.Option.{option_map_or}
 use Rattle.momenta.specs.declared.motion.Momenta.{Momenta}
 use Rattle.shapes.specs.declared.pose.Pose.{Pose}
 use Rattle.plain_world.specs.declared.body.Body.{Body}
@@ -16,8 +17,7 @@ changed_at f bodies slot = slice_set bodies slot (option_map f (body_at bodies s
 
 -- an awake mover is there
 abbrev pub is_awake_in : Option Body → Bool
-is_awake_in None = false
-is_awake_in (Some b) = is_awake b
+is_awake_in body = option_map_or is_awake body false
 
 -- ---- the changes
 

@@ -1,5 +1,5 @@
 -- Trusted: How the shapes and the contacts of a world are formed.
-use Rattle.std.specs.Prelude.{◌≡◌, ℕ, ◌-◌, ◌^◌, ◌<◌, ◌≤◌, ◌==◌, ◌&&◌, Bool, false, cond, nat_le, All, List, slice_get, Option, Some, None, pos, negsuc, ◌≤ℤ◌, int_le, unsigned_abs}
+use Rattle.std.specs.Prelude.{◌≡◌, ℕ, ◌-◌, ◌^◌, ◌<◌, ◌≤◌, ◌==◌, ◌&&◌, Bool, false, cond, nat_le, All, List, slice_get, Option, Some, None, pos, negsuc, ◌≤ℤ◌, int_le, unsigned_abs, option_and_then}
 use Rattle.std.specs.Option.{ForSome}
 use Rattle.contacts_base.specs.Surfaces.{mixed}
 use Rattle.contacts_base.specs.declared.contact.Contact.{Contact}
@@ -33,8 +33,7 @@ AreFiltered bodies = (slot : ℕ) (b : Body) → body_at bodies slot ≡ Some b 
 
 -- the shape at an index of an enabled body, if there is one
 abbrev pub shape_of_body : Option Body → ℕ → Option ShapeDef
-shape_of_body None index = None
-shape_of_body (Some b) index = cond b.enabled (slice_get b.shapes index) None
+shape_of_body body index = option_and_then (λ (b : Body). cond b.enabled (slice_get b.shapes index) None) body
 
 -- the shape of this name
 abbrev pub shape_with_id : List (Option Body) → ShapeId → Option ShapeDef

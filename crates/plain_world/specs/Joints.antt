@@ -1,6 +1,7 @@
 -- Trusted: Joints by slot: which may be made, which stand between which bodies, and which bodies they keep from colliding.
-use Rattle.std.specs.Prelude.{◌≡◌, ◌≢◌, ℕ, ◌==◌, ◌||◌, Bool, true, false, cond, is_some, List, Option, Some, None, pos, unsigned_abs, map, option_map}
+use Rattle.std.specs.Prelude.{◌≡◌, ◌≢◌, ℕ, ◌==◌, ◌||◌, Bool, true, false, cond, is_some, List, Option, Some, None, pos, unsigned_abs, map, option_map, option_and_then}
 use Rattle.std.specs.List.{filter_map}
+use Rattle.std.specs.Option.{option_map_or}
 use Rattle.fixed_geom.specs.Refusals.{refused_unless}
 use Rattle.fixed_geom.specs.Vectors.{is_within}
 use Rattle.fixed_geom.specs.declared.refusal.Refusal.{Refusal}
@@ -46,8 +47,7 @@ abbrev pub is_joint_of : ℕ → BodyJoint → Bool
 is_joint_of slot j = (j.a == slot) || (j.b == slot)
 
 abbrev pub is_end_in : ℕ → Option BodyJoint → Bool
-is_end_in slot None = false
-is_end_in slot (Some j) = is_joint_of slot j
+is_end_in slot joint = option_map_or (is_joint_of slot) joint false
 
 -- ---- joints of a body that takes no part
 
@@ -64,13 +64,9 @@ idle_joints slot joints = map (option_map (idle_if slot)) joints
 abbrev pub forbidden_by : BodyJoint → Option BodyPair
 forbidden_by j = cond j.collide None (Some (record { a = j.a; b = j.b }))
 
-abbrev pub forbidden_in : Option BodyJoint → Option BodyPair
-forbidden_in None = None
-forbidden_in (Some j) = forbidden_by j
-
 -- all pairs of bodies that joints keep from colliding
 abbrev pub forbidden_pairs : List (Option BodyJoint) → List BodyPair
-forbidden_pairs joints = filter_map forbidden_in joints
+forbidden_pairs joints = filter_map (option_and_then forbidden_by) joints
 
 -- ---- what must hold of joints
 

@@ -1,18 +1,15 @@
 -- Trusted: Items by slot, bodies or joints, beside the places that say which slots are taken.
 use Rattle.std.specs.Prelude.{◌≡◌, ℕ, ◌≤◌, Bool, false, cond, List, [], ◌∷◌, ◌++◌, length, nat_lt, Option, Some, None, is_some, slice_get, slice_set}
+use Rattle.std.specs.Option.{option_map_or, option_flatten}
 use Rattle.body_handles.specs.declared.handle.Handle.{Handle}
 use Rattle.body_handles.specs.declared.slot_table.SlotEntry.{SlotEntry}
 use Rattle.body_handles.specs.declared.slot_table.TheConstants.{MAX_SLOTS}
 use Rattle.body_handles.specs.SlotEntries.{is_live}
 use Rattle.plain_world.specs.declared.body.Body.{Body}
 
-abbrev pub item_in : {X : Type 0} → Option (Option X) → Option X
-item_in None = None
-item_in (Some o) = o
-
 -- what a slot contains
 abbrev pub item_at : {X : Type 0} → List (Option X) → ℕ → Option X
-item_at items slot = item_in (slice_get items slot)
+item_at items slot = option_flatten (slice_get items slot)
 
 -- an item put into a slot, or into a new one at the end
 abbrev pub with_item : {X : Type 0} → List (Option X) → ℕ → X → List (Option X)
@@ -31,8 +28,7 @@ body_of slot_entries bodies h = cond (is_live slot_entries h) (body_at bodies h.
 
 -- whether the slot is taken
 abbrev pub is_taken_entry : Option SlotEntry → Bool
-is_taken_entry None = false
-is_taken_entry (Some p) = p.live
+is_taken_entry entry = option_map_or (λ (p : SlotEntry). p.live) entry false
 
 abbrev pub is_taken : List SlotEntry → ℕ → Bool
 is_taken slot_entries slot = is_taken_entry (slice_get slot_entries slot)

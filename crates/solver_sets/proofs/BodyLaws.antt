@@ -4,6 +4,7 @@ use Rattle.std.proofs.lemmas.Bool.{cases_eq, false≢true}
 use Rattle.std.proofs.lemmas.List.{length-set}
 use Rattle.std.proofs.lemmas.List.Elements.{All-contains}
 use Rattle.std.proofs.lemmas.Option.{none-some, same_Some}
+use Rattle.std.specs.Option.{option_flatten}
 use Rattle.body_handles.specs.declared.handle.Handle.{Handle}
 use Rattle.body_handles.specs.SlotEntries.{IsLive, slot_entries_without}
 use Rattle.graph_colours.specs.declared.member.Member.{Member}
@@ -21,7 +22,7 @@ use Rattle.sleep_wake.specs.ChangeLists.{each_inserted, each_without}
 use Rattle.plain_world.specs.declared.body.Body.{Body}
 use Rattle.plain_world.specs.declared.joint.BodyJoint.{BodyJoint}
 use Rattle.plain_world.specs.Joints.{AreJoints, is_end_in, is_joint_of, joint_at}
-use Rattle.plain_world.specs.Slots.{body_at, item_in, with_body}
+use Rattle.plain_world.specs.Slots.{body_at, with_body}
 use Rattle.solver_sets.specs.Beside.{joined_by, joined_to, mover_beside, neighbours, touched_by, touched_with}
 use Rattle.solver_sets.specs.Joining.{handle_at, unjoined, unjoined_all, unjoined_up}
 use Rattle.solver_sets.specs.Laws as laws
@@ -303,7 +304,7 @@ alike_with : (slot : ℕ) (bodies : List (Option Body)) (b : Body) → slot ≤ 
 alike_with slot bodies b le =
     let at : nat_lt slot (length bodies) ≡ false → slot ≡ length bodies = λ q. let past = ltb-false slot (length bodies) q in omega (arith, le, past) in
     let same : (other : ℕ) → (slot == other) ≡ false → body_at (with_body bodies slot b) other ≡ body_at bodies other = λ other far.
-    ap item_in (slice_get-with (nat_lt slot (length bodies)) bodies slot other (Some b) at (λ e. true_or_false (slot == other) (is_same slot other (sym e)) far)) in
+    ap option_flatten (slice_get-with (nat_lt slot (length bodies)) bodies slot other (Some b) at (λ e. true_or_false (slot == other) (is_same slot other (sym e)) far)) in
     record { enabled = λ other far. rw (same other far) refl; movers = λ other far. rw (same other far) refl }
 
 pub coming : laws.ComingKeepsTies

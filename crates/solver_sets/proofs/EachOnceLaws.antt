@@ -1,6 +1,6 @@
 -- What stands somewhere in a world is each body, joint and contact that there is, once, in its set; so its census lists each once.
 use Rattle.std.proofs.Common.{◌≡◌, ◌⊎◌, ℕ, zero, suc, ◌+◌, ◌<◌, ◌==◌, ◌&&◌, ◌||◌, Bool, true, false, cond, List, [], ◌∷◌, ◌++◌, map, Option, Some, None, option_map, is_some, slice_get, inl, inr, refl, sym, ap, ap₂, ◌∙◌, subst, arith}
-use Rattle.std.specs.List.{cons_option}
+use Rattle.std.specs.List.{cons_option, find}
 use Rattle.std.proofs.lemmas.Option.{none-some, same_Some}
 use Rattle.body_handles.specs.declared.handle.Handle.{Handle}
 use Rattle.body_handles.specs.declared.slot_table.SlotEntry.{SlotEntry}
@@ -26,7 +26,7 @@ use Rattle.solver_sets.specs.declared.census.Item.{Item}
 use Rattle.solver_sets.specs.declared.census.Item.TheVariants as items
 use Rattle.solver_sets.specs.Laws as laws
 use Rattle.solver_sets.specs.Census.{Standing, body_standings, census_in, census_of, contact_standing, contact_standings, in_set, is_awake_at, joint_standings, listed, mover_set, set_with, standing_apart, standing_between, standing_if, standing_of_contact, standing_of_joint, standings_from, standings_of}
-use Rattle.solver_sets.specs.EachOnce.{HasSleeper, IsPresent, ListsEachOnce, contact_of, has_key, is_same_shape, list_of, sleeping_set_names, stand}
+use Rattle.solver_sets.specs.EachOnce.{HasSleeper, IsPresent, ListsEachOnce, has_key, is_same_shape, list_of, sleeping_set_names, stand}
 use Rattle.solver_sets.specs.Alike.{OnlyMoversSleep}
 use Rattle.solver_sets.specs.Ties.{JointSlots, is_enabled}
 use Rattle.solver_sets.proofs.BondLaws.{rises_from_keys}
@@ -239,14 +239,14 @@ shape_same a = both (a.slot == a.slot) (a.index == a.index) (is_same a.slot a.sl
 own_key : (e : ContactEntry) → has_key e.key e ≡ true
 own_key e = both (is_same_shape e.key.first e.key.first) (is_same_shape e.key.second e.key.second) (shape_same e.key.first) (shape_same e.key.second)
 
-found_by : (c e : ContactEntry) (contacts : List ContactEntry) (t : Bool) → has_key e.key c ≡ t → Rises number_of (c ∷ contacts) → IsIn e (c ∷ contacts) → (IsIn e contacts → contact_of contacts e.key ≡ Some e) → cond t (Some c) (contact_of contacts e.key) ≡ Some e
+found_by : (c e : ContactEntry) (contacts : List ContactEntry) (t : Bool) → has_key e.key c ≡ t → Rises number_of (c ∷ contacts) → IsIn e (c ∷ contacts) → (IsIn e contacts → find (has_key e.key) contacts ≡ Some e) → cond t (Some c) (find (has_key e.key) contacts) ≡ Some e
 found_by c e contacts true k r h rest = ap (λ (z : ContactEntry). Some z) (only_one number_of (c ∷ contacts) c e r (inl refl) h (ap key_number (key_is e.key c k)))
 found_by c e contacts false k r h rest = elim h [
   | inl p ↦ absurd (true_or_false (has_key e.key c) (ap (λ (z : ContactEntry). has_key e.key z) (sym p) ∙ own_key e) k)
   | inr q ↦ rest q
 ]
 
-contact_found : (contacts : List ContactEntry) (e : ContactEntry) → Rises number_of contacts → IsIn e contacts → contact_of contacts e.key ≡ Some e
+contact_found : (contacts : List ContactEntry) (e : ContactEntry) → Rises number_of contacts → IsIn e contacts → find (has_key e.key) contacts ≡ Some e
 contact_found [] e r h = absurd h
 contact_found (c ∷ contacts) e r h = found_by c e contacts (has_key e.key c) refl r h (contact_found contacts e r.1)
 
@@ -255,11 +255,11 @@ pub record IsOfKey (contacts : List ContactEntry) (wanted : ContactKey) (e : Con
   pub there : IsIn e contacts
   pub key : e.key ≡ wanted
 
-of_key_by : (c e : ContactEntry) (contacts : List ContactEntry) (key : ContactKey) (t : Bool) → has_key key c ≡ t → cond t (Some c) (contact_of contacts key) ≡ Some e → (contact_of contacts key ≡ Some e → IsOfKey contacts key e) → IsOfKey (c ∷ contacts) key e
+of_key_by : (c e : ContactEntry) (contacts : List ContactEntry) (key : ContactKey) (t : Bool) → has_key key c ≡ t → cond t (Some c) (find (has_key key) contacts) ≡ Some e → (find (has_key key) contacts ≡ Some e → IsOfKey contacts key e) → IsOfKey (c ∷ contacts) key e
 of_key_by c e contacts key true k h rest = let same : c ≡ e = same_Some c e h in record { there = inl (sym same); key = ap (λ (z : ContactEntry). z.key) (sym same) ∙ key_is key c k }
 of_key_by c e contacts key false k h rest = let o = rest h in record { there = inr o.there; key = o.key }
 
-of_key : (contacts : List ContactEntry) (key : ContactKey) (e : ContactEntry) → contact_of contacts key ≡ Some e → IsOfKey contacts key e
+of_key : (contacts : List ContactEntry) (key : ContactKey) (e : ContactEntry) → find (has_key key) contacts ≡ Some e → IsOfKey contacts key e
 of_key [] key e h = absurd (none-some e h)
 of_key (c ∷ contacts) key e h = of_key_by c e contacts key (has_key key c) refl h (of_key contacts key e)
 
@@ -351,7 +351,7 @@ there_stands slot_entries bodies s contacts (items.Joint h) set e =
       set = o.gives;
     }
 there_stands slot_entries bodies s contacts (items.Contact key) set e =
-    let o = comes_of (standing_of_contact bodies) (contact_of contacts key) set e in
+    let o = comes_of (standing_of_contact bodies) (find (has_key key) contacts) set e in
     let k = of_key contacts key o.of o.is in
     let z : Standing = contact_standing bodies o.of in
     record {
@@ -374,7 +374,7 @@ is_present slot_entries bodies s contacts (items.Joint h) set e =
     let p = named_from (slice_get s.slot_entries h.slot) h.generation (item_at s.joints h.slot) o.of o.is in
     p.is ∙ live_is p.place h.generation p.same p.live
 is_present slot_entries bodies s contacts (items.Contact key) set e =
-    let o = comes_of (standing_of_contact bodies) (contact_of contacts key) set e in
+    let o = comes_of (standing_of_contact bodies) (find (has_key key) contacts) set e in
     let k = of_key contacts key o.of o.is in
     contains_from_in (map (λ (c : ContactEntry). c.key) contacts) key (subst (λ (v : ContactKey). IsIn v (map (λ (c : ContactEntry). c.key) contacts)) k.key (mapped_in (λ (c : ContactEntry). c.key) contacts o.of k.there))
 
@@ -389,7 +389,7 @@ present_stands slot_entries bodies s contacts (items.Body h) are live = let o = 
 present_stands slot_entries bodies s contacts (items.Joint h) are live = let o = live_named s.slot_entries s.joints h are.joints live in record { of = standing_of_joint bodies o.of; is = ap (option_map (standing_of_joint bodies)) o.is }
 present_stands slot_entries bodies s contacts (items.Contact key) are there =
     let o = in_mapped (λ (c : ContactEntry). c.key) contacts key (in_from_contains (map (λ (c : ContactEntry). c.key) contacts) key there) in
-    record { of = standing_of_contact bodies o.of; is = ap (λ (k : ContactKey). option_map (standing_of_contact bodies) (contact_of contacts k)) o.is ∙ ap (option_map (standing_of_contact bodies)) (contact_found contacts o.of are.rising o.there) }
+    record { of = standing_of_contact bodies o.of; is = ap (λ (k : ContactKey). option_map (standing_of_contact bodies) (find (has_key k) contacts)) o.is ∙ ap (option_map (standing_of_contact bodies)) (contact_found contacts o.of are.rising o.there) }
 
 -- ---- who sleeps
 

@@ -2,6 +2,7 @@
 use Rattle.std.proofs.Common.{◌≡◌, ◌≢◌, ◌⊎◌, ℕ, ◌+◌, ◌*◌, ◌^◌, ◌<◌, ◌≤◌, ◌==◌, ◌&&◌, Bool, true, false, cond, List, [], ◌∷◌, ◌++◌, length, Option, Some, None, is_some, nat_lt, ltb-true, ltb-false, slice_get, slice_set, refl, sym, ap, ap₂, ◌∙◌, subst, arith, inl, inr}
 use Rattle.std.proofs.lemmas.Bool.{cases_eq}
 use Rattle.std.proofs.lemmas.Option.{none-some, same_Some, slice_get_within}
+use Rattle.std.specs.Option.{option_flatten}
 use Rattle.body_handles.specs.declared.handle.Handle.{Handle}
 use Rattle.body_handles.specs.declared.slot_table.SlotEntry.{SlotEntry}
 use Rattle.body_handles.specs.declared.slot_table.TheConstants.{MAX_SLOTS}
@@ -23,7 +24,7 @@ use Rattle.contacts.proofs.Members.{IsIn, contains_from_in}
 use Rattle.plain_world.specs.declared.body.Body.{Body}
 use Rattle.plain_world.specs.declared.joint.BodyJoint.{BodyJoint}
 use Rattle.plain_world.specs.Joints.{is_end_in, joint_at}
-use Rattle.plain_world.specs.Slots.{AreMatched, is_taken_entry, item_in, with_item}
+use Rattle.plain_world.specs.Slots.{AreMatched, is_taken_entry, with_item}
 use Rattle.solver_sets.specs.Joining.{handle_at, joined_with, unjoined}
 use Rattle.solver_sets.specs.Laws as laws
 use Rattle.solver_sets.specs.Alike.{AreJointSlots}
@@ -86,10 +87,10 @@ are_joined js j m =
     let at_joints : nat_lt slot (length js.joints) ≡ false → slot ≡ length js.joints = λ q. let past = ltb-false slot (length js.joints) q in omega (arith, least, long, past) in
     record {
       own_place = slice_get-with_own (nat_lt slot (length js.slot_entries)) js.slot_entries slot (record { generation = generation_at js.slot_entries slot; live = true }) below_places at_places;
-      own = ap item_in (slice_get-with_own (nat_lt slot (length js.joints)) js.joints slot (Some j) below_joints at_joints);
+      own = ap option_flatten (slice_get-with_own (nat_lt slot (length js.joints)) js.joints slot (Some j) below_joints at_joints);
       free = free_joint js.slot_entries js.joints m;
       slot_entries = λ k far. slice_get-with (nat_lt slot (length js.slot_entries)) js.slot_entries slot k (record { generation = generation_at js.slot_entries slot; live = true }) at_places far;
-      joints = λ k far. ap item_in (slice_get-with (nat_lt slot (length js.joints)) js.joints slot k (Some j) at_joints far);
+      joints = λ k far. ap option_flatten (slice_get-with (nat_lt slot (length js.joints)) js.joints slot k (Some j) at_joints far);
     }
 
 matched_joined : (t : Bool) (slot_entries : List SlotEntry) (joints : List (Option BodyJoint)) (slot : ℕ) (p : SlotEntry) (j : BodyJoint) → p.live ≡ true → (t ≡ false → length joints < MAX_SLOTS) → AreMatched slot_entries joints

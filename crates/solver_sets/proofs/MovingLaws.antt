@@ -24,7 +24,7 @@ use Rattle.plain_world.specs.Joints.{joint_at}
 use Rattle.plain_world.specs.Kinds.{carried_by, is_dynamic, is_moving}
 use Rattle.plain_world.specs.Slots.{body_at}
 use Rattle.sleep_wake.specs.Acting.{Acting, IsConsistent, are_awake, awake_label, is_mover_awake}
-use Rattle.solver_sets.specs.Beside.{is_beside_moving, is_joined_to_moving, is_moving_at, is_moving_in, is_stirred_between, is_touched_by_moving}
+use Rattle.solver_sets.specs.Beside.{is_beside_moving, is_joined_to_moving, is_moving_at, is_stirred_between, is_touched_by_moving}
 use Rattle.solver_sets.specs.BesideByTies.{is_to_moving, ties_to_moving}
 use Rattle.solver_sets.specs.Laws as laws
 use Rattle.plain_world.specs.Bodies.{is_mover_in, moves}
@@ -39,7 +39,7 @@ and_both : (t u : Bool) → cond t u false ≡ true → u ≡ true
 and_both true u e = e
 and_both false u e = cc
 
-moving_enabled : (o : Option Body) → is_moving_in o ≡ true → is_enabled_in o ≡ true
+moving_enabled : (o : Option Body) → option_map_or (λ (b : Body). cond b.enabled (is_moving (carried_by b.kind)) false) o false ≡ true → is_enabled_in o ≡ true
 moving_enabled None e = cc
 moving_enabled (Some b) e = if_both b.enabled (is_moving (carried_by b.kind)) e
 
@@ -52,7 +52,7 @@ not_both : (t : Bool) → cond t false false ≡ false
 not_both true = refl
 not_both false = refl
 
-moving_stays : (o : Option Body) → is_moving_in o ≡ true → is_mover_in o ≡ false
+moving_stays : (o : Option Body) → option_map_or (λ (b : Body). cond b.enabled (is_moving (carried_by b.kind)) false) o false ≡ true → is_mover_in o ≡ false
 moving_stays None e = refl
 moving_stays (Some b) e =
     ap (λ (t : Bool). cond b.enabled t false) (moving_kind b.kind (and_both b.enabled (is_moving (carried_by b.kind)) e)) ∙ not_both b.enabled

@@ -3,6 +3,7 @@ use Rattle.std.proofs.Common.{◌≡◌, ℕ, suc, ◌+◌, ◌-◌, ◌<◌, �
 use Rattle.std.specs.List.{filter_map, cons_option}
 use Rattle.std.specs.List.Sorted.{IsStrictlyIncreasing}
 use Rattle.std.proofs.lemmas.Bool.{cases_eq}
+use Rattle.std.specs.Option.{option_map_or}
 use Rattle.contacts.proofs.Members.{Each, IsIn, each_from, each_in, in_from_contains}
 use Rattle.contacts.proofs.Rising.{IsRising, rising_from_increasing}
 use Rattle.body_handles.specs.declared.handle.Handle.{Handle}
@@ -12,7 +13,7 @@ use Rattle.islands.specs.Labels.{Labels, is_asleep, label_at, sleeping_name}
 use Rattle.plain_world.specs.declared.body.Body.{Body}
 use Rattle.plain_world.specs.Slots.{body_at}
 use Rattle.solver_sets.specs.Laws as laws
-use Rattle.solver_sets.specs.Slept.{asleep_only_in, handles_where, is_asleep_label, sleeps}
+use Rattle.solver_sets.specs.Slept.{asleep_only_in, handles_where, sleeps}
 use Rattle.solver_sets.specs.SinceTold.{handle_if, is_asleep_in, newly_asleep, newly_awake, was_asleep}
 use Rattle.solver_sets.specs.Alike.{AreTiedAndTold}
 use Rattle.plain_world.specs.Bodies.{is_mover_in}
@@ -76,7 +77,7 @@ where_same : (f g : ℕ → Bool) (n : ℕ) (slot_entries : List SlotEntry) → 
 where_same f g n [] h = refl
 where_same f g n (p ∷ slot_entries) h = ap₂ (λ (t : Bool) (l : List Handle). cond t (record { slot = n; generation = p.generation } ∷ l) l) (h n) (where_same f g (suc n) slot_entries h)
 
-name_tells : (o : Option Label) → is_some (sleeping_name o) ≡ is_asleep_label o
+name_tells : (o : Option Label) → is_some (sleeping_name o) ≡ option_map_or (λ (label : Label). is_asleep label.state) o false
 name_tells None = refl
 name_tells (Some l) = by_state (is_asleep l.state)
   where
@@ -84,14 +85,14 @@ name_tells (Some l) = by_state (is_asleep l.state)
     by_state true = refl
     by_state false = refl
 
-no_label : (o : Option Label) → is_some o ≡ false → is_asleep_label o ≡ false
+no_label : (o : Option Label) → is_some o ≡ false → option_map_or (λ (label : Label). is_asleep label.state) o false ≡ false
 no_label None e = refl
 no_label (Some l) e = cc
 
 told_tells : (bodies : List (Option Body)) (old : Labels) (slot : ℕ) → AreTiedAndTold bodies old → was_asleep bodies slot ≡ sleeps old slot
 told_tells bodies old slot t = by_body (body_at bodies slot) refl
   where
-    by_body : (o : Option Body) → body_at bodies slot ≡ o → is_asleep_in o ≡ is_asleep_label (label_at old slot)
+    by_body : (o : Option Body) → body_at bodies slot ≡ o → is_asleep_in o ≡ option_map_or (λ (label : Label). is_asleep label.state) (label_at old slot) false
     by_body None e = sym (no_label (label_at old slot) (t.tied slot ∙ ap is_mover_in e))
     by_body (Some b) e = ap (λ (o : Option ℕ). is_some o) (t.asleep slot b e) ∙ name_tells (label_at old slot)
 

@@ -1,6 +1,7 @@
 -- Trusted: Who stands beside a body: joined to it by a joint, or touching it.
-use Rattle.std.specs.Prelude.{ℕ, suc, ◌==◌, ◌||◌, Bool, true, false, cond, List, [], ◌∷◌, ◌++◌, Option, Some, None}
+use Rattle.std.specs.Prelude.{ℕ, suc, ◌==◌, ◌||◌, Bool, true, false, cond, List, [], ◌∷◌, ◌++◌, Option, Some, None, option_and_then}
 use Rattle.std.specs.List.{filter_map, list_any}
+use Rattle.std.specs.Option.{option_map_or}
 use Rattle.contacts_base.specs.declared.contact.ContactEntry.{ContactEntry}
 use Rattle.contacts_base.specs.Evaluate.{touches}
 use Rattle.plain_world.specs.declared.body.Body.{Body}
@@ -19,8 +20,7 @@ abbrev pub mover_beside : List (Option Body) → ℕ → ℕ → ℕ → Option 
 mover_beside bodies slot a b = cond (a == slot) (mover_at bodies b) (cond (b == slot) (mover_at bodies a) None)
 
 abbrev pub joined_by : List (Option Body) → ℕ → Option BodyJoint → Option ℕ
-joined_by bodies slot None = None
-joined_by bodies slot (Some j) = mover_beside bodies slot j.a j.b
+joined_by bodies slot joint = option_and_then (λ (j : BodyJoint). mover_beside bodies slot j.a j.b) joint
 
 -- the movers at the other ends of its joints, in the order of the joints' slots
 unfoldable pub joined_to : List (Option Body) → List (Option BodyJoint) → ℕ → List ℕ
@@ -47,21 +47,16 @@ stirred_by bodies joints contacts slot = stirred_if (body_at bodies slot) slot (
 
 -- ---- who is kept awake by a kinematic body that moves
 
-abbrev pub is_moving_in : Option Body → Bool
-is_moving_in None = false
-is_moving_in (Some b) = cond b.enabled (is_moving (carried_by b.kind)) false
-
 -- a kinematic body that moves is in the slot
 abbrev pub is_moving_at : List (Option Body) → ℕ → Bool
-is_moving_at bodies slot = is_moving_in (body_at bodies slot)
+is_moving_at bodies slot = option_map_or (λ (b : Body). cond b.enabled (is_moving (carried_by b.kind)) false) (body_at bodies slot) false
 
 -- of two bodies that are beside one another, the one in the slot is beside a body that moves
 abbrev pub is_stirred_between : List (Option Body) → ℕ → ℕ → ℕ → Bool
 is_stirred_between bodies slot a b = cond (a == slot) (is_moving_at bodies b) (cond (b == slot) (is_moving_at bodies a) false)
 
 abbrev pub is_joined_to_moving : List (Option Body) → ℕ → Option BodyJoint → Bool
-is_joined_to_moving bodies slot None = false
-is_joined_to_moving bodies slot (Some j) = is_stirred_between bodies slot j.a j.b
+is_joined_to_moving bodies slot joint = option_map_or (λ (j : BodyJoint). is_stirred_between bodies slot j.a j.b) joint false
 
 abbrev pub is_touched_by_moving : List (Option Body) → ℕ → ContactEntry → Bool
 is_touched_by_moving bodies slot e = cond (touches e.contact) (is_stirred_between bodies slot e.key.first.slot e.key.second.slot) false

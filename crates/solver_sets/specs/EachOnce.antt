@@ -1,5 +1,6 @@
 -- Trusted: Where each body, joint and contact of a world stands, and that its census lists each once, there.
-use Rattle.std.specs.Prelude.{◌≡◌, ◌≢◌, ◌↔◌, ℕ, ◌==◌, ◌&&◌, Bool, cond, List, [], ◌∷◌, map, Option, Some, None, option_map, Contains, AllPairs}
+use Rattle.std.specs.Prelude.{◌≡◌, ◌≢◌, ◌↔◌, ℕ, ◌==◌, ◌&&◌, Bool, cond, List, [], ◌∷◌, map, Option, Some, option_map, Contains, AllPairs}
+use Rattle.std.specs.List.{find}
 use Rattle.body_handles.specs.declared.slot_table.SlotEntry.{SlotEntry}
 use Rattle.body_handles.specs.SlotEntries.{IsLive}
 use Rattle.contacts_base.specs.declared.key.ShapeId.{ShapeId}
@@ -25,16 +26,11 @@ is_same_shape a b = (a.slot == b.slot) && (a.index == b.index)
 abbrev pub has_key : ContactKey → ContactEntry → Bool
 has_key key e = is_same_shape e.key.first key.first && is_same_shape e.key.second key.second
 
--- the contact that a key names
-abbrev pub contact_of : List ContactEntry → ContactKey → Option ContactEntry
-contact_of [] key = None
-contact_of (e ∷ es) key = cond (has_key key e) (Some e) (contact_of es key)
-
 -- The one set in which an item stands: the body or the joint that a handle names, or the contact that a key names. It is none where there is no such.
 abbrev pub stand : List SlotEntry → List (Option Body) → JointSlots → List ContactEntry → Item → Option SetName
 stand slot_entries bodies s contacts (items.Body h) = option_map standing_of (body_of slot_entries bodies h)
 stand slot_entries bodies s contacts (items.Joint h) = option_map (standing_of_joint bodies) (joint_of s.slot_entries s.joints h)
-stand slot_entries bodies s contacts (items.Contact key) = option_map (standing_of_contact bodies) (contact_of contacts key)
+stand slot_entries bodies s contacts (items.Contact key) = option_map (standing_of_contact bodies) (find (has_key key) contacts)
 
 -- the item is there: a body or a joint whose handle is live, or one of the contacts
 abbrev pub IsPresent : List SlotEntry → JointSlots → List ContactEntry → Item → Type 0

@@ -1,5 +1,6 @@
 -- Trusted: Who has fallen asleep, or has woken, between two labellings.
-use Rattle.std.specs.Prelude.{ℕ, suc, ◌&&◌, Bool, false, not, cond, List, [], ◌∷◌, Option, Some, None}
+use Rattle.std.specs.Prelude.{ℕ, suc, ◌&&◌, Bool, false, not, cond, List, [], ◌∷◌}
+use Rattle.std.specs.Option.{option_map_or}
 use Rattle.body_handles.specs.declared.handle.Handle.{Handle}
 use Rattle.body_handles.specs.declared.slot_table.SlotEntry.{SlotEntry}
 use Rattle.islands.specs.declared.label.Label.{Label}
@@ -10,13 +11,9 @@ abbrev pub handles_where : (ℕ → Bool) → ℕ → List SlotEntry → List Ha
 handles_where test slot [] = []
 handles_where test slot (p ∷ slot_entries) = cond (test slot) (record { slot = slot; generation = p.generation } ∷ handles_where test (suc slot) slot_entries) (handles_where test (suc slot) slot_entries)
 
-abbrev pub is_asleep_label : Option Label → Bool
-is_asleep_label None = false
-is_asleep_label (Some l) = is_asleep l.state
-
 -- the mover in the slot sleeps
 abbrev pub sleeps : Labels → ℕ → Bool
-sleeps labels slot = is_asleep_label (label_at labels slot)
+sleeps labels slot = option_map_or (λ (l : Label). is_asleep l.state) (label_at labels slot) false
 
 -- the handles, ascending, of the bodies that sleep by the second labels and don't by the first
 unfoldable pub asleep_only_in : List SlotEntry → Labels → Labels → List Handle

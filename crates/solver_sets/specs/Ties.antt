@@ -1,6 +1,7 @@
 -- Trusted: The ties of a world: its joints by slot and its touching contacts by key, each with its movers.
-use Rattle.std.specs.Prelude.{ℕ, suc, ◌<◌, ◌^◌, ◌==◌, ◌&&◌, ◌||◌, Bool, true, false, cond, List, [], ◌∷◌, ◌++◌, filter, map, Option, Some, None, option_map}
+use Rattle.std.specs.Prelude.{ℕ, suc, ◌<◌, ◌^◌, ◌==◌, ◌&&◌, ◌||◌, Bool, true, false, cond, List, [], ◌∷◌, ◌++◌, filter, map, Option, Some, None, option_map, option_and_then}
 use Rattle.std.specs.List.{filter_map}
+use Rattle.std.specs.Option.{option_map_or}
 use Rattle.body_handles.specs.declared.handle.Handle.{Handle}
 use Rattle.body_handles.specs.declared.slot_table.SlotEntry.{SlotEntry}
 use Rattle.graph_colours.specs.declared.member.Movers.{Movers}
@@ -36,8 +37,7 @@ slots_of slot_entries joints = record { slot_entries = slot_entries; joints = jo
 -- ---- movers
 
 abbrev pub is_enabled_in : Option Body → Bool
-is_enabled_in None = false
-is_enabled_in (Some b) = b.enabled
+is_enabled_in body = option_map_or (λ (b : Body). b.enabled) body false
 
 -- an enabled body is in the slot
 abbrev pub is_enabled : List (Option Body) → ℕ → Bool
@@ -79,8 +79,7 @@ contact_bond key = record { id = Contact key; a = key.first.slot; b = key.second
 
 -- that of the joint in a slot, if there is one, before those of the slots after it
 abbrev pub bond_before : Handle → Option BodyJoint → List Bond → List Bond
-bond_before h None bonds = bonds
-bond_before h (Some j) bonds = joint_bond h j ∷ bonds
+bond_before h joint bonds = option_map_or (λ (j : BodyJoint). joint_bond h j ∷ bonds) joint bonds
 
 -- where the lists begin with this slot
 abbrev pub joint_bonds_from : ℕ → List SlotEntry → List (Option BodyJoint) → List Bond
@@ -127,12 +126,8 @@ joint_ties_at slot bodies s = ties_in bodies (filter (is_bond_of slot) (joint_bo
 
 -- ---- the constraints that have a colour, each with its movers
 
-abbrev pub movers_in : List (Option Body) → Option BodyJoint → Option Movers
-movers_in bodies None = None
-movers_in bodies (Some j) = joint_movers bodies j
-
 abbrev pub movers_of : List (Option Body) → JointSlots → Constraint → Option Movers
-movers_of bodies s (Joint h) = movers_in bodies (joint_at s.joints h.slot)
+movers_of bodies s (Joint h) = option_and_then (joint_movers bodies) (joint_at s.joints h.slot)
 movers_of bodies s (Contact key) = contact_movers bodies key
 
 abbrev pub member_of : List (Option Body) → JointSlots → Constraint → Option (Member Constraint)
@@ -146,13 +141,11 @@ members_of bodies s colours = map (filter_map (member_of bodies s)) colours
 
 -- one that begins, if it has movers
 abbrev pub begun_with : Constraint → Option Movers → Acting Constraint → Acting Constraint
-begun_with id None s = s
-begun_with id (Some m) s = begun constraint_number (record { id = id; movers = m }) s
+begun_with id movers s = option_map_or (λ (m : Movers). begun constraint_number (record { id = id; movers = m }) s) movers s
 
 -- one that ends, if it had movers
 abbrev pub ended_with : Constraint → Option Movers → Acting Constraint → Acting Constraint
-ended_with id None s = s
-ended_with id (Some m) s = ended constraint_number (record { id = id; movers = m }) s
+ended_with id movers s = option_map_or (λ (m : Movers). ended constraint_number (record { id = id; movers = m }) s) movers s
 
 -- the contacts with these keys that are ties
 abbrev pub key_ties : List (Option Body) → List ContactKey → List (Member Constraint)

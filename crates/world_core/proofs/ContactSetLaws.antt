@@ -2,6 +2,7 @@
 use Rattle.std.proofs.Common.{◌≡◌, ◌∙◌, ◌==◌, ◌&&◌, ◌||◌, ℕ, Bool, true, false, cond, List, [], ◌∷◌, Option, Some, None, is_none, inl, inr, refl, sym, ap, ap₂, subst}
 use Rattle.std.specs.Prelude.{Contains, option_map}
 use Rattle.std.proofs.lemmas.Bool.{false≢true}
+use Rattle.std.specs.List.{find}
 use Rattle.contacts.specs.Numbered.{AreNumbered, contact_at, key_of, number_key_at, numbered_of}
 use Rattle.contacts.specs.declared.number_book.NumberedContact.{NumberedContact}
 use Rattle.contacts.proofs.NumberedLaws.{entry_at, key_at, number_for, one_contact}
@@ -22,7 +23,7 @@ use Rattle.plain_world.specs.Changes.{is_awake_in}
 use Rattle.plain_world.specs.Kinds.{is_dynamic}
 use Rattle.plain_world.specs.Slots.{body_at}
 use Rattle.solver_sets.specs.Census.{standing_apart, standing_of_contact}
-use Rattle.solver_sets.specs.EachOnce.{contact_of, has_key, is_same_shape}
+use Rattle.solver_sets.specs.EachOnce.{has_key, is_same_shape}
 use Rattle.world_core_base.specs.Stands.{body_stand, contact_stand, is_awake_stand, set_of, stand_apart, stand_between, stand_by, stand_in, stand_of_contact}
 use Rattle.world_core.proofs.KeepLaws.{two_set}
 
@@ -83,22 +84,22 @@ record IsOfKey (contacts : List ContactEntry) (key : ContactKey) (e : ContactEnt
   pub there : Contains contacts e
   pub has : e.key ≡ key
 
-of_key_by : (c e : ContactEntry) (contacts : List ContactEntry) (key : ContactKey) (t : Bool) → has_key key c ≡ t → cond t (Some c) (contact_of contacts key) ≡ Some e → (contact_of contacts key ≡ Some e → IsOfKey contacts key e) → IsOfKey (c ∷ contacts) key e
+of_key_by : (c e : ContactEntry) (contacts : List ContactEntry) (key : ContactKey) (t : Bool) → has_key key c ≡ t → cond t (Some c) (find (has_key key) contacts) ≡ Some e → (find (has_key key) contacts ≡ Some e → IsOfKey contacts key e) → IsOfKey (c ∷ contacts) key e
 of_key_by c e contacts key true k h rest = let same : c ≡ e = cc in subst (IsOfKey (c ∷ contacts) key) same (record { there = contains_head c contacts; has = key_is key c k })
 of_key_by c e contacts key false k h rest = let o = rest h in record { there = contains_tail c contacts e o.there; has = o.has }
 
-of_key : (contacts : List ContactEntry) (key : ContactKey) (e : ContactEntry) → contact_of contacts key ≡ Some e → IsOfKey contacts key e
+of_key : (contacts : List ContactEntry) (key : ContactKey) (e : ContactEntry) → find (has_key key) contacts ≡ Some e → IsOfKey contacts key e
 of_key [] key e h = cc
 of_key (c ∷ contacts) key e h = of_key_by c e contacts key (has_key key c) refl h (of_key contacts key e)
 
-not_of_key_by : (c e : ContactEntry) (contacts : List ContactEntry) (key : ContactKey) (t : Bool) → has_key key c ≡ t → cond t (Some c) (contact_of contacts key) ≡ None → Contains (c ∷ contacts) e → e.key ≡ key → (contact_of contacts key ≡ None → Contains contacts e → ⊥) → ⊥
+not_of_key_by : (c e : ContactEntry) (contacts : List ContactEntry) (key : ContactKey) (t : Bool) → has_key key c ≡ t → cond t (Some c) (find (has_key key) contacts) ≡ None → Contains (c ∷ contacts) e → e.key ≡ key → (find (has_key key) contacts ≡ None → Contains contacts e → ⊥) → ⊥
 not_of_key_by c e contacts key true k h there has rest = cc
 not_of_key_by c e contacts key false k h there has rest = elim (contains_cases c contacts e there) [
   | inl same ↦ false≢true (sym k ∙ has_it c key (ap (λ (x : ContactEntry). x.key) same ∙ has))
   | inr later ↦ rest h later
 ]
 
-not_of_key : (contacts : List ContactEntry) (key : ContactKey) (e : ContactEntry) → contact_of contacts key ≡ None → Contains contacts e → e.key ≡ key → ⊥
+not_of_key : (contacts : List ContactEntry) (key : ContactKey) (e : ContactEntry) → find (has_key key) contacts ≡ None → Contains contacts e → e.key ≡ key → ⊥
 not_of_key [] key e h there has = absurd (none_in e there)
 not_of_key (c ∷ contacts) key e h there has = not_of_key_by c e contacts key (has_key key c) refl h there has (λ k later. not_of_key contacts key e k later has)
 
@@ -110,10 +111,10 @@ key_with (Some c) key h = let q : Some c.key ≡ Some key = h in let own : c.key
 
 -- the contact with a number stands where the census has the one with its key
 pub numbered_set : (bodies : List (Option Body)) (contacts : List ContactEntry) (numbered : List (Option NumberedContact)) (number : ℕ) (key : ContactKey) → AreNumbered contacts numbered → number_key_at numbered number ≡ Some key
-    → option_map set_of (contact_stand bodies numbered number) ≡ option_map (standing_of_contact bodies) (contact_of contacts key)
-numbered_set bodies contacts numbered number key are at = by (contact_of contacts key) refl
+    → option_map set_of (contact_stand bodies numbered number) ≡ option_map (standing_of_contact bodies) (find (has_key key) contacts)
+numbered_set bodies contacts numbered number key are at = by (find (has_key key) contacts) refl
   where
-    by : (o : Option ContactEntry) → contact_of contacts key ≡ o → option_map set_of (contact_stand bodies numbered number) ≡ option_map (standing_of_contact bodies) (contact_of contacts key)
+    by : (o : Option ContactEntry) → find (has_key key) contacts ≡ o → option_map set_of (contact_stand bodies numbered number) ≡ option_map (standing_of_contact bodies) (find (has_key key) contacts)
     by None e =
         let own = key_with (contact_at numbered number) key at in
         let entry = entry_at contacts numbered number own.0 are own.1 in
@@ -126,10 +127,10 @@ numbered_set bodies contacts numbered number key are at = by (contact_of contact
         ap (λ (o : Option NumberedContact). option_map set_of (option_map (stand_of_contact bodies) o)) (own.1 ∙ ap Some (sym same)) ∙ ap Some (contact_set bodies f) ∙ ap (option_map (standing_of_contact bodies)) (sym e)
 
 -- a key that no number has is that of no contact
-pub unnumbered_set : (contacts : List ContactEntry) (numbered : List (Option NumberedContact)) (key : ContactKey) → AreNumbered contacts numbered → ((number : ℕ) → number_key_at numbered number ≡ Some key → ⊥) → contact_of contacts key ≡ None
-unnumbered_set contacts numbered key are none = by (contact_of contacts key) refl
+pub unnumbered_set : (contacts : List ContactEntry) (numbered : List (Option NumberedContact)) (key : ContactKey) → AreNumbered contacts numbered → ((number : ℕ) → number_key_at numbered number ≡ Some key → ⊥) → find (has_key key) contacts ≡ None
+unnumbered_set contacts numbered key are none = by (find (has_key key) contacts) refl
   where
-    by : (o : Option ContactEntry) → contact_of contacts key ≡ o → contact_of contacts key ≡ None
+    by : (o : Option ContactEntry) → find (has_key key) contacts ≡ o → find (has_key key) contacts ≡ None
     by None e = e
     by (Some f) e =
         let found = of_key contacts key f e in

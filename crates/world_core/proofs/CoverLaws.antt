@@ -3,6 +3,7 @@ use Rattle.std.proofs.Common.{◌≡◌, ℕ, zero, suc, ◌+◌, Bool, true, fa
 use Rattle.std.specs.Prelude.{IfOk}
 use Rattle.std.specs.List.{Contains}
 use Rattle.std.proofs.lemmas.List.Elements.{All-head, All-tail}
+use Rattle.std.specs.Option.{option_map_or}
 use Rattle.fixed_geom.specs.Boxes.{overlaps}
 use Rattle.fixed_geom.specs.Boxes as boxes
 use Rattle.fixed_geom.specs.declared.boxes.Box2.{Box2}
@@ -17,7 +18,7 @@ use Rattle.plain_world.specs.Bodies.{pose_of, stirs}
 use Rattle.plain_world.specs.Kinds.{is_dynamic}
 use Rattle.plain_world.specs.Slots.{body_at}
 use Rattle.world_core_base.specs.Covers.{AreCovered, HoldsAll, IsCover, IsCovered}
-use Rattle.world_rules.specs.Collide.{entry_proxies, proxies_from, proxies_of, shape_proxies}
+use Rattle.world_rules.specs.Collide.{proxies_from, proxies_of, shape_proxies, body_proxies}
 
 -- ---- the keys over a box
 
@@ -62,12 +63,12 @@ listed_if : (wanted : Box2) (keys : List ℕ) (t : Bool) (ps : List Proxy) → E
 listed_if wanted keys true ps h = h
 listed_if wanted keys false ps h = tt
 
-cover_listed : (wanted : Box2) (bs : List (Option Box2)) (slot : ℕ) (b : Body) (o : Option Box2) → box_at bs slot ≡ o → IsCover o b.fats → Each (IsListed wanted (keys_over wanted 0 bs)) (entry_proxies slot (Some b))
+cover_listed : (wanted : Box2) (bs : List (Option Box2)) (slot : ℕ) (b : Body) (o : Option Box2) → box_at bs slot ≡ o → IsCover o b.fats → Each (IsListed wanted (keys_over wanted 0 bs)) (option_map_or (body_proxies slot) (Some b) [])
 cover_listed wanted bs slot b None at cover = absurd cover
 cover_listed wanted bs slot b (Some outer) at cover =
     listed_if wanted (keys_over wanted 0 bs) b.enabled (shape_proxies slot (is_dynamic b.kind) (stirs b) (pose_of b) 0 b.shapes b.fats) (shapes_listed wanted outer bs slot (is_dynamic b.kind) (stirs b) (pose_of b) 0 b.shapes b.fats at cover)
 
-entry_listed : (wanted : Box2) (bs : List (Option Box2)) (slot : ℕ) (o : Option Body) → IsCovered (box_at bs slot) o → Each (IsListed wanted (keys_over wanted 0 bs)) (entry_proxies slot o)
+entry_listed : (wanted : Box2) (bs : List (Option Box2)) (slot : ℕ) (o : Option Body) → IsCovered (box_at bs slot) o → Each (IsListed wanted (keys_over wanted 0 bs)) (option_map_or (body_proxies slot) o [])
 entry_listed wanted bs slot None covered = tt
 entry_listed wanted bs slot (Some b) covered = cover_listed wanted bs slot b (box_at bs slot) refl covered
 
@@ -78,7 +79,7 @@ all_listed wanted bs n [] covered = tt
 all_listed wanted bs n (o ∷ bodies) covered =
     let here : n + 0 ≡ n = omega arith in
     let first : IsCovered (box_at bs n) o = subst (λ (k : ℕ). IsCovered (box_at bs k) o) here (covered 0) in
-    each_append (IsListed wanted (keys_over wanted 0 bs)) (entry_proxies n o) (proxies_from (suc n) bodies) (entry_listed wanted bs n o first)
+    each_append (IsListed wanted (keys_over wanted 0 bs)) (option_map_or (body_proxies n) o []) (proxies_from (suc n) bodies) (entry_listed wanted bs n o first)
     (all_listed wanted bs (suc n) bodies (λ k. let next : n + suc k ≡ suc n + k = omega arith in subst (λ (m : ℕ). IsCovered (box_at bs m) (body_at bodies k)) next (covered (suc k))))
 
 contains_each : (wanted : Box2) (keys : List ℕ) (ps : List Proxy) → Each (IsListed wanted keys) ps → Each (λ (p : Proxy). overlaps p.fat wanted ≡ true → Contains keys p.id.slot) ps

@@ -1,15 +1,16 @@
 -- The pairs that joints keep from colliding, as joints come and go: those of two bodies that aren't marked stay.
 use Rattle.std.proofs.Common.{◌≡◌, ℕ, zero, suc, ◌≤◌, ◌==◌, ◌||◌, Bool, true, false, cond, List, [], ◌∷◌, length, Option, Some, None, inl, inr, refl, sym, ap, ◌∙◌, subst, arith}
-use Rattle.std.specs.Prelude.{◌&&◌, ◌⊎◌, nat_lt, option_map, slice_index_or, slice_set}
+use Rattle.std.specs.Prelude.{◌&&◌, ◌⊎◌, nat_lt, option_map, slice_index_or, slice_set, option_and_then}
 use Rattle.std.specs.List.{cons_option, list_any}
 use Rattle.std.proofs.lemmas.Bool.{cases_eq}
 use Rattle.std.proofs.lemmas.Bool.Decides.{nat_tests}
+use Rattle.std.specs.Option.{option_flatten}
 use Rattle.contacts.specs.declared.forbidden.BodyPair.{BodyPair}
 use Rattle.contacts.specs.Forbidden.{is_pair_of}
 use Rattle.graph_colours.proofs.Cases.{by_test}
 use Rattle.plain_world.specs.declared.joint.BodyJoint.{BodyJoint}
-use Rattle.plain_world.specs.Joints.{forbidden_by, forbidden_in, forbidden_pairs, idle_if, idle_joints, is_end_in, is_joint_of, joint_at}
-use Rattle.plain_world.specs.Slots.{item_in, with_item}
+use Rattle.plain_world.specs.Joints.{forbidden_by, forbidden_pairs, idle_if, idle_joints, is_end_in, is_joint_of, joint_at}
+use Rattle.plain_world.specs.Slots.{with_item}
 use Rattle.solver_sets.specs.Joining.{handle_at, unjoined, unjoined_all, unjoined_up}
 use Rattle.solver_sets.specs.Ties.{JointSlots}
 use Rattle.world_core_base.proofs.SolvingJoints.{bare_entry, bare_joints}
@@ -97,7 +98,7 @@ pairs_stay marks joints later same a b fa fb = ap (λ (pairs : List BodyPair). l
 
 -- ---- joints whose impulses alone change
 
-idle_pair : (slot : ℕ) (o : Option BodyJoint) → forbidden_in (option_map (idle_if slot) o) ≡ forbidden_in o
+idle_pair : (slot : ℕ) (o : Option BodyJoint) → option_and_then forbidden_by (option_map (idle_if slot) o) ≡ option_and_then forbidden_by o
 idle_pair slot None = refl
 idle_pair slot (Some j) = by_test (λ (i : BodyJoint). forbidden_by i ≡ forbidden_by j) (is_joint_of slot j) _ j (λ q. refl) (λ q. refl)
 
@@ -105,7 +106,7 @@ pub idle_pairs : (slot : ℕ) (joints : List (Option BodyJoint)) → forbidden_p
 idle_pairs slot [] = refl
 idle_pairs slot (o ∷ joints) = λ j. cons_option (idle_pair slot o j) (idle_pairs slot joints j)
 
-bare_pair : (o : Option BodyJoint) → forbidden_in (bare_entry o) ≡ forbidden_in o
+bare_pair : (o : Option BodyJoint) → option_and_then forbidden_by (bare_entry o) ≡ option_and_then forbidden_by o
 bare_pair None = refl
 bare_pair (Some j) = refl
 
@@ -129,10 +130,10 @@ joint_comes marks joints slot j free le is =
       | inl here ↦ inr (
         λ i e. let none : joint_at joints k ≡ None = ap (joint_at joints) here ∙ free in cc,
         λ i e.
-            let own : joint_at (with_item joints slot j) slot ≡ Some j = ap item_in (slice_get-with_own (nat_lt slot (length joints)) joints slot (Some j) (λ q. grind (arith, nat_tests)) last) in
+            let own : joint_at (with_item joints slot j) slot ≡ Some j = ap option_flatten (slice_get-with_own (nat_lt slot (length joints)) joints slot (Some j) (λ q. grind (arith, nat_tests)) last) in
             subst (IsEndMarked marks) (some_same j i (sym own ∙ sym (ap (joint_at (with_item joints slot j)) here) ∙ e)) is,
       )
-      | inr far ↦ inl (ap item_in (slice_get-with (nat_lt slot (length joints)) joints slot k (Some j) last far))
+      | inr far ↦ inl (ap option_flatten (slice_get-with (nat_lt slot (length joints)) joints slot k (Some j) last far))
     ])
 
 -- the joint in a slot goes

@@ -44,7 +44,7 @@ use Rattle.world_core.specs.Grown.{EachCallBooksLittle, GrownWorldsHaveSmallTota
 use Rattle.world_core.proofs.SolvingBounds.{IsBounded, left_momentum, pass_most, solved_bound}
 use Rattle.world_core.proofs.Whole.{named}
 use Rattle.world_core_base.specs.Solving.{Solving, solve_order}
-use Rattle.world_rules.specs.Apply.{Answers, Applied, apply, apply_accepted, bodies_ticked, bodies_woken, booked, departed, empty_world, gained, join_refusal, mover_refusal, posed, pushed, rest_entries, rested_acting, solved_after, steered, step_done, step_solved, acting_after_changes, world_with, unless_refused, where_named, map_ok, push_given, with_body_changed, created, joined, destroyed, disabled, enabled, put_to_sleep, quietly, joint_gone}
+use Rattle.world_rules.specs.Apply.{Answers, Applied, apply, apply_accepted, bodies_ticked, booked, departed, empty_world, gained, join_refusal, mover_refusal, posed, pushed, rest_entries, rested_acting, solved_after, steered, step_done, step_solved, acting_after_changes, world_with, unless_refused, where_named, map_ok, push_given, with_body_changed, created, joined, destroyed, disabled, enabled, put_to_sleep, quietly, joint_gone}
 use Rattle.world_rules.specs.Collide.{Collided, collided}
 use Rattle.world_rules.specs.Laws.{push_of}
 use Rattle.world_rules.specs.Replay.{after_one}
@@ -208,7 +208,7 @@ stepped_grows w n c woken s before now h m small =
 step_grows : (w : World) (n : ℕ) (c : Collided) → n ≤ 8 → IsSound w → IsSound (world_with w (step_done w.plain n c)) → Grows w (step_done w.plain n c)
 step_grows w n c few before now =
     let woken : Acting Constraint = acting_after_changes w.plain c in
-    let bodies : List (Option Body) = bodies_woken w.plain woken in
+    let bodies : List (Option Body) = told woken.labels w.plain.bodies in
     let long = length_told woken.labels w.plain.bodies in
     let most = before.formed.matched.few in
     stepped_grows w n c woken (solved_after w.plain n c woken) before now

@@ -3,6 +3,7 @@ use Rattle.std.proofs.Common.{◌≡◌, ℕ, zero, suc, ◌+◌, ◌*◌, ◌<�
 use Rattle.std.specs.List.{Contains}
 use Rattle.std.specs.Prelude.{◌/◌, ◌%◌, slice_get}
 use Rattle.std.proofs.lemmas.Bool.Decides.{nat_tests}
+use Rattle.std.specs.Option.{option_map_or}
 use Rattle.fixed_geom.specs.declared.boxes.Box2.{Box2}
 use Rattle.shapes.specs.declared.pose.Pose.{Pose}
 use Rattle.shapes.specs.declared.shape.ShapeDef.{ShapeDef}
@@ -23,7 +24,7 @@ use Rattle.plain_world.specs.Kinds.{carried_by, is_dynamic, is_moving}
 use Rattle.plain_world.specs.Slots.{body_at}
 use Rattle.world_core.proofs.CollideLaws.{eight_at_most}
 use Rattle.world_core.specs.Named.{proxy_of, shape_at, shape_in, shape_of}
-use Rattle.world_rules.specs.Collide.{body_proxies, entry_proxies, proxies_from, proxies_of, shape_proxies}
+use Rattle.world_rules.specs.Collide.{body_proxies, proxies_from, proxies_of, shape_proxies}
 use Rattle.solver_sets.proofs.SlotLemmas.{below_length}
 use Rattle.world_rules.proofs.SlotLemmas.{body_at-in}
 
@@ -54,7 +55,7 @@ cond_found false ps n = refl
 body_found : (b : Body) (i : ShapeId) → found (body_proxies i.slot b) (id_number i) ≡ shape_of i b
 body_found b i = cond_found b.enabled _ (id_number i) ∙ ap (λ (o : Option Proxy). cond b.enabled o None) (shapes_found i.slot (is_dynamic b.kind) (stirs b) (pose_of b) 0 i.index i.index b.shapes b.fats (omega arith))
 
-entry_found : (o : Option Body) (i : ShapeId) → found (entry_proxies i.slot o) (id_number i) ≡ shape_in i o
+entry_found : (o : Option Body) (i : ShapeId) → found (option_map_or (body_proxies i.slot) o []) (id_number i) ≡ shape_in i o
 entry_found None i = refl
 entry_found (Some b) i = body_found b i
 
@@ -80,7 +81,7 @@ cond_each : (t : Bool) (P : Proxy → Type 0) (ps : List Proxy) → Each P ps �
 cond_each true P ps h = h
 cond_each false P ps h = tt
 
-other_entry : (slot : ℕ) (o : Option Body) (i : ShapeId) → i.index < 256 → (i.slot ≡ slot → ⊥) → ((b : Body) → o ≡ Some b → IsBody b) → Each (λ p. number_of p ≡ id_number i → ⊥) (entry_proxies slot o)
+other_entry : (slot : ℕ) (o : Option Body) (i : ShapeId) → i.index < 256 → (i.slot ≡ slot → ⊥) → ((b : Body) → o ≡ Some b → IsBody b) → Each (λ p. number_of p ≡ id_number i → ⊥) (option_map_or (body_proxies slot) o [])
 other_entry slot None i small f all = tt
 other_entry slot (Some b) i small f all =
     let few : length b.shapes ≤ 8 = eight_at_most _ _ (all b refl).shapes in
@@ -89,16 +90,16 @@ other_entry slot (Some b) i small f all =
 rest_none : (slot : ℕ) (bodies : List (Option Body)) (i : ShapeId) → AreBodies bodies → i.index < 256 → i.slot < slot → found (proxies_from slot bodies) (id_number i) ≡ None
 rest_none slot [] i all small lt = refl
 rest_none slot (o ∷ bodies) i all small lt =
-    pass_over (entry_proxies slot o) (proxies_from (suc slot) bodies) (id_number i) (other_entry slot o i small (λ q. omega arith) (λ b e. all 0 b (ap Some e))) ∙ rest_none (suc slot) bodies i (λ k b e. all (suc k) b e) small (omega arith)
+    pass_over (option_map_or (body_proxies slot) o []) (proxies_from (suc slot) bodies) (id_number i) (other_entry slot o i small (λ q. omega arith) (λ b e. all 0 b (ap Some e))) ∙ rest_none (suc slot) bodies i (λ k b e. all (suc k) b e) small (omega arith)
 
 from_found : (slot : ℕ) (bodies : List (Option Body)) (i : ShapeId) (k : ℕ) → AreBodies bodies → i.index < 256 → i.slot ≡ slot + k → found (proxies_from slot bodies) (id_number i) ≡ shape_in i (body_at bodies k)
 from_found slot [] i k all small e = refl
 from_found slot (o ∷ bodies) i zero all small e =
     let here : i.slot ≡ slot = omega arith in
-    ends_there (entry_proxies slot o) (proxies_from (suc slot) bodies) (id_number i) (rest_none (suc slot) bodies i (λ k b e. all (suc k) b e) small (omega arith))
-    ∙ subst (λ (n : ℕ). found (entry_proxies n o) (id_number i) ≡ shape_in i o) here (entry_found o i)
+    ends_there (option_map_or (body_proxies slot) o []) (proxies_from (suc slot) bodies) (id_number i) (rest_none (suc slot) bodies i (λ k b e. all (suc k) b e) small (omega arith))
+    ∙ subst (λ (n : ℕ). found (option_map_or (body_proxies n) o []) (id_number i) ≡ shape_in i o) here (entry_found o i)
 from_found slot (o ∷ bodies) i (suc k) all small e =
-    pass_over (entry_proxies slot o) (proxies_from (suc slot) bodies) (id_number i) (other_entry slot o i small (λ q. omega arith) (λ b e. all 0 b (ap Some e))) ∙ from_found (suc slot) bodies i k (λ k b e. all (suc k) b e) small (omega arith)
+    pass_over (option_map_or (body_proxies slot) o []) (proxies_from (suc slot) bodies) (id_number i) (other_entry slot o i small (λ q. omega arith) (λ b e. all 0 b (ap Some e))) ∙ from_found (suc slot) bodies i k (λ k b e. all (suc k) b e) small (omega arith)
 
 pub found_in : (bodies : List (Option Body)) (i : ShapeId) → AreBodies bodies → i.index < 256 → found (proxies_of bodies) (id_number i) ≡ shape_in i (body_at bodies i.slot)
 found_in bodies i all small = from_found 0 bodies i i.slot all small (omega arith)

@@ -2,9 +2,9 @@
 use Rattle.std.proofs.Common.{◌≡◌, ℕ, ◌<◌, Bool, true, false, cond, All, List, length, Option, None, Some, IfSome, refl, subst}
 use Rattle.std.proofs.lemmas.Option.{slice_get_within, get_or_from_slice_get}
 use Rattle.std.specs.Prelude.{option_map, slice_get}
+use Rattle.std.specs.Option.{option_flatten}
 use Rattle.plain_world.specs.Bodies.{AreBodies, IsBody, pose_of}
 use Rattle.plain_world.specs.Placement.{shape_in}
-use Rattle.plain_world.specs.Slots.{item_in}
 use Rattle.plain_world.specs.declared.body.Body.{Body}
 use Rattle.shapes.specs.Poses.{IsPose}
 use Rattle.shapes.specs.Shapes.{IsShape, IsShapeDef}
@@ -38,12 +38,12 @@ body_seen b i h =
     enabled_seen b.enabled (option_map (λ (d : ShapeDef). (d.shape, pose_of b)) (slice_get b.shapes i))
     (item_seen b.shapes (pose_of b) i (slice_get b.shapes i) refl h.forms (record { x = h.motion.x; rot = h.motion.facing }))
 
-slot_seen : (bodies : List (Option Body)) (slot i : ℕ) (o : Option (Option Body)) → slice_get bodies slot ≡ o → AreBodies bodies → IsSeen (shape_in (item_in o) i)
+slot_seen : (bodies : List (Option Body)) (slot i : ℕ) (o : Option (Option Body)) → slice_get bodies slot ≡ o → AreBodies bodies → IsSeen (shape_in (option_flatten o) i)
 slot_seen bodies slot i None e h = none_seen
 slot_seen bodies slot i (Some None) e h = none_seen
 slot_seen bodies slot i (Some (Some b)) e h = body_seen b i (h slot b e)
 
-pub shape_seen : (bodies : List (Option Body)) (slot i : ℕ) → AreBodies bodies → IsSeen (shape_in (item_in (slice_get bodies slot)) i)
+pub shape_seen : (bodies : List (Option Body)) (slot i : ℕ) → AreBodies bodies → IsSeen (shape_in (option_flatten (slice_get bodies slot)) i)
 shape_seen bodies slot i h = slot_seen bodies slot i (slice_get bodies slot) refl h
 
 -- what holds of the value that a function gives holds of what it was given

@@ -31,7 +31,7 @@ use Rattle.sleep_wake.specs.Sleeping.{rested_at, slept_at, split_if_loose}
 use Rattle.sleep_wake.proofs.AwakeLemmas.{and_is}
 use Rattle.sleep_wake.specs.Waking.{put_to_rest}
 use Rattle.solver_sets.specs.Beside.{is_beside_moving, timer_if, timers_from, timers_of}
-use Rattle.solver_sets.specs.Slept.{handles_where, is_asleep_label, sleeps}
+use Rattle.solver_sets.specs.Slept.{handles_where, sleeps}
 use Rattle.solver_sets.specs.SinceTold.{is_asleep_in, newly_asleep, was_asleep}
 use Rattle.solver_sets.specs.Tied.{AreTied}
 use Rattle.world_rules.specs.Apply.{rested_acting}
@@ -50,7 +50,7 @@ none_where test n [] h = refl
 none_where test n (p ∷ slot_entries) h =
     ap (λ (t : Bool). cond t (record { slot = n; generation = p.generation } ∷ handles_where test (suc n) slot_entries) (handles_where test (suc n) slot_entries)) (h n) ∙ none_where test (suc n) slot_entries h
 
-name_tells : (o : Option Label) → is_some (sleeping_name o) ≡ is_asleep_label o
+name_tells : (o : Option Label) → is_some (sleeping_name o) ≡ option_map_or (λ (label : Label). is_asleep label.state) o false
 name_tells None = refl
 name_tells (Some l) = by_state (is_asleep l.state)
   where
@@ -63,10 +63,10 @@ not_both true = refl
 not_both false = refl
 
 -- a body that sleeps just as its label tells hasn't fallen asleep
-asleep_not : (o : Option Body) (l : Option Label) → is_some l ≡ is_mover_in o → ((b : Body) → o ≡ Some b → b.asleep ≡ sleeping_name l) → (is_asleep_label l && not (is_asleep_in o)) ≡ false
+asleep_not : (o : Option Body) (l : Option Label) → is_some l ≡ is_mover_in o → ((b : Body) → o ≡ Some b → b.asleep ≡ sleeping_name l) → (option_map_or (λ (label : Label). is_asleep label.state) l false && not (is_asleep_in o)) ≡ false
 asleep_not None None tied h = refl
 asleep_not None (Some l) tied h = cc
-asleep_not (Some b) l tied h = ap (λ (t : Bool). is_asleep_label l && not t) (ap (λ (a : Option ℕ). is_some a) (h b refl) ∙ name_tells l) ∙ not_both (is_asleep_label l)
+asleep_not (Some b) l tied h = ap (λ (t : Bool). option_map_or (λ (label : Label). is_asleep label.state) l false && not t) (ap (λ (a : Option ℕ). is_some a) (h b refl) ∙ name_tells l) ∙ not_both (option_map_or (λ (label : Label). is_asleep label.state) l false)
 
 -- ---- timers
 

@@ -2,6 +2,7 @@
 use Rattle.std.proofs.Common.{◌≡◌, ℕ, zero, suc, ◌+◌, ◌<◌, ◌≤◌, ◌&&◌, Bool, true, false, not, cond, is_none, is_some, List, [], ◌∷◌, length, Contains, Option, Some, None, slice_get, slice_index_or, inl, inr, refl, sym, ap, ◌∙◌, subst, arith}
 use Rattle.std.specs.List.Sorted.{IsStrictlyIncreasing}
 use Rattle.std.proofs.lemmas.List.Kept.{AllPairs-from_increasing}
+use Rattle.std.specs.Option.{option_map_or, option_flatten}
 use Rattle.colour_solver.specs.States.{places_from}
 use Rattle.colour_solver.proofs.PlaceLaws.{length-places}
 use Rattle.contacts.proofs.Members.{Each, IsIn, each_from, each_in, in_from_contains}
@@ -10,12 +11,12 @@ use Rattle.contacts.specs.Constraints.{constraint_number}
 use Rattle.contacts.specs.declared.constraint.Constraint.{Constraint}
 use Rattle.contacts_base.specs.declared.contact.ContactEntry.{ContactEntry}
 use Rattle.islands.specs.declared.label.Label.{Label}
-use Rattle.islands.specs.Labels.{Labels, label_at}
+use Rattle.islands.specs.Labels.{Labels, label_at, is_asleep}
 use Rattle.plain_world.specs.declared.body.Body.{Body}
 use Rattle.plain_world.specs.declared.joint.BodyJoint.{BodyJoint}
 use Rattle.plain_world.specs.Bodies.{is_mover, is_mover_in}
 use Rattle.plain_world.specs.Changes.{is_awake_in}
-use Rattle.plain_world.specs.Slots.{body_at, item_in}
+use Rattle.plain_world.specs.Slots.{body_at}
 use Rattle.sleep_wake.specs.Acting.{Acting, IsConsistent}
 use Rattle.sleep_wake.specs.Acting as acting
 use Rattle.sleep_wake.specs.AwakeSlots.{AgreeAwake, AreAwakeSlots}
@@ -24,7 +25,7 @@ use Rattle.sleep_wake.proofs.AwakeLemmas.{and_is}
 use Rattle.sleep_wake.proofs.PhaseLemmas.{not_is}
 use Rattle.solver_sets.specs.BesideByTies.{ShowMoving}
 use Rattle.solver_sets.specs.Beside.{is_beside_moving, timers_from, timers_of}
-use Rattle.solver_sets.specs.Slept.{is_asleep_label, sleeps}
+use Rattle.solver_sets.specs.Slept.{sleeps}
 use Rattle.solver_sets.specs.SinceTold.{is_asleep_in, was_asleep}
 use Rattle.solver_sets.specs.Tied.{AreTied}
 use Rattle.world_rules.specs.Sound.{AreTold}
@@ -100,7 +101,7 @@ awake_label_at labels bodies slot (Some b) tied are at on =
     let both = both_true (is_mover b) b.asleep on in
     name_awake (label_at labels slot) (tied slot ∙ ap is_mover_in there ∙ both.0) (sym (are slot b there) ∙ both.1)
   where
-    at_body : (o : Option (Option Body)) → o ≡ Some (Some b) → item_in o ≡ Some b
+    at_body : (o : Option (Option Body)) → o ≡ Some (Some b) → option_flatten o ≡ Some b
     at_body None e = cc
     at_body (Some p) e = cc
 
@@ -127,7 +128,7 @@ awake_slots labels bodies awake e tied are = record {
 pub tied_rested : (timers : List ℕ) (bodies : List (Option Body)) (s new : Acting Constraint) → IsConsistent constraint_number s → AreTied bodies s.labels → new ≡ sleep_phase constraint_number timers s → AreTied bodies new.labels
 tied_rested timers bodies s new consistent tied e = subst (λ (a : Acting Constraint). AreTied bodies a.labels) (sym e) (λ slot. movers_stay.phase s timers consistent slot ∙ tied slot)
 
-asleep_there : (o : Option Label) → is_asleep_label o ≡ true → is_some o ≡ true
+asleep_there : (o : Option Label) → option_map_or (λ (label : Label). is_asleep label.state) o false ≡ true → is_some o ≡ true
 asleep_there None e = cc
 asleep_there (Some l) e = refl
 

@@ -2,6 +2,7 @@
 use Rattle.std.proofs.Common.{◌≡◌, ℕ, suc, ◌+◌, ◌*◌, ◌<◌, ◌≤◌, Bool, true, false, cond, All, List, [], ◌∷◌, ◌++◌, length, map, Option, Some, None, refl, sym, ap, ◌∙◌, arith, subst}
 use Rattle.std.proofs.lemmas.List.{map-append}
 use Rattle.std.proofs.lemmas.List.Elements.{All-head, All-tail}
+use Rattle.std.specs.Option.{option_map_or}
 use Rattle.fixed_geom.specs.declared.boxes.Box2.{Box2}
 use Rattle.body_handles.specs.declared.slot_table.TheConstants.{MAX_SLOTS}
 use Rattle.shapes.specs.Shapes.{IsShapeDef}
@@ -24,7 +25,7 @@ use Rattle.plain_world.specs.Bodies.{AreBodies, IsBody, pose_of, stirs}
 use Rattle.plain_world.specs.Joints.{forbidden_pairs}
 use Rattle.plain_world.specs.Kinds.{is_dynamic}
 use Rattle.world_core.proofs.CollideLaws.{contacts_are_after, eight_at_most}
-use Rattle.world_rules.specs.Collide.{contacts_after, entry_proxies, proxies_from, proxies_of, shape_proxies}
+use Rattle.world_rules.specs.Collide.{contacts_after, proxies_from, proxies_of, shape_proxies, body_proxies}
 
 -- a shape of the body in the slot
 record IsWithin (slot : ℕ) (p : Proxy) : Type 0 where
@@ -70,7 +71,7 @@ of_body slot b true lt is =
     )
 of_body slot b false lt is = (tt, tt)
 
-of_entry : (slot : ℕ) (o : Option Body) → slot < MAX_SLOTS → ((b : Body) → o ≡ Some b → IsBody b) → AreOf slot (entry_proxies slot o)
+of_entry : (slot : ℕ) (o : Option Body) → slot < MAX_SLOTS → ((b : Body) → o ≡ Some b → IsBody b) → AreOf slot (option_map_or (body_proxies slot) o [])
 of_entry slot None lt is = (tt, tt)
 of_entry slot (Some b) lt is = of_body slot b b.enabled lt (is b refl)
 
@@ -109,7 +110,7 @@ all_from : (slot : ℕ) (bodies : List (Option Body)) → slot + length bodies �
 all_from slot [] few all = record { each = tt; rising = tt; above = tt }
 all_from slot (o ∷ bodies) few all =
     let rest : AreFrom (suc slot) (proxies_from (suc slot) bodies) = all_from (suc slot) bodies (omega (arith, few)) (λ k b e. all (suc k) b e) in
-    joined slot (entry_proxies slot o) (proxies_from (suc slot) bodies) (of_entry slot o (omega (arith, few)) (λ b e. all 0 b (ap Some e)))
+    joined slot (option_map_or (body_proxies slot) o []) (proxies_from (suc slot) bodies) (of_entry slot o (omega (arith, few)) (λ b e. all 0 b (ap Some e)))
     (subst (λ (n : ℕ). AreFrom n (proxies_from (suc slot) bodies)) (omega arith) rest)
 
 -- they are the shapes that a broad phase takes

@@ -3,6 +3,7 @@ use Rattle.std.proofs.Common.{◌≡◌, ℕ, zero, suc, ◌+◌, ◌==◌, ◌|
 use Rattle.std.proofs.lemmas.Bool.Decides.{nat_tests}
 use Rattle.std.proofs.lemmas.List.Elements.{All-cons, All-nil, Contains-get_or}
 use Rattle.std.specs.List.{filter_map, cons_option}
+use Rattle.std.specs.Prelude.{option_and_then}
 use Rattle.graph_colours.specs.Colours.{all_members}
 use Rattle.graph_colours.specs.declared.limits.TheConstants.{COLOURS}
 use Rattle.graph_colours.specs.declared.member.Movers.{Movers}
@@ -17,7 +18,7 @@ use Rattle.plain_world.specs.Joints.{joint_at}
 use Rattle.plain_world.specs.Plain.{Plain}
 use Rattle.colour_solver.specs.Colour.{is_mover}
 use Rattle.plain_world.specs.Bodies.{moves}
-use Rattle.solver_sets.specs.Ties.{JointSlots, member_of, members_of, movers_if, movers_in, movers_of, movers_with, tie_with}
+use Rattle.solver_sets.specs.Ties.{JointSlots, member_of, members_of, movers_if, movers_of, movers_with, tie_with, joint_movers}
 use Rattle.solver_sets.proofs.TieLaws as ties
 use Rattle.world_core_base.specs.Gather.{states_of}
 use Rattle.world_core_base.specs.RowColours.{HasBoth, HasItsMovers, HasMovers, JointHasMovers}
@@ -71,7 +72,7 @@ has_movers : (bodies : List (Option Body)) (s : JointSlots) (m : Movers) (id : C
 has_movers bodies s m (Contact key) e = both_among bodies key.first.slot key.second.slot m e
 has_movers bodies s m (Joint h) e = by (joint_at s.joints h.slot) e
   where
-    by : (o : Option BodyJoint) → movers_in bodies o ≡ Some m → JointHasMovers (states_of bodies) m o
+    by : (o : Option BodyJoint) → option_and_then (joint_movers bodies) o ≡ Some m → JointHasMovers (states_of bodies) m o
     by None e = tt
     by (Some j) e = both_among bodies j.a j.b m e
 

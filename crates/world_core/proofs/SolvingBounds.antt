@@ -3,6 +3,7 @@ use Rattle.std.proofs.Common.{◌≡◌, ℕ, zero, suc, ◌+◌, ◌*◌, ◌�
 use Rattle.std.specs.Prelude.{option_map, slice_set, ◌*ℤ◌}
 use Rattle.std.proofs.lemmas.Int.{ints}
 use Rattle.std.proofs.lemmas.Option.{none-some, same_Some}
+use Rattle.std.specs.Option.{option_map_or}
 use Rattle.fixed_geom.specs.Numbers.{rdiv}
 use Rattle.fixed_geom.specs.Vectors.{IsWithin, plus, zero_vector}
 use Rattle.fixed_geom.specs.declared.boxes.Box2.{Box2}
@@ -32,10 +33,11 @@ use Rattle.plain_world.specs.declared.body.Body.{Body}
 use Rattle.plain_world.specs.declared.joint.BodyJoint.{BodyJoint}
 use Rattle.plain_world.specs.declared.kind.Kind.{Kind}
 use Rattle.plain_world.specs.declared.kind.Kind.TheVariants.{Static, Kinematic, Dynamic}
+use Rattle.plain_world.specs.Slots.{item_at}
 use Rattle.world_core_base.specs.Carried.{carried_motion, carried_to}
 use Rattle.world_core_base.specs.Renewal.{renewed_bodies, with_renewed}
 use Rattle.world_core_base.specs.Solving as steps
-use Rattle.world_core_base.specs.Solving.{Moving, Solving, Visits, all_changed, carried_on, begin, bodies_of, bounce, carry, motion_changed, clamp, ends_now, gain, gain_of, gain_between, left, after_impulse, moving, moving_at, pass, pull, solve, solved, tick, ticks, row_visit, visit_between, visit_joined, visit_joint, warm}
+use Rattle.world_core_base.specs.Solving.{Moving, Solving, Visits, all_changed, carried_on, begin, bodies_of, bounce, carry, motion_changed, clamp, ends_now, gain, gain_between, left, after_impulse, moving, pass, pull, solve, solved, tick, ticks, row_visit, visit_between, visit_joined, visit_joint, warm, nothing}
 use Rattle.world_core.proofs.ImpulseBounds.{AreEndsWithin, KeepsWithin, bounce_keeps, solve_keeps, warm_keeps, wider}
 
 -- ---- bodies in a step
@@ -56,7 +58,7 @@ bound_wider k n [] le h = tt
 bound_wider k n (None ∷ ms) le h = bound_wider k n ms le h
 bound_wider k n (Some m ∷ ms) le h = (record { mass = h.0.mass; p = wider k n m.motion.p le h.0.p; own = wider k n m.body.motion.p le h.0.own }, bound_wider k n ms le h.1)
 
-at_bound : (k : ℕ) (ms : List (Option Moving)) (slot : ℕ) (m : Moving) → AreBound k ms → moving_at ms slot ≡ Some m → IsBound k m
+at_bound : (k : ℕ) (ms : List (Option Moving)) (slot : ℕ) (m : Moving) → AreBound k ms → item_at ms slot ≡ Some m → IsBound k m
 at_bound k [] slot m h e = absurd (none-some m e)
 at_bound k (None ∷ ms) zero m h e = absurd (none-some m e)
 at_bound k (Some o ∷ ms) zero m h e = subst (IsBound k) (same_Some o m e) h.0
@@ -94,7 +96,7 @@ back_bound k ms i j a b h is_a is_b = set_bound k (slice_set ms i (Some a)) j b 
 back_few : (ms : List (Option Moving)) (i j : ℕ) (a b : Option Moving) → length ms ≤ 2 ^ 16 → length (slice_set (slice_set ms i a) j b) ≤ 2 ^ 16
 back_few ms i j a b few = let first = length_set ms i a in let second = length_set (slice_set ms i a) j b in omega (arith, first, second, few)
 
-joined_bound : (k g c : ℕ) (f : Visits) (s : Solving) (slot : ℕ) (j : BodyJoint) (a b : Option Moving) → KeepsWithin k f → IsBounded k g c s → moving_at s.bodies j.a ≡ a → moving_at s.bodies j.b ≡ b → IsBounded k g c (visit_joined f s slot j a b)
+joined_bound : (k g c : ℕ) (f : Visits) (s : Solving) (slot : ℕ) (j : BodyJoint) (a b : Option Moving) → KeepsWithin k f → IsBounded k g c s → item_at s.bodies j.a ≡ a → item_at s.bodies j.b ≡ b → IsBounded k g c (visit_joined f s slot j a b)
 joined_bound k g c f s slot j None b keeps h at_a at_b = h
 joined_bound k g c f s slot j (Some a) None keeps h at_a at_b = h
 joined_bound k g c f s slot j (Some a) (Some b) keeps h at_a at_b =
@@ -111,9 +113,9 @@ joined_bound k g c f s slot j (Some a) (Some b) keeps h at_a at_b =
 
 joint_bound : (k g c : ℕ) (f : Visits) (s : Solving) (slot : ℕ) (o : Option BodyJoint) → KeepsWithin k f → IsBounded k g c s → IsBounded k g c (visit_joint f s slot o)
 joint_bound k g c f s slot None keeps h = h
-joint_bound k g c f s slot (Some j) keeps h = joined_bound k g c f s slot j (moving_at s.bodies j.a) (moving_at s.bodies j.b) keeps h refl refl
+joint_bound k g c f s slot (Some j) keeps h = joined_bound k g c f s slot j (item_at s.bodies j.a) (item_at s.bodies j.b) keeps h refl refl
 
-between_bound : (k g c : ℕ) (f : Visits) (s : Solving) (key : ContactKey) (o : Option ContactEntry) (a b : Option Moving) → KeepsWithin k f → IsBounded k g c s → moving_at s.bodies key.first.slot ≡ a → moving_at s.bodies key.second.slot ≡ b → IsBounded k g c (visit_between f s key o a b)
+between_bound : (k g c : ℕ) (f : Visits) (s : Solving) (key : ContactKey) (o : Option ContactEntry) (a b : Option Moving) → KeepsWithin k f → IsBounded k g c s → item_at s.bodies key.first.slot ≡ a → item_at s.bodies key.second.slot ≡ b → IsBounded k g c (visit_between f s key o a b)
 between_bound k g c f s key None a b keeps h at_a at_b = h
 between_bound k g c f s key (Some e) None b keeps h at_a at_b = h
 between_bound k g c f s key (Some e) (Some a) None keeps h at_a at_b = h
@@ -131,7 +133,7 @@ between_bound k g c f s key (Some e) (Some a) (Some b) keeps h at_a at_b =
 
 turn_bound : (k g c : ℕ) (f : Visits) (s : Solving) (id : Constraint) → KeepsWithin k f → IsBounded k g c s → IsBounded k g c (row_visit f s id)
 turn_bound k g c f s (constraints.Joint h) keeps is = joint_bound k g c f s h.slot (joint_at s.joints h.slot) keeps is
-turn_bound k g c f s (constraints.Contact key) keeps is = between_bound k g c f s key (lookup s.contacts key) (moving_at s.bodies key.first.slot) (moving_at s.bodies key.second.slot) keeps is refl refl
+turn_bound k g c f s (constraints.Contact key) keeps is = between_bound k g c f s key (lookup s.contacts key) (item_at s.bodies key.first.slot) (item_at s.bodies key.second.slot) keeps is refl refl
 
 pass_bound : (k g c : ℕ) (f : Visits) (order : List Constraint) (s : Solving) → KeepsWithin k f → IsBounded k g c s → IsBounded k g c (pass f order s)
 pass_bound k g c f [] s keeps h = h
@@ -175,7 +177,7 @@ gain_bound k n f [] le most leads h = record { x = omega arith; y = omega arith 
 gain_bound k n f (None ∷ ms) le most leads h = none_more (length ms) (gain f ms) (gain_bound k n f ms le most leads h)
 gain_bound k n f (Some m ∷ ms) le most leads h =
     let now = changed_if k n (is_awake m.body) m (f m.body.mass m.motion) le h.0 (leads m.body.mass m.motion h.0.mass h.0.p) in
-    one_more (length ms) (gain_of f (Some m)) (gain f ms) (one_gain k n m.motion (motion_changed f m).motion (omega (arith, le, most)) most h.0.p now.p) (gain_bound k n f ms le most leads h.1)
+    one_more (length ms) (option_map_or (λ (m : Moving). gain_between m.motion (motion_changed f m).motion) (Some m) nothing) (gain f ms) (one_gain k n m.motion (motion_changed f m).motion (omega (arith, le, most)) most h.0.p now.p) (gain_bound k n f ms le most leads h.1)
 
 -- all that a pass can add
 abbrev pub pass_most : ℕ

@@ -36,7 +36,7 @@ use Rattle.sleep_wake.specs.declared.change.Change.TheVariants.{Begin, End}
 use Rattle.sleep_wake.proofs.EdgeLemmas.{edges_inside}
 use Rattle.sleep_wake.proofs.AwakeLemmas.{and_is}
 use Rattle.sleep_wake.proofs.PhaseLemmas.{picked_is}
-use Rattle.solver_sets.specs.Slept.{handles_where, is_asleep_label, sleeps}
+use Rattle.solver_sets.specs.Slept.{handles_where, sleeps}
 use Rattle.solver_sets.specs.SinceTold.{is_asleep_in, newly_asleep, was_asleep}
 use Rattle.world_core_base.specs.Telling.{AreToldBeside}
 use Rattle.world_rules.specs.Sound.{AreTold}
@@ -255,7 +255,7 @@ fewer_asleep slot_entries bodies labels = fewer_where (λ slot. sleeps labels sl
 
 -- ---- a body that is awake, and is told so
 
-pub name_tells : (o : Option Label) (n : Option ℕ) → sleeping_name o ≡ n → is_asleep_label o ≡ is_some n
+pub name_tells : (o : Option Label) (n : Option ℕ) → sleeping_name o ≡ n → option_map_or (λ (label : Label). is_asleep label.state) o false ≡ is_some n
 name_tells None n e = ap (λ (m : Option ℕ). is_some m) e
 name_tells (Some l) n e = by_state (is_asleep l.state) ∙ ap (λ (m : Option ℕ). is_some m) e
   where

@@ -1,13 +1,13 @@
 -- Which pairs of bodies joints keep from colliding: the joints of either of the two bodies tell it.
 use Rattle.std.proofs.Common.{◌≡◌, ℕ, zero, suc, ◌==◌, ◌||◌, Bool, true, false, cond, List, [], ◌∷◌, Option, Some, None, ◌⊎◌, inl, inr, refl, sym, ap, ◌∙◌}
-use Rattle.std.specs.Prelude.{◌/◌, ◌&&◌}
+use Rattle.std.specs.Prelude.{◌/◌, ◌&&◌, option_and_then}
 use Rattle.std.specs.List.{cons_option, list_any}
 use Rattle.contacts.specs.declared.forbidden.BodyPair.{BodyPair}
 use Rattle.contacts.specs.Forbidden.{is_pair_of}
 use Rattle.contacts.proofs.Members.{IsIn, in_from_contains}
 use Rattle.packed_sets.specs.Packs.{list_at}
 use Rattle.plain_world.specs.declared.joint.BodyJoint.{BodyJoint}
-use Rattle.plain_world.specs.Joints.{forbidden_in, forbidden_pairs, is_end_in, joint_at}
+use Rattle.plain_world.specs.Joints.{forbidden_pairs, is_end_in, joint_at, forbidden_by}
 use Rattle.world_core_base.specs.JointEnds.{AreEnds, halves}
 use Rattle.world_core_base.specs.ForbiddenPairs.{is_of, keeps_apart, one_keeps_apart}
 use Rattle.world_core_base.proofs.OwnJointLaws.{all_ends}
@@ -41,7 +41,7 @@ any_option a b (Some pair) rest = refl
 -- each pair is that of a joint
 pub any_joint : (a b : ℕ) (joints : List (Option BodyJoint)) → list_any (is_pair_of a b) (forbidden_pairs joints) ≡ list_any (keeps_apart a b) joints
 any_joint a b [] = refl
-any_joint a b (o ∷ joints) = any_option a b (forbidden_in o) (forbidden_pairs joints) ∙ ap (λ (t : Bool). keeps_apart a b o || t) (any_joint a b joints)
+any_joint a b (o ∷ joints) = any_option a b (option_and_then forbidden_by o) (forbidden_pairs joints) ∙ ap (λ (t : Bool). keeps_apart a b o || t) (any_joint a b joints)
 
 -- ---- a joint that keeps two bodies apart is one of either
 

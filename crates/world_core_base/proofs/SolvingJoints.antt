@@ -5,6 +5,7 @@ use Rattle.std.specs.List.{slice_get, filter_map, cons_option}
 use Rattle.std.proofs.lemmas.Bool.{cases_eq}
 use Rattle.std.proofs.lemmas.List.Elements.{All-nil, All-cons, All-tail, All-weaker}
 use Rattle.std.proofs.lemmas.Option.{none-some, same_Some, slice_get-map}
+use Rattle.std.specs.Option.{option_flatten}
 use Rattle.momenta.specs.declared.state.BodyState.{BodyState}
 use Rattle.joint_rows.specs.Rows.{joint_row}
 use Rattle.contacts.specs.declared.constraint.Constraint.{Constraint}
@@ -13,7 +14,6 @@ use Rattle.plain_world.specs.declared.body.Body.{Body}
 use Rattle.plain_world.specs.declared.joint.BodyJoint.{BodyJoint}
 use Rattle.plain_world.specs.Joints.{joint_at}
 use Rattle.plain_world.specs.InSlots.{impulse_set, with_impulse}
-use Rattle.plain_world.specs.Slots.{item_in}
 use Rattle.world_core_base.specs.ConstraintRows.{joint_bodies, joint_ends, joint_row_in, joint_row_of, put_joint_row, with_joint_rows}
 use Rattle.world_core_base.specs.SolvingArrays.{HasEnds, JointHasEnds}
 
@@ -152,7 +152,7 @@ still_none js ks slot e is =
     by (slice_get js slot) (slice_get ks slot) (no_item (slice_get ks slot) is)
     (sym (slice_get-map bare_entry js slot) ∙ ap (λ (l : List (Option BodyJoint)). slice_get l slot) e ∙ slice_get-map bare_entry ks slot)
   where
-    no_item : (o : Option (Option BodyJoint)) → item_in o ≡ None → (o ≡ None) ⊎ (o ≡ Some None)
+    no_item : (o : Option (Option BodyJoint)) → option_flatten o ≡ None → (o ≡ None) ⊎ (o ≡ Some None)
     no_item None h = inl refl
     no_item (Some None) h = inr refl
     no_item (Some (Some j)) h = absurd (none-some j (sym h))

@@ -27,10 +27,11 @@ use Rattle.colour_solver.specs.declared.constraint_row.ConstraintRow.TheVariants
 use Rattle.plain_world.specs.declared.body.Body.{Body}
 use Rattle.plain_world.specs.declared.joint.BodyJoint.{BodyJoint}
 use Rattle.plain_world.specs.Joints.{joint_at}
+use Rattle.plain_world.specs.Slots.{item_at}
 use Rattle.colour_solver.specs.ConstraintVisits.{contacts_among, joints_among}
 use Rattle.world_core_base.specs.ConstraintRows.{constraint_row, joint_row_in, joint_row_of, with_joint_rows}
 use Rattle.world_core_base.specs.Gather.{row_of, states_of, with_motions, with_rows}
-use Rattle.world_core_base.specs.Solving.{Moving, Solving, Visits, begin, bounce, clamp, ends_now, ends_then, left, moving_at, pass, pull, solve, solve_order, solved, tick, ticks, row_visit, visit_between, visit_joined, visit_joint, warm, with_contact}
+use Rattle.world_core_base.specs.Solving.{Moving, Solving, Visits, begin, bounce, clamp, ends_now, ends_then, left, pass, pull, solve, solve_order, solved, tick, ticks, row_visit, visit_between, visit_joined, visit_joint, warm, with_contact}
 use Rattle.world_core_base.specs.SolvingArrays.{ArraysAreSolving, IsRunOf}
 use Rattle.world_core_base.proofs.SolvingBack.{IsOther, IsSameBeside, bare, bare_contact, bare_point, rows_back}
 use Rattle.world_core_base.proofs.SolvingContacts.{put_else}
@@ -105,8 +106,8 @@ visit_impulsed f s (constraints.Joint h) order law = by (joint_at s.joints h.slo
 
     by : (o : Option BodyJoint) → IsImpulsed (constraints.Joint h ∷ order) s.contacts (visit_joint f s h.slot o).contacts
     by None = unimpulsed (constraints.Joint h ∷ order) s.contacts
-    by (Some j) = between j (moving_at s.bodies j.a) (moving_at s.bodies j.b)
-visit_impulsed f s (constraints.Contact key) order law = by (lookup s.contacts key) (moving_at s.bodies key.first.slot) (moving_at s.bodies key.second.slot) refl
+    by (Some j) = between j (item_at s.bodies j.a) (item_at s.bodies j.b)
+visit_impulsed f s (constraints.Contact key) order law = by (lookup s.contacts key) (item_at s.bodies key.first.slot) (item_at s.bodies key.second.slot) refl
   where
     by : (o : Option ContactEntry) (a b : Option Moving) → lookup s.contacts key ≡ o → IsImpulsed (constraints.Contact key ∷ order) s.contacts (visit_between f s key o a b).contacts
     by None a b is = unimpulsed (constraints.Contact key ∷ order) s.contacts
@@ -143,7 +144,7 @@ solved_impulsed n g order bodies joints contacts =
 
 -- what a visit leaves of the joints, of these constraints and one more
 visit_joints : (f : Visits) (s : Solving) (id : Constraint) (order : List Constraint) → IsJointVisitBare f → AreImpulsed (id ∷ order) s.joints (row_visit f s id).joints
-visit_joints f s (constraints.Contact key) order law = by (lookup s.contacts key) (moving_at s.bodies key.first.slot) (moving_at s.bodies key.second.slot)
+visit_joints f s (constraints.Contact key) order law = by (lookup s.contacts key) (item_at s.bodies key.first.slot) (item_at s.bodies key.second.slot)
   where
     by : (o : Option ContactEntry) (a b : Option Moving) → AreImpulsed (constraints.Contact key ∷ order) s.joints (visit_between f s key o a b).joints
     by None a b = none_impulsed (constraints.Contact key ∷ order) s.joints
@@ -160,7 +161,7 @@ visit_joints f s (constraints.Joint h) order law = by (joint_at s.joints h.slot)
 
     by : (o : Option BodyJoint) → joint_at s.joints h.slot ≡ o → AreImpulsed (constraints.Joint h ∷ order) s.joints (visit_joint f s h.slot o).joints
     by None is = none_impulsed (constraints.Joint h ∷ order) s.joints
-    by (Some j) is = between j (moving_at s.bodies j.a) (moving_at s.bodies j.b) is
+    by (Some j) is = between j (item_at s.bodies j.a) (item_at s.bodies j.b) is
 
 pass_joints : (f : Visits) (order : List Constraint) (s : Solving) → IsJointVisitBare f → AreImpulsed order s.joints (pass f order s).joints
 pass_joints f [] s law = none_impulsed [] s.joints

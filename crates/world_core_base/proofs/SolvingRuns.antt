@@ -3,6 +3,7 @@ use Rattle.std.proofs.Common.{◌≡◌, ℕ, zero, suc, Bool, true, false, cond
 use Rattle.std.specs.Prelude.{option_map}
 use Rattle.std.specs.List.{filter_map, flat_map, cons_option}
 use Rattle.std.proofs.lemmas.List.Elements.{filter_map-append}
+use Rattle.std.specs.Option.{option_map_or}
 use Rattle.fixed_geom.specs.Vectors.{plus}
 use Rattle.fixed_geom.specs.declared.vectors.Vec2.{Vec2}
 use Rattle.momenta.specs.Motions.{pulled, speed_clamped, advanced}
@@ -45,10 +46,11 @@ use Rattle.plain_world.specs.declared.body.Body.{Body}
 use Rattle.plain_world.specs.declared.joint.BodyJoint.{BodyJoint}
 use Rattle.plain_world.specs.Joints.{joint_at}
 use Rattle.plain_world.specs.Bodies.{is_awake, is_carried}
+use Rattle.plain_world.specs.Slots.{item_at}
 use Rattle.world_core_base.specs.Carried.{solver_mass}
 use Rattle.world_core_base.specs.ConstraintRows.{constraint_row, rows_in, rows_of}
 use Rattle.world_core_base.specs.Gather.{bodies_of, state_of, states_of}
-use Rattle.world_core_base.specs.Solving.{Moving, Solving, Visits, all_changed, carried_on, begin, bounce, carry, motion_changed, clamp, gain, gain_of, gain_between, moving, moving_at, pass, pull, solve, solve_order, solved, state_with, tick, ticks, row_visit, visit_between, visit_joined, visit_joint, warm}
+use Rattle.world_core_base.specs.Solving.{Moving, Solving, Visits, all_changed, carried_on, begin, bounce, carry, motion_changed, clamp, gain, gain_between, moving, pass, pull, solve, solve_order, solved, state_with, tick, ticks, row_visit, visit_between, visit_joined, visit_joint, warm, nothing}
 use Rattle.world_core_base.specs.SolvingArrays.{CanSolve, HasEnds}
 use Rattle.world_core_base.proofs.GatherLaws.{carried_state, mass_carried}
 use Rattle.world_core_base.proofs.SolvingJoints.{all_ends_as, bare_joints}
@@ -92,8 +94,8 @@ booked_visit f s (constraints.Joint h) = by (joint_at s.joints h.slot)
 
     by : (o : Option BodyJoint) → AreBookedAlike s (visit_joint f s h.slot o)
     by None = record { gravity = refl; clamp = refl }
-    by (Some j) = between j (moving_at s.bodies j.a) (moving_at s.bodies j.b)
-booked_visit f s (constraints.Contact key) = by (lookup s.contacts key) (moving_at s.bodies key.first.slot) (moving_at s.bodies key.second.slot)
+    by (Some j) = between j (item_at s.bodies j.a) (item_at s.bodies j.b)
+booked_visit f s (constraints.Contact key) = by (lookup s.contacts key) (item_at s.bodies key.first.slot) (item_at s.bodies key.second.slot)
   where
     by : (o : Option ContactEntry) (a b : Option Moving) → AreBookedAlike s (visit_between f s key o a b)
     by None a b = record { gravity = refl; clamp = refl }
@@ -169,7 +171,7 @@ gain_by : (t : Bool) (f : MassData → Motion → Motion) (m : Moving) → array
 gain_by true f m = refl
 gain_by false f m = sym (minus_same m.motion.p)
 
-one_gain : (f : MassData → Motion → Motion) (o : Option Moving) → arrays.one_gain f (held o) ≡ as_vector (gain_of f o)
+one_gain : (f : MassData → Motion → Motion) (o : Option Moving) → arrays.one_gain f (held o) ≡ as_vector (option_map_or (λ (m : Moving). gain_between m.motion (motion_changed f m).motion) o nothing)
 one_gain f None = refl
 one_gain f (Some m) = gain_by (is_awake m.body) f m
 

@@ -43,11 +43,11 @@ use Rattle.colour_solver.specs.RowVisits.{after, ends_of, got, got_by, passed, r
 use Rattle.plain_world.specs.declared.body.Body.{Body}
 use Rattle.plain_world.specs.declared.joint.BodyJoint.{BodyJoint}
 use Rattle.plain_world.specs.Joints.{joint_at}
-use Rattle.plain_world.specs.Slots.{body_at}
+use Rattle.plain_world.specs.Slots.{body_at, item_at}
 use Rattle.world_core_base.specs.Carried.{solver_motion}
 use Rattle.world_core_base.specs.Gather.{bodies_of, ends_at, row_in, row_of, state_of, states_of}
 use Rattle.world_core_base.specs.ConstraintRows.{constraint_row, joint_bodies, joint_ends, joint_row_in}
-use Rattle.world_core_base.specs.Solving.{Moving, Solving, Visits, ends_now, ends_then, gain_between, given_by_immovable, after_impulse, moving_at, nothing, pass, gain_sum, put_back, put_joint_back, state_with, row_visit, visit_between, visit_joined, visit_joint, with_contact, with_sum}
+use Rattle.world_core_base.specs.Solving.{Moving, Solving, Visits, ends_now, ends_then, gain_between, given_by_immovable, after_impulse, nothing, pass, gain_sum, put_back, put_joint_back, state_with, row_visit, visit_between, visit_joined, visit_joint, with_contact, with_sum}
 use Rattle.world_core_base.specs.SolvingArrays.{AreOther, HasEnds, JointHasEnds}
 use Rattle.world_core_base.proofs.ContactLaws.{row_bodies, row_is}
 use Rattle.world_core_base.proofs.SolvingJoints.{all_ends_as, bare_joint, bare_joints, bare_put, joint_put_other, joint_put_same}
@@ -66,17 +66,17 @@ body_of o = option_map (λ (m : Moving). m.body) o
 abbrev pub stood : List (Option Moving) → List (Option Body)
 stood bodies = map body_of bodies
 
-held_at : (ms : List (Option Moving)) (slot : ℕ) (m : Moving) → moving_at ms slot ≡ Some m → slice_index_or (map held ms) slot nobody ≡ state_with m.body m.motion
+held_at : (ms : List (Option Moving)) (slot : ℕ) (m : Moving) → item_at ms slot ≡ Some m → slice_index_or (map held ms) slot nobody ≡ state_with m.body m.motion
 held_at [] slot m e = cc
 held_at (o ∷ os) zero m e = ap held e
 held_at (o ∷ os) (suc slot) m e = held_at os slot m e
 
-then_at : (ms : List (Option Moving)) (slot : ℕ) (m : Moving) → moving_at ms slot ≡ Some m → slice_index_or (states_of (stood ms)) slot nobody ≡ state_with m.body (solver_motion m.body)
+then_at : (ms : List (Option Moving)) (slot : ℕ) (m : Moving) → item_at ms slot ≡ Some m → slice_index_or (states_of (stood ms)) slot nobody ≡ state_with m.body (solver_motion m.body)
 then_at [] slot m e = cc
 then_at (o ∷ os) zero m e = ap (λ (p : Option Moving). state_of (body_of p)) e
 then_at (o ∷ os) (suc slot) m e = then_at os slot m e
 
-body_there : (ms : List (Option Moving)) (slot : ℕ) → body_at (stood ms) slot ≡ body_of (moving_at ms slot)
+body_there : (ms : List (Option Moving)) (slot : ℕ) → body_at (stood ms) slot ≡ body_of (item_at ms slot)
 body_there [] slot = refl
 body_there (o ∷ os) zero = refl
 body_there (o ∷ os) (suc slot) = body_there os slot
@@ -98,7 +98,7 @@ held_put ms slot s m h = ap (λ (t : BodyState). slice_set (map held ms) slot t)
 
 -- ---- what stays
 
-set_there : (ms : List (Option Moving)) (slot : ℕ) (m : Moving) → moving_at ms slot ≡ Some m → slice_set ms slot (Some m) ≡ ms
+set_there : (ms : List (Option Moving)) (slot : ℕ) (m : Moving) → item_at ms slot ≡ Some m → slice_set ms slot (Some m) ≡ ms
 set_there [] slot m e = refl
 set_there (o ∷ os) zero m e = ap (λ (p : Option Moving). p ∷ os) (sym e)
 set_there (o ∷ os) (suc slot) m e = ap (λ (l : List (Option Moving)). o ∷ l) (set_there os slot m e)
@@ -108,7 +108,7 @@ stood_set [] slot m e = refl
 stood_set (o ∷ os) zero m e = ap (λ (p : Option Body). p ∷ stood os) (sym e)
 stood_set (o ∷ os) (suc slot) m e = ap (λ (l : List (Option Body)). body_of o ∷ l) (stood_set os slot m e)
 
-stood_put : (ms : List (Option Moving)) (i j : ℕ) (a b x y : Moving) → moving_at ms i ≡ Some a → moving_at ms j ≡ Some b → x.body ≡ a.body → y.body ≡ b.body → stood (slice_set (slice_set ms i (Some x)) j (Some y)) ≡ stood ms
+stood_put : (ms : List (Option Moving)) (i j : ℕ) (a b x y : Moving) → item_at ms i ≡ Some a → item_at ms j ≡ Some b → x.body ≡ a.body → y.body ≡ b.body → stood (slice_set (slice_set ms i (Some x)) j (Some y)) ≡ stood ms
 stood_put ms i j a b x y at_a at_b e f =
     let first : stood (slice_set ms i (Some x)) ≡ stood ms = stood_set ms i x (body_there ms i ∙ ap body_of at_a ∙ ap Some (sym e)) in
     stood_set (slice_set ms i (Some x)) j y (ap (λ (l : List (Option Body)). body_at l j) first ∙ body_there ms j ∙ ap body_of at_b ∙ ap Some (sym f)) ∙ first
@@ -116,7 +116,7 @@ stood_put ms i j a b x y at_a at_b e f =
 pub stood_visit : (f : Visits) (s : Solving) (id : Constraint) → stood (row_visit f s id).bodies ≡ stood s.bodies
 stood_visit f s (constraints.Joint h) = by (joint_at s.joints h.slot)
   where
-    between : (j : BodyJoint) (a b : Option Moving) → moving_at s.bodies j.a ≡ a → moving_at s.bodies j.b ≡ b → stood (visit_joined f s h.slot j a b).bodies ≡ stood s.bodies
+    between : (j : BodyJoint) (a b : Option Moving) → item_at s.bodies j.a ≡ a → item_at s.bodies j.b ≡ b → stood (visit_joined f s h.slot j a b).bodies ≡ stood s.bodies
     between j None b at_a at_b = refl
     between j (Some a) None at_a at_b = refl
     between j (Some a) (Some b) at_a at_b =
@@ -125,10 +125,10 @@ stood_visit f s (constraints.Joint h) = by (joint_at s.joints h.slot)
 
     by : (o : Option BodyJoint) → stood (visit_joint f s h.slot o).bodies ≡ stood s.bodies
     by None = refl
-    by (Some j) = between j (moving_at s.bodies j.a) (moving_at s.bodies j.b) refl refl
-stood_visit f s (constraints.Contact key) = by (lookup s.contacts key) (moving_at s.bodies key.first.slot) (moving_at s.bodies key.second.slot) refl refl
+    by (Some j) = between j (item_at s.bodies j.a) (item_at s.bodies j.b) refl refl
+stood_visit f s (constraints.Contact key) = by (lookup s.contacts key) (item_at s.bodies key.first.slot) (item_at s.bodies key.second.slot) refl refl
   where
-    by : (o : Option ContactEntry) (a b : Option Moving) → moving_at s.bodies key.first.slot ≡ a → moving_at s.bodies key.second.slot ≡ b → stood (visit_between f s key o a b).bodies ≡ stood s.bodies
+    by : (o : Option ContactEntry) (a b : Option Moving) → item_at s.bodies key.first.slot ≡ a → item_at s.bodies key.second.slot ≡ b → stood (visit_between f s key o a b).bodies ≡ stood s.bodies
     by None a b at_a at_b = refl
     by (Some e) None b at_a at_b = refl
     by (Some e) (Some a) None at_a at_b = refl
@@ -141,7 +141,7 @@ abbrev pub IsJointVisitBare : Visits → Type 0
 IsJointVisitBare f = (j : BodyJoint) (begun now : Ends) → bare_joint (record j { joint = (f.joint j.joint begun now).joint }) ≡ bare_joint j
 
 pub bare_visit : (f : Visits) (s : Solving) (id : Constraint) → IsJointVisitBare f → bare_joints (row_visit f s id).joints ≡ bare_joints s.joints
-bare_visit f s (constraints.Contact key) law = by (lookup s.contacts key) (moving_at s.bodies key.first.slot) (moving_at s.bodies key.second.slot)
+bare_visit f s (constraints.Contact key) law = by (lookup s.contacts key) (item_at s.bodies key.first.slot) (item_at s.bodies key.second.slot)
   where
     by : (o : Option ContactEntry) (a b : Option Moving) → bare_joints (visit_between f s key o a b).joints ≡ bare_joints s.joints
     by None a b = refl
@@ -157,7 +157,7 @@ bare_visit f s (constraints.Joint h) law = by (joint_at s.joints h.slot) refl
 
     by : (o : Option BodyJoint) → joint_at s.joints h.slot ≡ o → bare_joints (visit_joint f s h.slot o).joints ≡ bare_joints s.joints
     by None is = refl
-    by (Some j) is = between j (moving_at s.bodies j.a) (moving_at s.bodies j.b) is
+    by (Some j) is = between j (item_at s.bodies j.a) (item_at s.bodies j.b) is
 
 -- ---- other constraints' rows stay
 
@@ -172,7 +172,7 @@ row_joint_other f states s h (constraints.Joint k) ne = by (joint_at s.joints h.
 
     by : (o : Option BodyJoint) → constraint_row states (visit_joint f s h.slot o).joints s.contacts (constraints.Joint k) ≡ constraint_row states s.joints s.contacts (constraints.Joint k)
     by None = refl
-    by (Some j) = between j (moving_at s.bodies j.a) (moving_at s.bodies j.b)
+    by (Some j) = between j (item_at s.bodies j.a) (item_at s.bodies j.b)
 row_joint_other f states s h (constraints.Contact key) ne = by (joint_at s.joints h.slot)
   where
     between : (j : BodyJoint) (a b : Option Moving) → constraint_row states (visit_joined f s h.slot j a b).joints (visit_joined f s h.slot j a b).contacts (constraints.Contact key) ≡ constraint_row states s.joints s.contacts (constraints.Contact key)
@@ -182,10 +182,10 @@ row_joint_other f states s h (constraints.Contact key) ne = by (joint_at s.joint
 
     by : (o : Option BodyJoint) → constraint_row states (visit_joint f s h.slot o).joints (visit_joint f s h.slot o).contacts (constraints.Contact key) ≡ constraint_row states s.joints s.contacts (constraints.Contact key)
     by None = refl
-    by (Some j) = between j (moving_at s.bodies j.a) (moving_at s.bodies j.b)
+    by (Some j) = between j (item_at s.bodies j.a) (item_at s.bodies j.b)
 
 row_contact_other : (f : Visits) (states : List BodyState) (s : Solving) (key : ContactKey) (other : Constraint) → AreOther (constraints.Contact key) other → constraint_row states (row_visit f s (constraints.Contact key)).joints (row_visit f s (constraints.Contact key)).contacts other ≡ constraint_row states s.joints s.contacts other
-row_contact_other f states s key other ne = by other (lookup s.contacts key) (moving_at s.bodies key.first.slot) (moving_at s.bodies key.second.slot) ne
+row_contact_other f states s key other ne = by other (lookup s.contacts key) (item_at s.bodies key.first.slot) (item_at s.bodies key.second.slot) ne
   where
     by : (other : Constraint) (o : Option ContactEntry) (a b : Option Moving) → AreOther (constraints.Contact key) other → constraint_row states (visit_between f s key o a b).joints (visit_between f s key o a b).contacts other ≡ constraint_row states s.joints s.contacts other
     by other None a b ne = refl
@@ -277,7 +277,7 @@ abbrev contact_slots : ContactRow → Slots
 contact_slots r = record { a = r.bodies.a; b = r.bodies.b }
 
 turned_by : (f : Visits) (k : JointRow → Ends → JointAfter) (g : ContactRow → Ends → RowAfter ContactRow) (s : Solving) (key : ContactKey) (e : ContactEntry) (a b : Moving) (r : ContactRow) → IsVisitAlike f k g
-    → lookup s.contacts key ≡ Some e → moving_at s.bodies key.first.slot ≡ Some a → moving_at s.bodies key.second.slot ≡ Some b
+    → lookup s.contacts key ≡ Some e → item_at s.bodies key.first.slot ≡ Some a → item_at s.bodies key.second.slot ≡ Some b
     → contact_row (bodies_of key e.surface) (ends_at (states_of (stood s.bodies)) key) e.contact ≡ Some r
     → IsVisited (either_visit k g) (states_of (stood s.bodies)) (map held s.bodies) s.sums.immovable (put_back key a b (f.contact e (ends_then a b) (ends_now a b)) s) (constraints.Contact key) (rows.Contact r)
 turned_by f k g s key e a b r law look at_a at_b is =
@@ -313,10 +313,10 @@ visited_contact : (f : Visits) (k : JointRow → Ends → JointAfter) (g : Conta
     → row_of (states_of (stood s.bodies)) s.contacts (constraints.Contact key) ≡ Some r → IsVisited (either_visit k g) (states_of (stood s.bodies)) (map held s.bodies) s.sums.immovable (row_visit f s (constraints.Contact key)) (constraints.Contact key) (rows.Contact r)
 visited_contact f k g s key r law there is =
     let begun : List BodyState = states_of (stood s.bodies) in
-    by (lookup s.contacts key) (moving_at s.bodies key.first.slot) (moving_at s.bodies key.second.slot) refl refl refl
+    by (lookup s.contacts key) (item_at s.bodies key.first.slot) (item_at s.bodies key.second.slot) refl refl refl
     (ap is_some (sym (body_there s.bodies key.first.slot)) ∙ there.0) (ap is_some (sym (body_there s.bodies key.second.slot)) ∙ there.1) (sym (row_is begun s.contacts key) ∙ is)
   where
-    by : (o : Option ContactEntry) (a b : Option Moving) → lookup s.contacts key ≡ o → moving_at s.bodies key.first.slot ≡ a → moving_at s.bodies key.second.slot ≡ b
+    by : (o : Option ContactEntry) (a b : Option Moving) → lookup s.contacts key ≡ o → item_at s.bodies key.first.slot ≡ a → item_at s.bodies key.second.slot ≡ b
         → is_some (body_of a) ≡ true → is_some (body_of b) ≡ true → row_in (states_of (stood s.bodies)) key o ≡ Some r → IsVisited (either_visit k g) (states_of (stood s.bodies)) (map held s.bodies) s.sums.immovable (visit_between f s key o a b) (constraints.Contact key) (rows.Contact r)
     by None a b look at_a at_b has_a has_b is = absurd (cc)
     by (Some e) None b look at_a at_b has_a has_b is = absurd (cc)
@@ -328,7 +328,7 @@ abbrev made_of : List BodyState → ℕ → BodyJoint → JointRow
 made_of begun slot j = joint_row (joint_bodies slot j) (joint_ends begun j) j.joint
 
 joined_by : (f : Visits) (k : JointRow → Ends → JointAfter) (g : ContactRow → Ends → RowAfter ContactRow) (s : Solving) (h : Handle) (j : BodyJoint) (a b : Moving) → IsVisitAlike f k g
-    → joint_at s.joints h.slot ≡ Some j → moving_at s.bodies j.a ≡ Some a → moving_at s.bodies j.b ≡ Some b
+    → joint_at s.joints h.slot ≡ Some j → item_at s.bodies j.a ≡ Some a → item_at s.bodies j.b ≡ Some b
     → IsVisited (either_visit k g) (states_of (stood s.bodies)) (map held s.bodies) s.sums.immovable (put_joint_back h.slot j a b (f.joint j.joint (ends_then a b) (ends_now a b)) s) (constraints.Joint h) (rows.Joint (made_of (states_of (stood s.bodies)) h.slot j))
 unfolding joint_row
 joined_by f k g s h j a b law is at_a at_b =
@@ -357,9 +357,9 @@ joined_by f k g s h j a b law is at_a at_b =
 visited_joint : (f : Visits) (k : JointRow → Ends → JointAfter) (g : ContactRow → Ends → RowAfter ContactRow) (s : Solving) (h : Handle) (j : BodyJoint) → IsVisitAlike f k g → joint_at s.joints h.slot ≡ Some j → JointHasEnds (stood s.bodies) (Some j)
     → IsVisited (either_visit k g) (states_of (stood s.bodies)) (map held s.bodies) s.sums.immovable (visit_joint f s h.slot (Some j)) (constraints.Joint h) (rows.Joint (made_of (states_of (stood s.bodies)) h.slot j))
 visited_joint f k g s h j law is there =
-    by (moving_at s.bodies j.a) (moving_at s.bodies j.b) refl refl (ap is_some (sym (body_there s.bodies j.a)) ∙ there.0) (ap is_some (sym (body_there s.bodies j.b)) ∙ there.1)
+    by (item_at s.bodies j.a) (item_at s.bodies j.b) refl refl (ap is_some (sym (body_there s.bodies j.a)) ∙ there.0) (ap is_some (sym (body_there s.bodies j.b)) ∙ there.1)
   where
-    by : (a b : Option Moving) → moving_at s.bodies j.a ≡ a → moving_at s.bodies j.b ≡ b → is_some (body_of a) ≡ true → is_some (body_of b) ≡ true
+    by : (a b : Option Moving) → item_at s.bodies j.a ≡ a → item_at s.bodies j.b ≡ b → is_some (body_of a) ≡ true → is_some (body_of b) ≡ true
         → IsVisited (either_visit k g) (states_of (stood s.bodies)) (map held s.bodies) s.sums.immovable (visit_joined f s h.slot j a b) (constraints.Joint h) (rows.Joint (made_of (states_of (stood s.bodies)) h.slot j))
     by None b at_a at_b has_a has_b = absurd (cc has_a)
     by (Some a) None at_a at_b has_a has_b = absurd (cc has_b)
@@ -391,7 +391,7 @@ no_point : (pair : pairs.Bodies) (n : Ends) (first second : Option ContactPoint)
 no_point pair n None second is = refl
 no_point pair n (Some p) second is = absurd (cc)
 
-put_back_idle : (s : Solving) (key : ContactKey) (e : ContactEntry) (a b : Moving) → lookup s.contacts key ≡ Some e → moving_at s.bodies key.first.slot ≡ Some a → moving_at s.bodies key.second.slot ≡ Some b
+put_back_idle : (s : Solving) (key : ContactKey) (e : ContactEntry) (a b : Moving) → lookup s.contacts key ≡ Some e → item_at s.bodies key.first.slot ≡ Some a → item_at s.bodies key.second.slot ≡ Some b
     → put_back key a b (record { contact = e.contact; ends = ends_now a b }) s ≡ s
 put_back_idle s key e a b look at_a at_b =
     let bodies : slice_set (slice_set s.bodies key.first.slot (Some a)) key.second.slot (Some b) ≡ s.bodies =
@@ -400,9 +400,9 @@ put_back_idle s key e a b look at_a at_b =
 
 idle_contact : (f : Visits) (k : JointRow → Ends → JointAfter) (g : ContactRow → Ends → RowAfter ContactRow) (states : List BodyState) (s : Solving) (key : ContactKey) → IsVisitAlike f k g → row_of states s.contacts (constraints.Contact key) ≡ None → row_visit f s (constraints.Contact key) ≡ s
 idle_contact f k g states s key law is =
-    by (lookup s.contacts key) (moving_at s.bodies key.first.slot) (moving_at s.bodies key.second.slot) refl refl refl (sym (row_is states s.contacts key) ∙ is)
+    by (lookup s.contacts key) (item_at s.bodies key.first.slot) (item_at s.bodies key.second.slot) refl refl refl (sym (row_is states s.contacts key) ∙ is)
   where
-    by : (o : Option ContactEntry) (a b : Option Moving) → lookup s.contacts key ≡ o → moving_at s.bodies key.first.slot ≡ a → moving_at s.bodies key.second.slot ≡ b → row_in states key o ≡ None → visit_between f s key o a b ≡ s
+    by : (o : Option ContactEntry) (a b : Option Moving) → lookup s.contacts key ≡ o → item_at s.bodies key.first.slot ≡ a → item_at s.bodies key.second.slot ≡ b → row_in states key o ≡ None → visit_between f s key o a b ≡ s
     by None a b look at_a at_b is = refl
     by (Some e) None b look at_a at_b is = refl
     by (Some e) (Some a) None look at_a at_b is = refl

@@ -1,7 +1,8 @@
 -- Trusted: What a step does to the bodies, the joints and the contacts: passes over the active constraints in solve order and passes over the bodies, and
 -- what each adds to the movers' momentum. Bodies and joints stand by slot and contacts by key, and nothing is computed before it is used.
 use Rattle.std.specs.Prelude.{ℕ, zero, suc, ◌==◌, cond, List, [], ◌∷◌, Option, Some, None, option_map, map, fold, pos, ◌+ℤ◌, ◌-ℤ◌, slice_set}
-use Rattle.std.specs.List.{flat_map, slice_get}
+use Rattle.std.specs.List.{flat_map}
+use Rattle.std.specs.Option.{option_map_or}
 use Rattle.fixed_geom.specs.declared.vectors.Vec2.{Vec2}
 use Rattle.momenta.specs.Motions.{pulled, speed_clamped, advanced}
 use Rattle.momenta.specs.Reciprocals.{reciprocals_of}
@@ -26,6 +27,7 @@ use Rattle.plain_world.specs.declared.body.Body.{Body}
 use Rattle.plain_world.specs.declared.joint.BodyJoint.{BodyJoint}
 use Rattle.plain_world.specs.Joints.{joint_at}
 use Rattle.plain_world.specs.Bodies.{is_awake, is_carried}
+use Rattle.plain_world.specs.Slots.{item_at}
 use Rattle.world_core_base.specs.Carried.{moved_to, solver_mass, solver_motion}
 
 -- A body in a step: as it stood when the step began, and its motion now. The momenta of a body that isn't an awake mover are its course: its
@@ -55,14 +57,6 @@ abbrev pub gain_between : Motion → Motion → Gain
 gain_between before after = record { x = after.p.x -ℤ before.p.x; y = after.p.y -ℤ before.p.y }
 
 -- ---- the bodies of a constraint
-
-abbrev pub moving_in : Option (Option Moving) → Option Moving
-moving_in None = None
-moving_in (Some o) = o
-
--- the body in a slot
-abbrev pub moving_at : List (Option Moving) → ℕ → Option Moving
-moving_at bodies slot = moving_in (slice_get bodies slot)
 
 -- The body with a motion, as impulses act on it: those that aren't awake movers have the mass with which the momenta of a course are its velocity
 -- and its spin.
@@ -137,8 +131,7 @@ visit_joined f s slot j (Some a) None = s
 visit_joined f s slot j (Some a) (Some b) = put_joint_back slot j a b (f.joint j.joint (ends_then a b) (ends_now a b)) s
 
 abbrev pub visit_joint : Visits → Solving → ℕ → Option BodyJoint → Solving
-visit_joint f s slot None = s
-visit_joint f s slot (Some j) = visit_joined f s slot j (moving_at s.bodies j.a) (moving_at s.bodies j.b)
+visit_joint f s slot joint = option_map_or (λ (j : BodyJoint). visit_joined f s slot j (item_at s.bodies j.a) (item_at s.bodies j.b)) joint s
 
 -- the contact and its two bodies put back, and what an immovable one gave booked
 abbrev pub put_back : ContactKey → Moving → Moving → SolvedContact → Solving → Solving
@@ -159,7 +152,7 @@ visit_between f s key (Some e) (Some a) (Some b) = put_back key a b (f.contact e
 -- the visit of a constraint
 abbrev pub row_visit : Visits → Solving → Constraint → Solving
 row_visit f s (constraints.Joint h) = visit_joint f s h.slot (joint_at s.joints h.slot)
-row_visit f s (constraints.Contact key) = visit_between f s key (lookup s.contacts key) (moving_at s.bodies key.first.slot) (moving_at s.bodies key.second.slot)
+row_visit f s (constraints.Contact key) = visit_between f s key (lookup s.contacts key) (item_at s.bodies key.first.slot) (item_at s.bodies key.second.slot)
 
 -- ---- passes
 
@@ -179,14 +172,10 @@ motion_changed f m = cond (is_awake m.body) (record m { motion = f m.body.mass m
 abbrev pub all_changed : (MassData → Motion → Motion) → List (Option Moving) → List (Option Moving)
 all_changed f bodies = map (option_map (motion_changed f)) bodies
 
-abbrev pub gain_of : (MassData → Motion → Motion) → Option Moving → Gain
-gain_of f None = nothing
-gain_of f (Some m) = gain_between m.motion (motion_changed f m).motion
-
 -- what such a pass adds to the momentum
 abbrev pub gain : (MassData → Motion → Motion) → List (Option Moving) → Gain
 gain f [] = nothing
-gain f (o ∷ bodies) = gain_sum (gain_of f o) (gain f bodies)
+gain f (o ∷ bodies) = gain_sum (option_map_or (λ (m : Moving). gain_between m.motion (motion_changed f m).motion) o nothing) (gain f bodies)
 
 -- gravity
 abbrev pub pull : Vec2 → Solving → Solving
@@ -221,11 +210,8 @@ ticks (suc n) gravity order s = tick gravity order (ticks n gravity order s)
 abbrev pub moving : Body → Moving
 moving b = record { body = b; motion = solver_motion b }
 
-abbrev pub no_sums : StepSums
-no_sums = record { gravity = nothing; immovable = nothing; clamp = nothing }
-
 abbrev pub begin : List (Option Body) → List (Option BodyJoint) → List ContactEntry → Solving
-begin bodies joints contacts = record { bodies = map (option_map moving) bodies; joints = joints; contacts = contacts; sums = no_sums }
+begin bodies joints contacts = record { bodies = map (option_map moving) bodies; joints = joints; contacts = contacts; sums = record { gravity = nothing; immovable = nothing; clamp = nothing } }
 
 -- the ticks of a step, and then the restitution
 unfoldable pub solved : ℕ → Vec2 → List Constraint → List (Option Body) → List (Option BodyJoint) → List ContactEntry → Solving

@@ -4,6 +4,7 @@ use Rattle.std.specs.List.{list_all}
 use Rattle.std.proofs.lemmas.Int.{ints}
 use Rattle.std.proofs.lemmas.List.{length-map}
 use Rattle.std.proofs.lemmas.Option.{none-some, same_Some}
+use Rattle.std.specs.Option.{option_flatten}
 use Rattle.serde_json.specs.Data.{Data}
 use Rattle.body_handles.specs.SlotEntries.{IsSlotEntry}
 use Rattle.body_handles.specs.declared.slot_table.SlotEntry.{SlotEntry}
@@ -24,7 +25,7 @@ use Rattle.plain_world.specs.Bodies.{AreBodies}
 use Rattle.plain_world.specs.Momentum.{momentum}
 use Rattle.plain_world.specs.Formed.{AreFiltered, HasFilter}
 use Rattle.plain_world.specs.Plain.{Plain}
-use Rattle.plain_world.specs.Slots.{body_at, item_in}
+use Rattle.plain_world.specs.Slots.{body_at}
 use Rattle.plain_world.specs.declared.body.Body.{Body}
 use Rattle.world_file_base.specs.Asks.{no_asks}
 use Rattle.world_file_base.specs.declared.clause.Clause.{Clause}
@@ -100,7 +101,7 @@ pub body_in_slot : (s : Saved) → HasParts s → (slot : ℕ) (b : Body) → bo
 body_in_slot s h slot b e = body_by (8 * s.steps) (body_at s.bodies slot) (membership_at s.memberships slot) b (each_slot s h slot) e
 
 bodies_are : (s : Saved) → HasParts s → AreBodies s.bodies
-bodies_are s h slot b e = (body_in_slot s h slot b (ap (λ (o : Option (Option Body)). item_in o) e)).body
+bodies_are s h slot b e = (body_in_slot s h slot b (ap (λ (o : Option (Option Body)). option_flatten o) e)).body
 
 filters_are : (s : Saved) → HasParts s → AreFiltered s.bodies
 filters_are s h slot b e = all_from_each (λ (d : ShapeDef). HasFilter d.filter) b.shapes (body_in_slot s h slot b e).filters

@@ -3,6 +3,7 @@ use Rattle.std.proofs.Common.{◌≡◌, ◌⊎◌, ◌↔◌, ℕ, Bool, true, 
 use Rattle.std.specs.Prelude.{◌==◌, ◌&&◌, option_map}
 use Rattle.std.proofs.lemmas.Bool.{and_from, false≢true}
 use Rattle.std.proofs.lemmas.Option.{none-some, same_Some}
+use Rattle.std.specs.List.{find}
 use Rattle.body_handles.specs.declared.handle.Handle.{Handle}
 use Rattle.body_handles.specs.declared.slot_table.SlotEntry.{SlotEntry}
 use Rattle.body_handles.specs.SlotEntries.{IsLive, is_live, is_live_at}
@@ -22,7 +23,7 @@ use Rattle.plain_world.specs.Slots.{AreMatched, body_at, is_taken_entry, item_at
 use Rattle.solver_sets.specs.declared.census.Item.{Item}
 use Rattle.solver_sets.specs.declared.census.Item.TheVariants as items
 use Rattle.solver_sets.specs.Census.{standing_of_contact, standing_of_joint}
-use Rattle.solver_sets.specs.EachOnce.{IsPresent, contact_of, has_key, is_same_shape, stand}
+use Rattle.solver_sets.specs.EachOnce.{IsPresent, has_key, is_same_shape, stand}
 use Rattle.solver_sets.specs.Ties.{JointSlots}
 use Rattle.world_rules.proofs.PlaceLaws.{live_at}
 use Rattle.world_rules.proofs.SlotLemmas.{body_at-in}
@@ -81,22 +82,22 @@ own_key key e same =
 abbrev keys : List ContactEntry → List ContactKey
 keys contacts = map (λ (e : ContactEntry). e.key) contacts
 
-found_by : (t : Bool) (key : ContactKey) (e : ContactEntry) (es : List ContactEntry) → has_key key e ≡ t → (key ≡ e.key) ⊎ IsIn key (keys es) → (IsIn key (keys es) → IsSome (contact_of es key)) → IsSome (cond t (Some e) (contact_of es key))
+found_by : (t : Bool) (key : ContactKey) (e : ContactEntry) (es : List ContactEntry) → has_key key e ≡ t → (key ≡ e.key) ⊎ IsIn key (keys es) → (IsIn key (keys es) → IsSome (find (has_key key) es)) → IsSome (cond t (Some e) (find (has_key key) es))
 found_by true key e es at h rest = refl
 found_by false key e es at h rest = elim h [
   | inl same ↦ absurd (false≢true (sym at ∙ own_key key e same))
   | inr later ↦ rest later
 ]
 
-found : (key : ContactKey) (contacts : List ContactEntry) → IsIn key (keys contacts) → IsSome (contact_of contacts key)
+found : (key : ContactKey) (contacts : List ContactEntry) → IsIn key (keys contacts) → IsSome (find (has_key key) contacts)
 found key [] h = absurd h
 found key (e ∷ es) h = found_by (has_key key e) key e es refl h (found key es)
 
-among_by : (t : Bool) (key : ContactKey) (e : ContactEntry) (es : List ContactEntry) → has_key key e ≡ t → IsSome (cond t (Some e) (contact_of es key)) → (IsSome (contact_of es key) → IsIn key (keys es)) → (key ≡ e.key) ⊎ IsIn key (keys es)
+among_by : (t : Bool) (key : ContactKey) (e : ContactEntry) (es : List ContactEntry) → has_key key e ≡ t → IsSome (cond t (Some e) (find (has_key key) es)) → (IsSome (find (has_key key) es) → IsIn key (keys es)) → (key ≡ e.key) ⊎ IsIn key (keys es)
 among_by true key e es at h rest = inl (same_key key e at)
 among_by false key e es at h rest = inr (rest h)
 
-among : (key : ContactKey) (contacts : List ContactEntry) → IsSome (contact_of contacts key) → IsIn key (keys contacts)
+among : (key : ContactKey) (contacts : List ContactEntry) → IsSome (find (has_key key) contacts) → IsIn key (keys contacts)
 among key [] h = absurd (false≢true h)
 among key (e ∷ es) h = among_by (has_key key e) key e es refl h (among key es)
 
@@ -110,8 +111,8 @@ pub stands_there : (slot_entries : List SlotEntry) (bodies : List (Option Body))
 stands_there slot_entries bodies s contacts (items.Body h) of_bodies of_joints = named slot_entries bodies h standing_of of_bodies
 stands_there slot_entries bodies s contacts (items.Joint h) of_bodies of_joints = named s.slot_entries s.joints h (standing_of_joint bodies) of_joints
 stands_there slot_entries bodies s contacts (items.Contact key) of_bodies of_joints = (
-  λ there. mapped (standing_of_contact bodies) (contact_of contacts key) ∙ found key contacts (in_from_contains (keys contacts) key there),
-  λ some. contains_from_in (keys contacts) key (among key contacts (sym (mapped (standing_of_contact bodies) (contact_of contacts key)) ∙ some)),
+  λ there. mapped (standing_of_contact bodies) (find (has_key key) contacts) ∙ found key contacts (in_from_contains (keys contacts) key there),
+  λ some. contains_from_in (keys contacts) key (among key contacts (sym (mapped (standing_of_contact bodies) (find (has_key key) contacts)) ∙ some)),
 )
 
 -- ---- sleepers

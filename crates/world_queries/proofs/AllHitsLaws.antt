@@ -5,14 +5,13 @@ use Rattle.std.proofs.lemmas.Int.{ints}
 use Rattle.std.proofs.lemmas.List.Elements.{All-head, All-tail}
 use Rattle.std.specs.List.{cons_option, filter_map}
 use Rattle.std.specs.Prelude.{filter, option_map, slice_get}
+use Rattle.std.specs.Option.{option_flatten}
 use Rattle.contacts_base.specs.declared.key.ShapeId.{ShapeId}
 use Rattle.fixed_geom.specs.Boxes.{Contains, overlaps}
 use Rattle.fixed_geom.specs.declared.boxes.Box2.{Box2}
-use Rattle.fixed_geom.specs.declared.refusal.Refusal.{Refusal}
-use Rattle.fixed_geom.specs.declared.refusal.Refusal.TheVariants.{NoMemory}
 use Rattle.plain_world.specs.Bodies.{AreBodies, pose_of}
 use Rattle.plain_world.specs.Placement.{shape_of, shape_in}
-use Rattle.plain_world.specs.Slots.{body_at, item_in}
+use Rattle.plain_world.specs.Slots.{body_at}
 use Rattle.plain_world.specs.declared.body.Body.{Body}
 use Rattle.shape_rays.proofs.BoxLaws.{missed}
 use Rattle.shape_rays.specs.Hits.{hit_at, hit_on, region}
@@ -28,7 +27,7 @@ use Rattle.shapes.specs.declared.shape.Shape.{Shape}
 use Rattle.shapes.specs.declared.shape.ShapeDef.{ShapeDef}
 use Rattle.world_queries.specs.AllHits.{hit_named, hit_of, hits_on}
 use Rattle.world_queries.specs.ByBoxes.{hit_through}
-use Rattle.world_queries.specs.Filters.{IsDueOrWanting, through}
+use Rattle.world_queries.specs.Filters.{through}
 use Rattle.world_queries.specs.Posed.{named, posed_from, posed_shapes, shapes_at, shapes_from}
 
 -- ---- names that pass
@@ -94,7 +93,7 @@ named_if : (bodies : List (Option Body)) (slot : ℕ) (b : Body) (t : Bool) → 
 named_if bodies slot b true t e forms = named_from bodies slot 0 b b.shapes e t (λ k. ap (slice_get b.shapes) (from_first k)) forms
 named_if bodies slot b false t e forms = tt
 
-there : (o : Option (Option Body)) (b : Body) → item_in o ≡ Some b → o ≡ Some (Some b)
+there : (o : Option (Option Body)) (b : Body) → option_flatten o ≡ Some b → o ≡ Some (Some b)
 there None b e = cc
 there (Some o) b e = ap Some e
 

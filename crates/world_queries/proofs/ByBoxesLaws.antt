@@ -7,6 +7,7 @@ use Rattle.std.proofs.lemmas.Int.{ints}
 use Rattle.std.proofs.lemmas.List.{append_assoc, append-nil}
 use Rattle.std.specs.Prelude.{slice_index_or}
 use Rattle.std.proofs.lemmas.List.Elements.{All-head, All-tail}
+use Rattle.std.specs.Option.{option_flatten}
 use Rattle.fixed_geom.specs.Boxes.{Contains, overlaps}
 use Rattle.fixed_geom.specs.declared.boxes.Box2.{Box2}
 use Rattle.shapes.specs.Bounds.{tight_box}
@@ -28,7 +29,7 @@ use Rattle.box_tree_base.proofs.WalkLemmas.{overlaps_within}
 use Rattle.box_tree.specs.BoxLists.{box_at, keys_over, AreHitsWithin, first_hit as first_key}
 use Rattle.plain_world.specs.Bodies.{AreBodies, IsBody, pose_of}
 use Rattle.plain_world.specs.Fats.{EachIsFatBox}
-use Rattle.plain_world.specs.Slots.{body_at, item_in}
+use Rattle.plain_world.specs.Slots.{body_at}
 use Rattle.plain_world.specs.declared.body.Body.{Body}
 use Rattle.world_core_base.specs.Covers.{IsCover, IsCovered, AreCovered}
 use Rattle.world_queries.specs.ByBoxes.{fraction_of, fraction_at, hit_through, region_at}
@@ -95,7 +96,7 @@ in_slot : (slot : ℕ) (o : Option Body) (box : Option Box2) → ((b : Body) →
 in_slot slot None box h c = tt
 in_slot slot (Some b) box h c = in_body slot b box (h b refl) c
 
-there : (o : Option (Option Body)) (b : Body) → item_in o ≡ Some b → o ≡ Some (Some b)
+there : (o : Option (Option Body)) (b : Body) → option_flatten o ≡ Some b → o ≡ Some (Some b)
 there None b e = cc
 there (Some o) b e = ap Some e
 

@@ -3,12 +3,13 @@ use Rattle.std.proofs.Common.{◌≡◌, ℕ, zero, suc, ◌≤◌, ◌+◌, Boo
 use Rattle.std.proofs.Math.Numerals.{add-one}
 use Rattle.std.proofs.lemmas.List.{append_assoc, append-nil}
 use Rattle.std.specs.Prelude.{option_map, slice_get, unwrap_or}
+use Rattle.std.specs.Option.{option_flatten}
 use Rattle.fixed_geom.specs.Boxes.{overlaps}
 use Rattle.fixed_geom.specs.declared.boxes.Box2.{Box2}
 use Rattle.contacts_base.specs.declared.key.ShapeId.{ShapeId}
 use Rattle.plain_world.specs.Bodies.{AreBodies, pose_of}
 use Rattle.plain_world.specs.Placement.{shape_in}
-use Rattle.plain_world.specs.Slots.{body_at, item_in}
+use Rattle.plain_world.specs.Slots.{body_at}
 use Rattle.plain_world.specs.declared.body.Body.{Body}
 use Rattle.shape_rays.specs.declared.hits.Hit.{Hit}
 use Rattle.shape_rays.specs.declared.hits.PosedShape.{PosedShape}
@@ -82,7 +83,7 @@ past_enabled : (t : Bool) (slot index : ℕ) (pose : Pose) (defs : List ShapeDef
 past_enabled true slot index pose defs e = ap (shapes_from slot pose index) e
 past_enabled false slot index pose defs e = refl
 
-ninth_in : (bodies : List (Option Body)) (slot k : ℕ) (o : Option (Option Body)) → slice_get bodies slot ≡ o → AreBodies bodies → 8 ≤ k → left_at slot k (item_in o) ≡ []
+ninth_in : (bodies : List (Option Body)) (slot k : ℕ) (o : Option (Option Body)) → slice_get bodies slot ≡ o → AreBodies bodies → 8 ≤ k → left_at slot k (option_flatten o) ≡ []
 ninth_in bodies slot k None e h far = refl
 ninth_in bodies slot k (Some None) e h far = refl
 ninth_in bodies slot k (Some (Some b)) e h far =

@@ -4,11 +4,12 @@ use Rattle.std.proofs.Math.Numerals.{add-one}
 use Rattle.std.proofs.Math.Seq.{take-length}
 use Rattle.std.proofs.lemmas.List.{append_assoc, append-nil, length-take-le, take_more}
 use Rattle.std.proofs.lemmas.Option.{slice_get-get_or}
+use Rattle.std.specs.Option.{option_flatten}
 use Rattle.body_handles.specs.SlotEntries.{generation_at}
 use Rattle.body_handles.specs.declared.handle.Handle.{Handle}
 use Rattle.body_handles.specs.declared.slot_table.SlotEntry.{SlotEntry}
 use Rattle.plain_world.specs.Bodies.{pose_of}
-use Rattle.plain_world.specs.Slots.{body_at, item_in}
+use Rattle.plain_world.specs.Slots.{body_at}
 use Rattle.plain_world.specs.declared.body.Body.{Body}
 use Rattle.shape_rays.specs.declared.hits.PosedShape.{PosedShape}
 use Rattle.world_core.specs.Frames.{shown, shown_up}
@@ -47,7 +48,7 @@ posed_last slot last (x ∷ xs) o e =
     ap (λ (ps : List PosedShape). shapes_at slot x ++ ps) (posed_last (suc slot) last xs o (omega (arith, e))) ∙ sym (append_assoc (shapes_at slot x) (posed_from (suc slot) xs) (shapes_at last o))
 
 found_in_slot : (bodies : List (Option Body)) (n : ℕ) → n < length bodies → get_or bodies n None ≡ body_at bodies n
-found_in_slot bodies n h = sym (ap item_in (slice_get-get_or bodies n None h))
+found_in_slot bodies n h = sym (ap option_flatten (slice_get-get_or bodies n None h))
 
 -- what is shown of the slots below n is what can be seen of the first n bodies
 up_to : (slot_entries : List SlotEntry) (bodies : List (Option Body)) (n : ℕ) → n ≤ length bodies → framed_shapes (shown_up slot_entries bodies n) ≡ posed_from 0 (take n bodies)

@@ -3,6 +3,7 @@ use Rattle.std.proofs.Common.{◌≡◌, ◌≢◌, ℕ, ◌<◌, List, All, len
 use Rattle.std.specs.Prelude.{slice_set}
 use Rattle.std.proofs.lemmas.Bool.{cases_eq}
 use Rattle.std.proofs.lemmas.Option.{same_Some}
+use Rattle.std.specs.Option.{option_flatten}
 use Rattle.graph_colours.specs.declared.member.Member.{Member}
 use Rattle.contacts.specs.Constraints.{constraint_number}
 use Rattle.contacts.specs.declared.constraint.Constraint.{Constraint}
@@ -13,7 +14,7 @@ use Rattle.plain_world.specs.Bodies.{AreBodies, IsBody, is_mover, is_mover_in}
 use Rattle.plain_world.specs.Changes.{enabled_body}
 use Rattle.plain_world.specs.Kinds.{is_dynamic}
 use Rattle.plain_world.specs.Sleep.{told}
-use Rattle.plain_world.specs.Slots.{body_at, item_in}
+use Rattle.plain_world.specs.Slots.{body_at}
 use Rattle.sleep_wake.specs.Acting.{Acting, are_awake}
 use Rattle.sleep_wake.specs.Bodies.{mover_made}
 use Rattle.sleep_wake.specs.Changes.{each_begun}
@@ -51,7 +52,7 @@ other_label w slot n c ne = by (is_mover c)
     by false = refl
 
 own_body : (bodies : List (Option Body)) (slot : ℕ) (c : Body) → slot < length bodies → body_at (slice_set bodies slot (Some c)) slot ≡ Some c
-own_body bodies slot c lt = ap item_in (slice_get-with_own true bodies slot (Some c) (λ e. lt) (λ e. cc))
+own_body bodies slot c lt = ap option_flatten (slice_get-with_own true bodies slot (Some c) (λ e. lt) (λ e. cc))
 
 -- the bodies with the one that is enabled sleep as the labels say
 enabled_told : (w : World) (slot : ℕ) (b : Body) → IsKept w → body_at w.plain.bodies slot ≡ Some b → b.enabled ≡ false → AreTold (slice_set w.plain.bodies slot (Some (enabled_body b))) (body_come slot (enabled_body b) (acting_of w.plain)).labels

@@ -1,6 +1,6 @@
 -- A kept world can be gathered for the ticks of a step: of each constraint that acts a body is an awake mover.
 use Rattle.std.proofs.Common.{◌≡◌, ◌⊎◌, inl, inr, ℕ, zero, suc, ◌+◌, ◌<◌, Bool, true, false, cond, is_some, List, [], ◌∷◌, ◌++◌, length, get_or, Option, Some, None, All, refl, sym, ap, ◌∙◌, subst, arith}
-use Rattle.std.specs.Prelude.{◌&&◌, slice_index_or}
+use Rattle.std.specs.Prelude.{◌&&◌, slice_index_or, option_and_then}
 use Rattle.std.specs.List.{filter_map, flat_map, cons_option}
 use Rattle.std.proofs.lemmas.List.{length-append}
 use Rattle.std.proofs.lemmas.List.Elements.{All-append, All-cons, All-nil, Contains-get_or}
@@ -21,7 +21,7 @@ use Rattle.plain_world.specs.Sleep.{told}
 use Rattle.colour_solver.specs.States.{nobody}
 use Rattle.sleep_wake.specs.Acting.{Acting, are_awake, awake_label, is_mover_awake}
 use Rattle.plain_world.specs.Bodies.{moves}
-use Rattle.solver_sets.specs.Ties.{JointSlots, member_of, members_of, movers_if, movers_in, movers_of, movers_with, is_enabled, tie_with}
+use Rattle.solver_sets.specs.Ties.{JointSlots, member_of, members_of, movers_if, movers_of, movers_with, is_enabled, tie_with, joint_movers}
 use Rattle.world_core_base.specs.ConstraintRows.{HasJointOn, IsJointThere, IsMovable}
 use Rattle.world_core_base.specs.Gather.{HasMovable, states_of}
 use Rattle.world_core_base.specs.Solving.{solve_order}
@@ -112,7 +112,7 @@ record IsGathered (w : World) (id : Constraint) : Type 0 where
   joined : HasJointOn (states_of w.plain.bodies) w.plain.joints id
   movable : IsMovable (states_of w.plain.bodies) id
 
-joint_gathered : (w : World) (slot : ℕ) (o : Option BodyJoint) (m : Movers) → IsKept w → joint_at w.plain.joints slot ≡ o → movers_in w.plain.bodies o ≡ Some m → is_mover_awake w.plain.islands m.first ≡ true → IsJointThere (states_of w.plain.bodies) o
+joint_gathered : (w : World) (slot : ℕ) (o : Option BodyJoint) (m : Movers) → IsKept w → joint_at w.plain.joints slot ≡ o → option_and_then (joint_movers w.plain.bodies) o ≡ Some m → is_mover_awake w.plain.islands m.first ≡ true → IsJointThere (states_of w.plain.bodies) o
 joint_gathered w slot None m k at e up = λ j is. absurd (none-some j is)
 joint_gathered w slot (Some i) m k at e up = λ j is.
     let same : i ≡ j = same_Some i j is in

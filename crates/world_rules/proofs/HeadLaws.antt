@@ -18,7 +18,7 @@ use Rattle.plain_world.specs.Kinds.{is_dynamic}
 use Rattle.plain_world.specs.Slots.{body_at}
 use Rattle.sleep_wake.specs.Acting.{are_awake, awake_label, is_mover_awake}
 use Rattle.solver_sets.specs.Tied.{AreTied}
-use Rattle.world_rules.specs.Laws.{ColoursAreApart, LinkedMoversStandTogether, SleepingSetsAreComponents, SleepsIn, WhatActsHasAColour, movers_awake, second_awake_in}
+use Rattle.world_rules.specs.Laws.{ColoursAreApart, LinkedMoversStandTogether, SleepingSetsAreComponents, SleepsIn, WhatActsHasAColour, movers_awake}
 use Rattle.world_rules.specs.Sets.{acting_of}
 use Rattle.world_rules.specs.Sound.{AreTold}
 use Rattle.world_rules.proofs.LowerLaws.{sleepers_are_one_component}
@@ -120,7 +120,7 @@ awake_by (Some b) (Some l) tied told =
 pub awake_same : (bodies : List (Option Body)) (labels : Labels) (slot : ℕ) → AreTied bodies labels → AreTold bodies labels → is_mover_awake labels slot ≡ is_awake_in (body_at bodies slot)
 awake_same bodies labels slot tied told = awake_by (body_at bodies slot) (label_at labels slot) (tied slot) (told slot)
 
-second_same : (bodies : List (Option Body)) (labels : Labels) (o : Option ℕ) → AreTied bodies labels → AreTold bodies labels → option_map_or (is_mover_awake labels) o true ≡ second_awake_in bodies o
+second_same : (bodies : List (Option Body)) (labels : Labels) (o : Option ℕ) → AreTied bodies labels → AreTold bodies labels → option_map_or (is_mover_awake labels) o true ≡ option_map_or (λ (slot : ℕ). is_awake_in (body_at bodies slot)) o true
 second_same bodies labels None tied told = refl
 second_same bodies labels (Some slot) tied told = awake_same bodies labels slot tied told
 

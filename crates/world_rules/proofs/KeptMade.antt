@@ -1,7 +1,7 @@
 -- A body that is made keeps a world: no constraint changes, and a mover has an awake island of its own.
 use Rattle.std.proofs.Common.{◌≡◌, ◌≢◌, ◌⊎◌, ℕ, zero, suc, ◌+◌, ◌-◌, ◌*◌, ◌<◌, ◌≤◌, ◌^◌, List, [], ◌∷◌, ◌++◌, length, Option, Some, None, All, Bool, true, false, cond, inl, inr, arith, refl, sym, ap, ◌∙◌, subst, is_some, nat_lt, eq-eqb, ne_eqb}
 use Rattle.std.specs.Prelude.{◌||◌, if◌then◌else◌, slice_set}
-use Rattle.std.specs.Option.{is_none}
+use Rattle.std.specs.Option.{is_none, option_flatten}
 use Rattle.std.proofs.lemmas.Int.{ints}
 use Rattle.std.proofs.lemmas.Bool.{cases_eq}
 use Rattle.std.proofs.lemmas.Grind.{common_steps}
@@ -29,7 +29,7 @@ use Rattle.plain_world.specs.Momentum.{momentum_in}
 use Rattle.plain_world.specs.Formed.{HaveFilters}
 use Rattle.plain_world.specs.Joints.{AreJoints}
 use Rattle.plain_world.specs.Sleep.{told}
-use Rattle.plain_world.specs.Slots.{body_at, item_in, shapes_in, with_body}
+use Rattle.plain_world.specs.Slots.{body_at, shapes_in, with_body}
 use Rattle.sleep_wake.specs.Acting.{Acting, IsConsistent}
 use Rattle.sleep_wake.specs.Acting as acting
 use Rattle.sleep_wake.specs.Bodies.{mover_made}
@@ -184,10 +184,10 @@ contacts_enabled bodies contacts all = All-weaker (HasBodies bodies) (IsBetweenE
 }) contacts all
 
 own_body : (bodies : List (Option Body)) (slot : ℕ) (b : Body) → slot ≤ length bodies → body_at (with_body bodies slot b) slot ≡ Some b
-own_body bodies slot b le = ap item_in (slice_get-with_own (nat_lt slot (length bodies)) bodies slot (Some b) (λ e. grind (arith, common_steps)) (past_is slot (length bodies) le))
+own_body bodies slot b le = ap option_flatten (slice_get-with_own (nat_lt slot (length bodies)) bodies slot (Some b) (λ e. grind (arith, common_steps)) (past_is slot (length bodies) le))
 
 other_body : (bodies : List (Option Body)) (slot k : ℕ) (b : Body) → slot ≤ length bodies → k ≢ slot → body_at (with_body bodies slot b) k ≡ body_at bodies k
-other_body bodies slot k b le ne = ap item_in (slice_get-with (nat_lt slot (length bodies)) bodies slot k (Some b) (past_is slot (length bodies) le) ne)
+other_body bodies slot k b le ne = ap option_flatten (slice_get-with (nat_lt slot (length bodies)) bodies slot k (Some b) (past_is slot (length bodies) le) ne)
 
 pub come_ties : (m : Bool) (slot : ℕ) (s : Acting Constraint) → (cond m (mover_made slot s) s).ties ≡ s.ties
 unfolding mover_made

@@ -3,7 +3,7 @@ use Rattle.std.proofs.Common.{◌≡◌, ℕ, suc, ◌+◌, ◌^◌, ◌<◌, �
 use Rattle.std.specs.Prelude.{◌==◌, ◌&&◌, ◌||◌, ◌≢◌, filter, int_le, int_lt, nat_le, slice_get, unwrap_or}
 use Rattle.std.specs.List.{list_all}
 use Rattle.fixed_geom.specs.declared.refusal.Refusal.TheVariants.{BadShape, OutOfRange}
-use Rattle.std.specs.Option.{ForSome, option_or}
+use Rattle.std.specs.Option.{ForSome, option_or, option_map_or}
 use Rattle.std.proofs.lemmas.Bool.{eqb-false, leb-true}
 use Rattle.std.proofs.lemmas.Bool.Decides.{nat_tests}
 use Rattle.std.proofs.lemmas.Grind.{common_steps}
@@ -52,7 +52,7 @@ use Rattle.plain_world.specs.Slots.{body_at, shapes_in}
 use Rattle.solver_sets.specs.Ties.{IsKeyWithin}
 use Rattle.solver_sets.proofs.CollideLaws.{same_key}
 use Rattle.world_core_base.specs.ContactBodies.{IsContactOf, AreContactsOf}
-use Rattle.world_rules.specs.Collide.{shape_proxies, body_proxies, entry_proxies, proxies_from, proxies_of, contacts_after}
+use Rattle.world_rules.specs.Collide.{shape_proxies, body_proxies, proxies_from, proxies_of, contacts_after}
 use Rattle.world_rules.specs.Sound.{HasBodies}
 use Rattle.solver_sets.proofs.SlotLemmas.{below_length}
 
@@ -127,7 +127,7 @@ body_are slot b is =
     if_enabled (IsProxyAt slot b) b.enabled (shape_proxies slot (is_dynamic b.kind) (stirs b) (pose_of b) 0 b.shapes b.fats)
     (λ on. let few = eight_at_most _ _ is.shapes in shapes_are slot b 0 b.shapes b.fats is on (omega (arith, few)) (omega arith) (λ k place e. let same : place ≡ k = omega (arith, e) in ap (λ (n : ℕ). slice_get b.shapes n) same) is.forms)
 
-entry_are : (n : ℕ) (o : Option Body) (bodies : List (Option Body)) → AreBodies (o ∷ bodies) → Each (IsProxyIn n (o ∷ bodies)) (entry_proxies n o)
+entry_are : (n : ℕ) (o : Option Body) (bodies : List (Option Body)) → AreBodies (o ∷ bodies) → Each (IsProxyIn n (o ∷ bodies)) (option_map_or (body_proxies n) o [])
 entry_are n None bodies all = tt
 entry_are n (Some b) bodies all =
     each_weaker (IsProxyAt n b) (IsProxyIn n (Some b ∷ bodies)) (λ p h. let s : p.id.slot ≡ n = h.slot_is in record { place = 0; slot = omega arith; body = b; there = refl; is = h.is })
@@ -143,7 +143,7 @@ rest_bodies o bodies all = λ slot b e. all (suc slot) b e
 pub proxies_are : (n : ℕ) (bodies : List (Option Body)) → AreBodies bodies → Each (IsProxyIn n bodies) (proxies_from n bodies)
 proxies_are n [] all = tt
 proxies_are n (o ∷ bodies) all =
-    each_append (IsProxyIn n (o ∷ bodies)) (entry_proxies n o) (proxies_from (suc n) bodies) (entry_are n o bodies all)
+    each_append (IsProxyIn n (o ∷ bodies)) (option_map_or (body_proxies n) o []) (proxies_from (suc n) bodies) (entry_are n o bodies all)
     (each_weaker (IsProxyIn (suc n) bodies) (IsProxyIn n (o ∷ bodies)) (later n o bodies) (proxies_from (suc n) bodies) (proxies_are (suc n) bodies (rest_bodies o bodies all)))
 
 -- ---- they ascend by slot
@@ -164,7 +164,7 @@ shapes_at slot dynamic stirs pose index [] fats = tt
 shapes_at slot dynamic stirs pose index (d ∷ defs) [] = tt
 shapes_at slot dynamic stirs pose index (d ∷ defs) (fat ∷ fats) = (refl, shapes_at slot dynamic stirs pose (suc index) defs fats)
 
-in_slot : (slot : ℕ) (o : Option Body) → Each (IsAt slot) (entry_proxies slot o)
+in_slot : (slot : ℕ) (o : Option Body) → Each (IsAt slot) (option_map_or (body_proxies slot) o [])
 in_slot slot None = tt
 in_slot slot (Some b) =
     if_enabled (IsAt slot) b.enabled (shape_proxies slot (is_dynamic b.kind) (stirs b) (pose_of b) 0 b.shapes b.fats) (λ on. shapes_at slot (is_dynamic b.kind) (stirs b) (pose_of b) 0 b.shapes b.fats)
@@ -175,8 +175,8 @@ from_next slot ps h = each_weaker (IsFrom (suc slot)) (IsFrom slot) (λ p low. o
 all_from : (slot : ℕ) (bodies : List (Option Body)) → Each (IsFrom slot) (proxies_from slot bodies)
 all_from slot [] = tt
 all_from slot (o ∷ bodies) =
-    each_append (IsFrom slot) (entry_proxies slot o) (proxies_from (suc slot) bodies)
-    (each_weaker (IsAt slot) (IsFrom slot) (λ p e. omega (arith, e)) (entry_proxies slot o) (in_slot slot o))
+    each_append (IsFrom slot) (option_map_or (body_proxies slot) o []) (proxies_from (suc slot) bodies)
+    (each_weaker (IsAt slot) (IsFrom slot) (λ p e. omega (arith, e)) (option_map_or (body_proxies slot) o []) (in_slot slot o))
     (from_next slot (proxies_from (suc slot) bodies) (all_from (suc slot) bodies))
 
 ascend_both : (slot : ℕ) (ps qs : List Proxy) → Each (IsAt slot) ps → Each (IsFrom slot) qs → AreAscending qs → AreAscending (ps ++ qs)
@@ -190,7 +190,7 @@ ascend_both slot (p ∷ ps) qs at from up =
 proxies_ascend : (slot : ℕ) (bodies : List (Option Body)) → AreAscending (proxies_from slot bodies)
 proxies_ascend slot [] = tt
 proxies_ascend slot (o ∷ bodies) =
-    ascend_both slot (entry_proxies slot o) (proxies_from (suc slot) bodies) (in_slot slot o) (from_next slot (proxies_from (suc slot) bodies) (all_from (suc slot) bodies)) (proxies_ascend (suc slot) bodies)
+    ascend_both slot (option_map_or (body_proxies slot) o []) (proxies_from (suc slot) bodies) (in_slot slot o) (from_next slot (proxies_from (suc slot) bodies) (all_from (suc slot) bodies)) (proxies_ascend (suc slot) bodies)
 
 -- ---- near pairs
 

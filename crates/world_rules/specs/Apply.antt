@@ -318,13 +318,9 @@ apply_sleep w h = unless_refused (mover_refusal (body_named w h)) (Ok (put_to_sl
 abbrev pub acting_after_changes : Plain → Collided → Acting Constraint
 acting_after_changes w c = after_changes constraint_number (key_changes w.bodies c.begin c.end) (acting_of w)
 
--- the bodies as the ticks find them: those awake that the collide has woken
-abbrev pub bodies_woken : Plain → Acting Constraint → List (Option Body)
-bodies_woken w s = told s.labels w.bodies
-
--- the ticks and the restitution, over the bodies by slot and over the constraints in solve order
+-- the ticks and the restitution, over the bodies by slot, those awake that the collide has woken, and over the constraints in solve order
 abbrev pub solved_after : Plain → ℕ → Collided → Acting Constraint → Solving
-solved_after w n c s = solved n w.gravity (solve_order (ids_of s.lists)) (bodies_woken w s) w.joints c.now
+solved_after w n c s = solved n w.gravity (solve_order (ids_of s.lists)) (told s.labels w.bodies) w.joints c.now
 
 -- the bodies that the ticks have left, with their fat boxes and their timers
 abbrev pub bodies_ticked : ℕ → Solving → List (Option Body)

@@ -1,5 +1,6 @@
 -- Trusted: The collide: which shapes touch, and what begins and ends.
-use Rattle.std.specs.Prelude.{ℕ, suc, Bool, cond, List, [], ◌∷◌, ◌++◌, Option, Some, None}
+use Rattle.std.specs.Prelude.{ℕ, suc, Bool, cond, List, [], ◌∷◌, ◌++◌, Option}
+use Rattle.std.specs.Option.{option_map_or}
 use Rattle.fixed_geom.specs.declared.boxes.Box2.{Box2}
 use Rattle.shapes.specs.declared.pose.Pose.{Pose}
 use Rattle.shapes.specs.declared.shape.ShapeDef.{ShapeDef}
@@ -35,14 +36,10 @@ shape_proxies slot dynamic stirs pose index (d ∷ defs) (fat ∷ fats) =
 abbrev pub body_proxies : ℕ → Body → List Proxy
 body_proxies slot b = cond b.enabled (shape_proxies slot (is_dynamic b.kind) (stirs b) (pose_of b) 0 b.shapes b.fats) []
 
-abbrev pub entry_proxies : ℕ → Option Body → List Proxy
-entry_proxies slot None = []
-entry_proxies slot (Some b) = body_proxies slot b
-
 -- where the list begins with this slot
 abbrev pub proxies_from : ℕ → List (Option Body) → List Proxy
 proxies_from slot [] = []
-proxies_from slot (o ∷ bodies) = entry_proxies slot o ++ proxies_from (suc slot) bodies
+proxies_from slot (o ∷ bodies) = option_map_or (body_proxies slot) o [] ++ proxies_from (suc slot) bodies
 
 abbrev pub proxies_of : List (Option Body) → List Proxy
 proxies_of bodies = proxies_from 0 bodies

@@ -1,5 +1,6 @@
 -- Trusted: What holds of each accepted command, whichever it is, and what being sound means.
-use Rattle.std.specs.Prelude.{◌≡◌, ℕ, ◌+◌, ◌^◌, ◌&&◌, ◌↔◌, Bool, true, false, List, Option, Some, None, All, Contains, Ok, pos, take}
+use Rattle.std.specs.Prelude.{◌≡◌, ℕ, ◌+◌, ◌^◌, ◌&&◌, ◌↔◌, Bool, true, List, Option, Some, All, Contains, Ok, pos, take}
+use Rattle.std.specs.Option.{option_map_or}
 use Rattle.fixed_geom.specs.Vectors.{IsWithin}
 use Rattle.fixed_geom.specs.declared.vectors.Vec2.{Vec2}
 use Rattle.contacts.specs.declared.constraint.Constraint.{Constraint}
@@ -84,13 +85,9 @@ coloured_in w = members_of w.plain.bodies (joints_in_slots w.plain) w.plain.colo
 abbrev pub ColoursAreApart : Type 0
 ColoursAreApart = (w : World) → IsSound w → (ids_of (coloured_in w) ≡ w.plain.colours) × All AreApart (take COLOURS (coloured_in w))
 
-abbrev pub second_awake_in : List (Option Body) → Option ℕ → Bool
-second_awake_in bodies None = true
-second_awake_in bodies (Some slot) = is_awake_in (body_at bodies slot)
-
 -- all movers of a constraint are awake
 abbrev pub movers_awake : List (Option Body) → Movers → Bool
-movers_awake bodies m = is_awake_in (body_at bodies m.first) && second_awake_in bodies m.second
+movers_awake bodies m = is_awake_in (body_at bodies m.first) && option_map_or (λ (slot : ℕ). is_awake_in (body_at bodies slot)) m.second true
 
 -- What acts has a colour, and nothing else has: a constraint whose movers are awake.
 abbrev pub WhatActsHasAColour : Type 0

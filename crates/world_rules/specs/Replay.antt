@@ -4,12 +4,11 @@ use Rattle.fixed_geom.specs.declared.refusal.Refusal.{Refusal}
 use Rattle.world_rules.specs.declared.command.Command.{Command}
 use Rattle.world_rules.specs.declared.command.Reply.{Reply}
 use Rattle.world_rules.specs.World.{World}
-use Rattle.world_rules.specs.Apply.{Applied, apply, world_with}
+use Rattle.world_rules.specs.Apply.{Applied, apply, world_with, map_ok}
 
 -- the answer to one command, where memory is there
 abbrev pub answer_of : Result Applied Refusal → Result Reply Refusal
-answer_of (Ok a) = Ok a.reply
-answer_of (Err e) = Err e
+answer_of due = map_ok (λ (a : Applied). a.reply) due
 
 -- the world after it: a refused command changes nothing
 abbrev pub after_one : World → Result Applied Refusal → World

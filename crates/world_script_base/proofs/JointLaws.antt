@@ -1,13 +1,14 @@
 -- A body that is in a slot, and the stretch of a joint that is seen.
 use Rattle.std.proofs.Common.{◌≡◌, ◌-ℤ◌, ℤ, ℕ, List, Option, Some, None, slice_get, ap, refl, subst}
 use Rattle.std.proofs.lemmas.Option.{none-some}
+use Rattle.std.specs.Option.{option_flatten}
 use Rattle.fixed_geom.specs.Facings.{rotate}
 use Rattle.fixed_geom.specs.Vectors.{minus, plus, span}
 use Rattle.joint_rows.specs.Joints.{IsJoint}
 use Rattle.joint_rows.specs.declared.joint.Joint.{Joint}
 use Rattle.momenta.specs.declared.motion.Motion.{Motion}
 use Rattle.plain_world.specs.Bodies.{AreBodies, IsBody}
-use Rattle.plain_world.specs.Slots.{body_at, item_in}
+use Rattle.plain_world.specs.Slots.{body_at}
 use Rattle.plain_world.specs.Joints.{AreJoints, joint_at}
 use Rattle.plain_world.specs.declared.body.Body.{Body}
 use Rattle.plain_world.specs.declared.joint.BodyJoint.{BodyJoint}
@@ -15,7 +16,7 @@ use Rattle.shapes.specs.Poses.{transformed}
 use Rattle.world_script_base.specs.JointViews.{IsStretchOfTheRow}
 
 -- what a slot contains
-item_there : {X : Type 0} (o : Option (Option X)) (x : X) → item_in o ≡ Some x → o ≡ Some (Some x)
+item_there : {X : Type 0} (o : Option (Option X)) (x : X) → option_flatten o ≡ Some x → o ≡ Some (Some x)
 item_there None x e = absurd (none-some x e)
 item_there (Some o) x e = ap Some e
 

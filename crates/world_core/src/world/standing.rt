@@ -1,11 +1,12 @@
 //! Where one item stands: what the solver sets tell of it.
 
 ghost use Rattle.std.specs.Prelude.{◌≡◌, None, cond, option_map};
+ghost use Rattle.std.specs.List.{find};
 ghost use Rattle.plain_world.specs.Joints.{joint_of};
 ghost use Rattle.plain_world.specs.Slots.{body_of};
 ghost use Rattle.plain_world.specs.Bodies.{standing_of};
 ghost use Rattle.solver_sets.specs.Census.{standing_of_contact, standing_of_joint};
-ghost use Rattle.solver_sets.specs.EachOnce.{contact_of, stand};
+ghost use Rattle.solver_sets.specs.EachOnce.{stand, has_key};
 ghost use Rattle.world_core_base.specs.Stands.{set_of};
 ghost use Rattle.world_rules.specs.World.{joints_in_slots};
 
@@ -59,7 +60,7 @@ impl WorldCore {
     }
 
     fn stand_of_contact(&self, key: ContactKey) -> Option<SetName>
-        ensures { result ≡ option_map (standing_of_contact self.now.plain.bodies) (contact_of self.now.plain.contacts key) }
+        ensures { result ≡ option_map (standing_of_contact self.now.plain.bodies) (find (has_key key) self.now.plain.contacts) }
     {
         self.contacts.know_numbered();
         let number = self.contacts.number_of(key)?;
