@@ -1,5 +1,5 @@
 -- Trusted: Islands as labels: by slot the island of the mover there, and what each call makes of them.
-use Rattle.std.specs.Prelude.{◌≡◌, ℕ, ◌+◌, ◌-◌, List, ◌++◌, length, Some, None, Option, map, replicate, slice_set, ◌==◌, ◌||◌, ◌&&◌, Bool, true, false, cond, min, nat_lt}
+use Rattle.std.specs.Prelude.{◌≡◌, ℕ, ◌+◌, ◌-◌, List, ◌++◌, length, Some, None, Option, map, replicate, slice_set, ◌==◌, ◌||◌, ◌&&◌, Bool, true, false, cond, min, nat_lt, option_and_then}
 use Rattle.std.specs.List.{slice_index_or, position_or_len, range_with_len}
 use Rattle.std.specs.Option.{option_map_or}
 use Rattle.islands.specs.declared.label.IslandState.{IslandState}
@@ -17,8 +17,7 @@ label_at labels slot = slice_index_or labels slot None
 
 -- the label is that of the island of this name
 abbrev pub is_in : Option Label → ℕ → Bool
-is_in None name = false
-is_in (Some l) name = l.name == name
+is_in label name = option_map_or (λ (l : Label). l.name == name) label false
 
 -- the mover in the slot is in the island of this name
 abbrev pub IsIn : Labels → ℕ → ℕ → Type 0
@@ -36,8 +35,7 @@ is_asleep Asleep = true
 
 -- the name of the island, if it sleeps: a mover of it sleeps with that name
 abbrev pub sleeping_name : Option Label → Option ℕ
-sleeping_name None = None
-sleeping_name (Some l) = cond (is_asleep l.state) (Some l.name) None
+sleeping_name label = option_and_then (λ (l : Label). cond (is_asleep l.state) (Some l.name) None) label
 
 -- ---- islands get another label
 

@@ -41,5 +41,4 @@ pub record AreMatched {X : Type 0} (slot_entries : List SlotEntry) (items : List
 
 -- how many shapes take part: all of an enabled body, and none of another
 abbrev pub shapes_in : Option Body → ℕ
-shapes_in None = 0
-shapes_in (Some b) = cond b.enabled (length b.shapes) 0
+shapes_in body = option_map_or (λ (b : Body). cond b.enabled (length b.shapes) 0) body 0

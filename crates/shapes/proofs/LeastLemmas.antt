@@ -12,8 +12,9 @@ use Rattle.shapes.specs.declared.shape.Shape.{Shape}
 use Rattle.shapes.specs.declared.spots.Pair.{Pair}
 use Rattle.shapes.specs.declared.spots.Spot.{Spot}
 use Rattle.shapes.specs.declared.points.Manifold.{Manifold}
-use Rattle.shapes.specs.Manifolds.{is_before, is_sooner, least_of, point_of, nearest_spot, spots, first_spot, other_spots, allowed_spots, chosen_spots, posed_pair, manifold_of}
+use Rattle.shapes.specs.Manifolds.{is_before, is_sooner, least_of, point_of, nearest_spot, spots, first_spot, allowed_spots, chosen_spots, posed_pair, manifold_of}
 use Rattle.shapes.specs.PointsWithin.{IsAmong, IsLeast, IsLeastPoint}
+use Rattle.shapes.specs.Spots.{spot_of, others}
 
 before_trans : (d e f : ℤ) (n m k : ℕ) → is_before e m d n ≡ false → is_before f k e m ≡ false → is_before f k d n ≡ false
 unfolding is_before
@@ -38,9 +39,9 @@ is_strict = record {
 pub least_is_best : (t : Spot) (ts : List Spot) → least_of (t ∷ ts) ≡ Some (best_of is_sooner t ts)
 least_is_best t ts = unbeaten_is_best (λ u. Unit {0}) is_sooner t ts is_strict tt (All-weaker (Contains ts) (λ u. Unit {0}) (λ u h. tt) ts (All-contains_itself ts))
 
-pub nearest_is_best : (s : Pair) → nearest_spot s ≡ best_of is_sooner (first_spot s) (other_spots s)
+pub nearest_is_best : (s : Pair) → nearest_spot s ≡ best_of is_sooner (first_spot s) (map (spot_of s) (others s))
 unfolding nearest_spot
-nearest_is_best s = ap (λ (o : Option Spot). unwrap_or o (first_spot s)) (least_is_best (first_spot s) (other_spots s))
+nearest_is_best s = ap (λ (o : Option Spot). unwrap_or o (first_spot s)) (least_is_best (first_spot s) (map (spot_of s) (others s)))
 
 -- ---- none is less
 
@@ -96,7 +97,7 @@ has_least a o b p =
     let s = posed_pair a o b p in
     let rest = least_of_is o.x p.x (allowed_spots s) in
     record {
-      first = record { spot = nearest_spot s; least = subst (λ (t : Spot). IsLeast t (spots s)) (sym (nearest_is_best s)) (least_is (first_spot s) (other_spots s)); is = refl };
+      first = record { spot = nearest_spot s; least = subst (λ (t : Spot). IsLeast t (spots s)) (sym (nearest_is_best s)) (least_is (first_spot s) (map (spot_of s) (others s))); is = refl };
       second = rest.some;
       alone = rest.none;
     }

@@ -24,7 +24,7 @@ use Rattle.shapes.specs.Poses.{IsPose, transformed}
 use Rattle.shapes.specs.Cores.{is_point, way_of, part_clamped, share_of, closest}
 use Rattle.shapes.specs.Spots.{of_a, of_b, others, square_to, across, up, flat_normal, normal_of, flipped, separation_of, position_of, spot_of}
 use Rattle.shapes.specs.declared.points.Manifold.{Manifold}
-use Rattle.shapes.specs.Manifolds.{least_of, is_second, nearest_spot, chosen_spots, spots, first_spot, other_spots, allowed_spots, point_of, posed_pair, manifold_of}
+use Rattle.shapes.specs.Manifolds.{least_of, is_second, nearest_spot, chosen_spots, spots, first_spot, allowed_spots, point_of, posed_pair, manifold_of}
 use Rattle.shapes.specs.PointsWithin.{IsPointWithin}
 use Rattle.shapes.proofs.SpotLists.{least_all, nearest_all, filter_all}
 use Rattle.shapes.proofs.CoreLemmas.{rdiv_low, rdiv_nonnegative}
@@ -330,7 +330,7 @@ has_near a o b p k ha ho hb hp w =
     let rest = map_near s k o.x p.x (others s) ha.radius hb.radius w (others_near s k o.x p.x h) in
     record {
       first = nearest_all P s head rest;
-      second = second_near k o.x p.x (allowed_spots s) (filter_all P (is_second (nearest_spot s)) (spots s) (All-cons P (first_spot s) (other_spots s) head rest));
+      second = second_near k o.x p.x (allowed_spots s) (filter_all P (is_second (nearest_spot s)) (spots s) (All-cons P (first_spot s) (map (spot_of s) (others s)) head rest));
     }
 
 pub manifold_has_near : (a : Shape) (o : Pose) (b : Shape) (p : Pose) (m : Manifold) → m ≡ manifold_of a o b p → IsShape a → IsPose o → IsShape b → IsPose p → (k : ℕ) → IsWithin k (minus p.x o.x) → HasNear k m

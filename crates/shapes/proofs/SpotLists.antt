@@ -6,7 +6,8 @@ use Rattle.std.proofs.lemmas.List.Elements.{All-nil, All-cons, All-head, All-tai
 use Rattle.fixed_geom.proofs.UnbeatenLemmas.{found_is}
 use Rattle.shapes.specs.declared.spots.Pair.{Pair}
 use Rattle.shapes.specs.declared.spots.Spot.{Spot}
-use Rattle.shapes.specs.Manifolds.{least_of, nearest_spot, spots, first_spot, other_spots}
+use Rattle.shapes.specs.Manifolds.{least_of, nearest_spot, spots, first_spot}
+use Rattle.shapes.specs.Spots.{spot_of, others}
 
 pub least_all : (P : Spot → Type 0) (ts : List Spot) → All P ts → IfSome (least_of ts) P
 least_all P ts h = found_is P _ ts h
@@ -15,9 +16,9 @@ or_this : (P : Spot → Type 0) (o : Option Spot) (t : Spot) → IfSome o P → 
 or_this P None t h l = l
 or_this P (Some u) t h l = h
 
-pub nearest_all : (P : Spot → Type 0) (s : Pair) → P (first_spot s) → All P (other_spots s) → P (nearest_spot s)
+pub nearest_all : (P : Spot → Type 0) (s : Pair) → P (first_spot s) → All P (map (spot_of s) (others s)) → P (nearest_spot s)
 unfolding nearest_spot
-nearest_all P s h l = or_this P (least_of (spots s)) (first_spot s) (least_all P (spots s) (All-cons P (first_spot s) (other_spots s) h l)) h
+nearest_all P s h l = or_this P (least_of (spots s)) (first_spot s) (least_all P (spots s) (All-cons P (first_spot s) (map (spot_of s) (others s)) h l)) h
 
 kept : (P : Spot → Type 0) (b : Bool) (t : Spot) (ts : List Spot) → P t → All P ts → All P (cond b (t ∷ ts) ts)
 kept P true t ts h l = All-cons P t ts h l

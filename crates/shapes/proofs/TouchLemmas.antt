@@ -23,7 +23,7 @@ use Rattle.shapes.specs.Shapes.{IsShape, first_end, second_end}
 use Rattle.shapes.specs.Poses.{IsPose}
 use Rattle.shapes.specs.Cores.{is_point, share_of, closest, cores_cross}
 use Rattle.shapes.specs.Spots.{of_a, of_b, others, normal_of, separation_of, position_of, spot_of}
-use Rattle.shapes.specs.Manifolds.{least_of, is_second, nearest_spot, chosen_spots, spots, first_spot, other_spots, allowed_spots, point_of, posed_pair, manifold_of}
+use Rattle.shapes.specs.Manifolds.{least_of, is_second, nearest_spot, chosen_spots, spots, first_spot, allowed_spots, point_of, posed_pair, manifold_of}
 use Rattle.shapes.specs.PointsWithin.{IsPointWithin, IsSecond}
 use Rattle.shapes.proofs.CrossLemmas.{IsMet, AreMet, are_met}
 use Rattle.shapes.proofs.DiscLemmas.{disc, IsInDisc, disc_across, disc_along, posed_in_disc}
@@ -288,7 +288,7 @@ mapped P s false true one two three h k l = All-cons P (spot_of s one) (spot_of 
 mapped P s false false one two three h k l =
     All-cons P (spot_of s one) (spot_of s two ∷ spot_of s three ∷ []) h (All-cons P (spot_of s two) (spot_of s three ∷ []) k (All-cons P (spot_of s three) [] l (All-nil P)))
 
-others_touching : (s : Pair) (x y : Vec2) → IsAround s x y → All (λ t. IsTouchingSpot x y t) (other_spots s)
+others_touching : (s : Pair) (x y : Vec2) → IsAround s x y → All (λ t. IsTouchingSpot x y t) (map (spot_of s) (others s))
 unfolding others
 others_touching s x y h =
     mapped (λ t. IsTouchingSpot x y t) s (is_point s.a) (is_point s.b) (of_a s 1 s.a.q) (of_b s 2 s.b.p) (of_b s 3 s.b.q)
@@ -333,7 +333,7 @@ has_touching a o b p ha ho hb hp =
     let P : Spot → Type 0 = λ t. IsTouchingSpot o.x p.x t in
     let head = a_touching s 0 o.x p.x s.a.p (omega arith) h (first_on s.a) in
     let rest = others_touching s o.x p.x h in
-    let second = least_touching o.x p.x (allowed_spots s) (filter_all P (is_second (nearest_spot s)) (spots s) (All-cons P (first_spot s) (other_spots s) head rest)) in
+    let second = least_touching o.x p.x (allowed_spots s) (filter_all P (is_second (nearest_spot s)) (spots s) (All-cons P (first_spot s) (map (spot_of s) (others s)) head rest)) in
     record {
       first = nearest_all P s head rest;
       second = overlapping (manifold_of a o b p).first (manifold_of a o b p).second second (manifold_has_second a o b p (manifold_of a o b p) refl);

@@ -20,11 +20,8 @@ use Rattle.shapes.specs.Spots.{pair_of, of_a, others, spot_of}
 abbrev pub first_spot : Pair → Spot
 first_spot s = spot_of s (of_a s 0 s.a.p)
 
-abbrev pub other_spots : Pair → List Spot
-other_spots s = map (spot_of s) (others s)
-
 abbrev pub spots : Pair → List Spot
-spots s = first_spot s ∷ other_spots s
+spots s = first_spot s ∷ map (spot_of s) (others s)
 
 -- ---- the least of a list
 

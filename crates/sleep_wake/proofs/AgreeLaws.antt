@@ -11,7 +11,7 @@ use Rattle.islands.specs.Partition.{IsPartition}
 use Rattle.islands.proofs.LabelLemmas.{in_case}
 use Rattle.islands.proofs.SplitLemmas.{split_is}
 use Rattle.sleep_wake.specs.Acting.{Acting, IsConsistent, awake_label, is_mover_awake}
-use Rattle.sleep_wake.specs.SleepPhase.{lesser, least_timer, is_time_to_sleep, is_island, is_less, ready, picked_to_split, split_at, edges_of, split_picked, ready_put_to_rest, sleep_phase}
+use Rattle.sleep_wake.specs.SleepPhase.{lesser, least_timer, is_time_to_sleep, is_island, is_less, ready, picked_to_split, split_at, split_picked, ready_put_to_rest, sleep_phase, edges_in}
 use Rattle.sleep_wake.specs.AwakeSlots.{AreAwakeSlots, AgreeAwake}
 use Rattle.sleep_wake.specs.Resting.{least_at, AreLeast, is_ready_island, ready_after, ready_names, longer_at_rest, longest_at_rest, longest_ready, rests_by, second_rests, is_to_rest}
 use Rattle.sleep_wake.proofs.AwakeLemmas.{awake_as}
@@ -194,7 +194,7 @@ split_awake : {C : Type 0} (number : C → ℕ) (s : Acting C) (name : ℕ) (slo
 unfolding split_at
 split_awake number s name slot w h =
     let o = names s.labels name true h in
-    let parts = split_is s.labels name (edges_of s name) w.islands.partition (edges_inside s.labels name s.ties w.islands) in
+    let parts = split_is s.labels name (edges_in s.labels name s.ties) w.islands.partition (edges_inside s.labels name s.ties w.islands) in
     elim (in_case (label_at s.labels slot) name) [
       | inl k ↦ ap awake_label (parts.members slot k).label ∙ sym (awake_as s.labels name slot o.l w.islands.partition o.at o.named k ∙ ap not o.awake)
       | inr k ↦ ap awake_label (parts.others slot k)

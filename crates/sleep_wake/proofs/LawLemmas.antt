@@ -20,7 +20,7 @@ use Rattle.sleep_wake.specs.Bodies.{mover_made, mover_gone}
 use Rattle.sleep_wake.specs.Changes.{begun, ended, united, parted, each_begun, each_ended, after_change, after_changes}
 use Rattle.sleep_wake.specs.ChangeLists.{CanBegin, CanEnd, AreChanges}
 use Rattle.sleep_wake.specs.Waking.{set_woken, woken_at, movers_woken, put_to_rest}
-use Rattle.sleep_wake.specs.SleepPhase.{split_at, edges_of, split_picked, picked_to_split, ready, sleep_phase}
+use Rattle.sleep_wake.specs.SleepPhase.{split_at, split_picked, picked_to_split, ready, sleep_phase, edges_in}
 use Rattle.sleep_wake.specs.Sleeping.{name_at, with_one_name, with_name, sleeping_names, islands_woken, split_if_loose, rested_at, slept_at}
 use Rattle.sleep_wake.specs.Resting.{is_whole}
 use Rattle.sleep_wake.specs.Laws.{WakingNamedKeeps, BeginningEachKeeps, EndingEachKeeps, SleepKeeps, MoversStay, MoversComeAndGo, NobodyFallsAsleep, AwakeStayAwake, WakingLeavesTheAwake, TheNamedAreAwake, TheAwakeAct}
@@ -165,7 +165,7 @@ all_rest_slots number (name ∷ names) s = λ t. all_rest_slots number names (pu
 split_slots : {C : Type 0} (number : C → ℕ) (name : ℕ) (s : Acting C) → IsConsistent number s → SameSlots s.labels (split_at name s).labels
 unfolding split_at
 split_slots number name s w =
-    let parts = split_is s.labels name (edges_of s name) w.islands.partition (edges_inside s.labels name s.ties w.islands) in
+    let parts = split_is s.labels name (edges_in s.labels name s.ties) w.islands.partition (edges_inside s.labels name s.ties w.islands) in
     λ t. elim (in_case (label_at s.labels t) name) [
       | inl h ↦ let i = in_is (label_at s.labels t) name h in ap is_some (parts.members t h).label ∙ sym (ap is_some i.1)
       | inr h ↦ ap is_some (parts.others t h)

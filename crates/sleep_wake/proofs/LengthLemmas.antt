@@ -18,7 +18,7 @@ use Rattle.sleep_wake.specs.declared.change.Change.TheVariants.{Begin, End}
 use Rattle.sleep_wake.specs.Acting.{Acting, AreMovers, IsConsistent, acting, are_awake, awake_label, is_mover_awake, links_of}
 use Rattle.sleep_wake.specs.Bodies.{mover_gone, mover_made}
 use Rattle.sleep_wake.specs.Changes.{begun, after_change, each_begun, each_ended, ended, parted, after_changes, united}
-use Rattle.sleep_wake.specs.SleepPhase.{edges_of, picked_to_split, ready, sleep_phase, split_at, split_picked}
+use Rattle.sleep_wake.specs.SleepPhase.{picked_to_split, ready, sleep_phase, split_at, split_picked, edges_in}
 use Rattle.sleep_wake.specs.Sleeping.{islands_woken, rested_at, slept_at, split_if_loose}
 use Rattle.sleep_wake.specs.Widened.{widened}
 use Rattle.sleep_wake.specs.Waking.{movers_woken, put_to_rest, set_woken, woken_at}
@@ -124,7 +124,7 @@ all_rest_long number (name ∷ names) s = all_rest_long number names (put_to_res
 
 split_at_long : {C : Type 0} (name : ℕ) (s : Acting C) → IsAsLong s (split_at name s)
 unfolding split_at
-split_at_long name s = split_size s.labels name (edges_of s name)
+split_at_long name s = split_size s.labels name (edges_in s.labels name s.ties)
 
 split_if_long : {C : Type 0} (name : ℕ) (t : Bool) (s : Acting C) → IsAsLong s (cond t (split_at name s) s)
 split_if_long name true s = split_at_long name s

@@ -22,7 +22,7 @@ use Rattle.islands.proofs.SplitLemmas.{IsLabelled, splitting_keeps as splits_kee
 use Rattle.sleep_wake.specs.Acting.{Acting, AreMovers, IsConsistent, links_of, awake_label, is_mover_awake, are_awake}
 use Rattle.sleep_wake.specs.Waking.{released_all, put_to_rest}
 use Rattle.sleep_wake.specs.Bodies.{dropped, mover_gone, mover_made}
-use Rattle.sleep_wake.specs.SleepPhase.{split_at, edges_of, is_island, is_time_to_sleep, least_timer, ready_from, ready, picked_to_split, split_picked, ready_put_to_rest}
+use Rattle.sleep_wake.specs.SleepPhase.{split_at, is_island, is_time_to_sleep, least_timer, ready_from, ready, picked_to_split, split_picked, ready_put_to_rest, edges_in}
 use Rattle.sleep_wake.specs.Laws.{DroppingKeeps, GoingKeeps, MakingKeeps, SplittingKeeps, SleepPhaseKeeps, EmptyIsConsistent}
 use Rattle.sleep_wake.proofs.ListLemmas.{none_in, filter_in, in_filter, one_of, releases, Releases, rising_filter, link_in, in_links, links_more}
 use Rattle.sleep_wake.proofs.AwakeLemmas.{same_awake, awake_as}
@@ -202,7 +202,7 @@ making_keeps {C} number s slot w fresh =
 
 -- ---- a split
 
-pub edges_are : {C : Type 0} (number : C → ℕ) (s : Acting C) (name : ℕ) → IsConsistent number s → AreLinksOf (links_of s.ties) s.labels name (edges_of s name)
+pub edges_are : {C : Type 0} (number : C → ℕ) (s : Acting C) (name : ℕ) → IsConsistent number s → AreLinksOf (links_of s.ties) s.labels name (edges_in s.labels name s.ties)
 edges_are number s name w =
     let p : ℕ × ℕ → Bool = λ e. is_in (label_at s.labels e.0) name in
     let on : (a b : ℕ) → Linked (links_of s.ties) a b → IsIn s.labels name a → IsIn s.labels name b = λ a b h k. let o = w.islands.together a b h in ap (λ v. is_in v name) (o.2 ∙ sym o.1) ∙ k in
@@ -215,9 +215,9 @@ edges_are number s name w =
 pub splitting_keeps : {C : Type 0} (number : C → ℕ) → SplittingKeeps number
 unfolding split_at
 splitting_keeps {C} number s name l w e k a =
-    let new : Labels = split_by s.labels name (edges_of s name) in
-    let both = splits_keep (links_of s.ties) s.labels name (edges_of s name) w.islands (edges_are number s name w) in
-    let parts : IsSplit s.labels name (edges_of s name) new = both.1 in
+    let new : Labels = split_by s.labels name (edges_in s.labels name s.ties) in
+    let both = splits_keep (links_of s.ties) s.labels name (edges_in s.labels name s.ties) w.islands (edges_are number s name w) in
+    let parts : IsSplit s.labels name (edges_in s.labels name s.ties) new = both.1 in
     let same : (t : ℕ) → is_mover_awake new t ≡ is_mover_awake s.labels t = λ t. elim (in_case (label_at s.labels t) name) [
       | inl h ↦ ap awake_label (parts.members t h).label ∙ sym (awake_as s.labels name t l w.islands.partition e k h ∙ ap not a)
       | inr h ↦ ap awake_label (parts.others t h)

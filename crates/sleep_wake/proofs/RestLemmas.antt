@@ -9,7 +9,7 @@ use Rattle.islands.specs.Labels.{label_at, is_in, is_loose, is_asleep, relabel}
 use Rattle.islands.proofs.LabelLemmas.{in_of}
 use Rattle.islands.proofs.SplitLemmas.{split_is}
 use Rattle.sleep_wake.specs.Acting.{Acting, IsConsistent}
-use Rattle.sleep_wake.specs.SleepPhase.{is_island, split_at, edges_of}
+use Rattle.sleep_wake.specs.SleepPhase.{is_island, split_at, edges_in}
 use Rattle.sleep_wake.specs.Sleeping.{split_if_loose}
 use Rattle.sleep_wake.specs.Resting.{is_whole}
 use Rattle.sleep_wake.proofs.EdgeLemmas.{edges_inside}
@@ -53,7 +53,7 @@ whole_by state a b = rw (a, b) refl
 split_whole : {C : Type 0} (number : C → ℕ) (s : Acting C) (slot : ℕ) (l : Label) → IsConsistent number s → label_at s.labels slot ≡ Some l → is_whole (label_at (split_at l.name s).labels slot) ≡ true
 unfolding split_at
 split_whole number s slot l w e =
-    let parts = split_is s.labels l.name (edges_of s l.name) w.islands.partition (edges_inside s.labels l.name s.ties w.islands) in
+    let parts = split_is s.labels l.name (edges_in s.labels l.name s.ties) w.islands.partition (edges_inside s.labels l.name s.ties w.islands) in
     ap is_whole (parts.members slot (in_of (label_at s.labels slot) l l.name e refl)).label
 
 whole_if : {C : Type 0} (number : C → ℕ) (s : Acting C) (slot : ℕ) (l : Label) (t : Bool) → is_loose l.state ≡ t → IsConsistent number s → label_at s.labels slot ≡ Some l → is_asleep l.state ≡ false → is_whole (label_at (cond t (split_at l.name s) s).labels slot) ≡ true

@@ -1,5 +1,5 @@
 -- Trusted: What acts: the constraints, the islands of their movers, and the colours of those whose movers are awake.
-use Rattle.std.specs.Prelude.{◌≡◌, ℕ, ◌&&◌, ◌↔◌, Bool, true, false, not, List, Option, Some, None, option_map, Contains}
+use Rattle.std.specs.Prelude.{◌≡◌, ℕ, ◌&&◌, ◌↔◌, Bool, true, false, not, List, Option, Some, option_map, Contains}
 use Rattle.std.specs.List.{filter_map}
 use Rattle.std.specs.Option.{option_map_or}
 use Rattle.graph_colours.specs.declared.member.Movers.{Movers}
@@ -36,8 +36,7 @@ links_of ties = filter_map link_of ties
 -- ---- who is awake
 
 abbrev pub awake_label : Option Label → Bool
-awake_label None = false
-awake_label (Some l) = not (is_asleep l.state)
+awake_label label = option_map_or (λ (l : Label). not (is_asleep l.state)) label false
 
 -- a mover is awake while its island is
 abbrev pub is_mover_awake : Labels → ℕ → Bool

@@ -19,12 +19,9 @@ ticks_to_sleep = 128
 abbrev pub edges_in : {C : Type 0} → Labels → ℕ → List (Member C) → Edges
 edges_in labels name ties = filter (λ e. is_in (label_at labels e.0) name) (links_of ties)
 
-abbrev pub edges_of : {C : Type 0} → Acting C → ℕ → Edges
-edges_of s name = edges_in s.labels name s.ties
-
 -- the island is replaced by its components; no constraint changes
 unfoldable pub split_at : {C : Type 0} → ℕ → Acting C → Acting C
-split_at name s = record { ties = s.ties; labels = split_by s.labels name (edges_of s name); lists = s.lists }
+split_at name s = record { ties = s.ties; labels = split_by s.labels name (edges_in s.labels name s.ties); lists = s.lists }
 
 -- ---- which islands are ready; timers by slot, in ticks
 

@@ -37,8 +37,8 @@ split_if_loose l s = cond (is_loose l.state) (split_at l.name s) s
 
 -- the island of the mover in the slot
 abbrev pub rested_at : {C : Type 0} → (C → ℕ) → ℕ → Acting C → Acting C
-rested_at number slot s = option_map_or (λ l. put_to_rest number l.name s) (label_at s.labels slot) s
+rested_at number slot s = option_map_or (λ (l : Label). put_to_rest number l.name s) (label_at s.labels slot) s
 
 -- one that sleeps stays as it is
 unfoldable pub slept_at : {C : Type 0} → (C → ℕ) → ℕ → Acting C → Acting C
-slept_at number slot s = option_map_or (λ l. cond (is_asleep l.state) s (rested_at number slot (split_if_loose l s))) (label_at s.labels slot) s
+slept_at number slot s = option_map_or (λ (l : Label). cond (is_asleep l.state) s (rested_at number slot (split_if_loose l s))) (label_at s.labels slot) s

@@ -5,6 +5,7 @@ use Rattle.graph_colours.specs.declared.member.Movers.{Movers}
 use Rattle.graph_colours.specs.declared.member.Member.{Member}
 use Rattle.graph_colours.specs.Colours.{with_placed, released}
 use Rattle.islands.specs.Labels.{Labels, label_at, is_in, is_asleep, rested, woken}
+use Rattle.islands.specs.declared.label.Label.{Label}
 use Rattle.sleep_wake.specs.Acting.{Acting}
 
 -- ---- the constraints of an island
@@ -33,7 +34,7 @@ set_woken number name s = record { ties = s.ties; labels = woken s.labels name; 
 
 -- the island of the mover in the slot, if it sleeps
 unfoldable pub woken_at : {C : Type 0} → (C → ℕ) → ℕ → Acting C → Acting C
-woken_at number slot s = option_map_or (λ l. cond (is_asleep l.state) (set_woken number l.name s) s) (label_at s.labels slot) s
+woken_at number slot s = option_map_or (λ (l : Label). cond (is_asleep l.state) (set_woken number l.name s) s) (label_at s.labels slot) s
 
 -- the islands of a constraint's movers, the first one's first
 abbrev pub movers_woken : {C : Type 0} → (C → ℕ) → Movers → Acting C → Acting C

@@ -19,7 +19,7 @@ use Rattle.plain_world.specs.Bodies.{is_mover, is_mover_in, moves}
 use Rattle.plain_world.specs.Kinds.{is_dynamic}
 use Rattle.plain_world.specs.Joints.{is_end_in}
 use Rattle.plain_world.specs.Slots.{body_at}
-use Rattle.solver_sets.specs.Beside.{joined_by, joined_to, mover_at, mover_beside, neighbours, stirred_by, stirred_if, touched_by, touched_with}
+use Rattle.solver_sets.specs.Beside.{joined_by, joined_to, mover_at, mover_beside, stirred_by, stirred_if, touched_by, touched_with}
 use Rattle.solver_sets.specs.BesideByTies.{first_movers, stirred_among, is_tie_of, ties_among}
 use Rattle.solver_sets.specs.Laws as laws
 use Rattle.solver_sets.specs.Ties.{Bond, JointSlots, bonds_of, contact_bond, is_bond_of, is_enabled, is_enabled_in, joint_bond, joint_bonds, joint_bonds_from, movers_if, movers_with, tie_of, tie_with, ties_at, ties_in, ties_of, touching_keys}
@@ -143,7 +143,7 @@ touched_beside bodies slot (e ∷ es) on still =
     touched_next bodies slot e (filter (λ (e : ContactEntry). touches e.contact) es) (touches e.contact) (filter_map (touched_with bodies slot) es) on still (touched_beside bodies slot es on still)
 
 beside_picked : (slot : ℕ) (bodies : List (Option Body)) (s : JointSlots) (contacts : List ContactEntry) → length s.joints ≤ length s.slot_entries → is_enabled bodies slot ≡ true → moves bodies slot ≡ false
-    → first_movers (ties_at slot bodies s contacts) ≡ neighbours bodies s.joints contacts slot
+    → first_movers (ties_at slot bodies s contacts) ≡ joined_to bodies s.joints slot ++ touched_by bodies contacts slot
 unfolding ties_at joined_to touched_by
 beside_picked slot bodies s contacts le on still =
     let joints : List Bond = filter (is_bond_of slot) (joint_bonds s) in
@@ -168,5 +168,5 @@ pub stirred_picked : laws.StirredArePicked
 unfolding stirred_among stirred_by
 stirred_picked slot bodies s contacts matched =
     let le : length s.joints ≤ length s.slot_entries = let e = matched.slots in omega (arith, e) in
-    stirred_same (body_at bodies slot) slot (first_movers (ties_among slot s.joints (ties_of bodies s contacts))) (neighbours bodies s.joints contacts slot)
+    stirred_same (body_at bodies slot) slot (first_movers (ties_among slot s.joints (ties_of bodies s contacts))) (joined_to bodies s.joints slot ++ touched_by bodies contacts slot)
     (λ on still. ap first_movers (ties_picked slot bodies s contacts) ∙ beside_picked slot bodies s contacts le on still)

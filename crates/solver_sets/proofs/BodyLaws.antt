@@ -23,7 +23,7 @@ use Rattle.plain_world.specs.declared.body.Body.{Body}
 use Rattle.plain_world.specs.declared.joint.BodyJoint.{BodyJoint}
 use Rattle.plain_world.specs.Joints.{AreJoints, is_end_in, is_joint_of, joint_at}
 use Rattle.plain_world.specs.Slots.{body_at, with_body}
-use Rattle.solver_sets.specs.Beside.{joined_by, joined_to, mover_beside, neighbours, touched_by, touched_with}
+use Rattle.solver_sets.specs.Beside.{joined_by, joined_to, mover_beside, touched_by, touched_with}
 use Rattle.solver_sets.specs.Joining.{handle_at, unjoined, unjoined_all, unjoined_up}
 use Rattle.solver_sets.specs.Laws as laws
 use Rattle.solver_sets.specs.Alike.{AreAlikeBeside, AreJointSlots, IsBetweenEnabled}
@@ -442,7 +442,7 @@ beside_second : (bodies : List (Option Body)) (slot a b : ℕ) → (a == slot) �
 beside_second bodies slot a b f e on = rw (f, e, on) refl
 
 -- what is beside the slot by a bond is a neighbour
-neighbour : (bodies : List (Option Body)) (s : JointSlots) (contacts : List ContactEntry) (slot other : ℕ) (b : Bond) → IsIn b (bonds_of s contacts) → mover_beside bodies slot b.a b.b ≡ Some other → IsIn other (neighbours bodies s.joints contacts slot)
+neighbour : (bodies : List (Option Body)) (s : JointSlots) (contacts : List ContactEntry) (slot other : ℕ) (b : Bond) → IsIn b (bonds_of s contacts) → mover_beside bodies slot b.a b.b ≡ Some other → IsIn other (joined_to bodies s.joints slot ++ touched_by bodies contacts slot)
 unfolding joined_to touched_by
 neighbour bodies s contacts slot other b h e = elim (in_bonds s contacts b h) [
   | inl p ↦ in_left other (joined_to bodies s.joints slot) (touched_by bodies contacts slot)
@@ -460,7 +460,7 @@ pub of_no_mover : laws.TiesOfNoMover
 of_no_mover slot bodies s contacts m still h =
     let o = in_ties_at slot bodies s contacts m (in_from_contains (ties_at slot bodies s contacts) m h) in
     let has = has_movers bodies o.of.a o.of.b m.movers (tie_is bodies o.of m o.gives).movers in
-    let beside : List ℕ = neighbours bodies s.joints contacts slot in
+    let beside : List ℕ = joined_to bodies s.joints slot ++ touched_by bodies contacts slot in
     elim (of_slot_by (o.of.a == slot)) [
       | inl p ↦
           let at : moves bodies o.of.a ≡ false = ap (moves bodies) (same_from o.of.a slot p) ∙ still in

@@ -33,17 +33,13 @@ touched_with bodies slot e = cond (touches e.contact) (mover_beside bodies slot 
 unfoldable pub touched_by : List (Option Body) → List ContactEntry → ℕ → List ℕ
 touched_by bodies contacts slot = filter_map (touched_with bodies slot) contacts
 
-abbrev pub neighbours : List (Option Body) → List (Option BodyJoint) → List ContactEntry → ℕ → List ℕ
-neighbours bodies joints contacts slot = joined_to bodies joints slot ++ touched_by bodies contacts slot
-
 -- ---- whom a change of a body wakes: a mover itself; of an enabled body that is none those beside it; of a disabled one nobody
 
 abbrev pub stirred_if : Option Body → ℕ → List ℕ → List ℕ
-stirred_if None slot beside = []
-stirred_if (Some b) slot beside = cond (is_mover b) (slot ∷ []) (cond b.enabled beside [])
+stirred_if body slot beside = option_map_or (λ (b : Body). cond (is_mover b) (slot ∷ []) (cond b.enabled beside [])) body []
 
 unfoldable pub stirred_by : List (Option Body) → List (Option BodyJoint) → List ContactEntry → ℕ → List ℕ
-stirred_by bodies joints contacts slot = stirred_if (body_at bodies slot) slot (neighbours bodies joints contacts slot)
+stirred_by bodies joints contacts slot = stirred_if (body_at bodies slot) slot (joined_to bodies joints slot ++ touched_by bodies contacts slot)
 
 -- ---- who is kept awake by a kinematic body that moves
 

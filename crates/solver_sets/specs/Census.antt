@@ -1,5 +1,5 @@
 -- Trusted: The census: for each solver set the bodies, joints and contacts that stand in it.
-use Rattle.std.specs.Prelude.{◌≡◌, ℕ, suc, ◌<◌, ◌==◌, ◌&&◌, ◌||◌, Bool, true, false, cond, List, [], ◌∷◌, ◌++◌, filter, map, Option, Some, None}
+use Rattle.std.specs.Prelude.{◌≡◌, ℕ, suc, ◌<◌, ◌==◌, ◌&&◌, ◌||◌, Bool, true, false, cond, List, [], ◌∷◌, ◌++◌, filter, map, Option, Some, None, option_and_then}
 use Rattle.std.specs.List.{AllPairs, cons_option, count_by}
 use Rattle.body_handles.specs.declared.handle.Handle.{Handle}
 use Rattle.body_handles.specs.declared.slot_table.SlotEntry.{SlotEntry}
@@ -21,8 +21,7 @@ use Rattle.solver_sets.specs.declared.census.Item.TheVariants as items
 
 -- the set of a mover
 abbrev pub mover_set : Option Body → Option SetName
-mover_set None = None
-mover_set (Some b) = cond (is_mover b) (Some (standing_of b)) None
+mover_set body = option_and_then (λ (b : Body). cond (is_mover b) (Some (standing_of b)) None) body
 
 -- with the movers, and with the ground where there are none
 abbrev pub set_with : Option SetName → Option SetName → SetName

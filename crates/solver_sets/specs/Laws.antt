@@ -1,5 +1,5 @@
 -- What is known of the ties of any world, and what changes of its bodies, joints and contacts do to them.
-use Rattle.std.specs.Prelude.{◌≡◌, ℕ, ◌<◌, ◌≤◌, true, false, List, [], Option, Some, None, All, Contains, length, slice_set}
+use Rattle.std.specs.Prelude.{◌≡◌, ℕ, ◌<◌, ◌≤◌, true, false, List, [], Option, Some, None, All, Contains, length, slice_set, ◌++◌}
 use Rattle.body_handles.specs.declared.handle.Handle.{Handle}
 use Rattle.body_handles.specs.declared.slot_table.SlotEntry.{SlotEntry}
 use Rattle.body_handles.specs.declared.slot_table.TheConstants.{MAX_SLOTS}
@@ -28,7 +28,7 @@ use Rattle.plain_world.specs.Sleep.{told}
 use Rattle.plain_world.specs.Slots.{AreMatched, body_at, with_body}
 use Rattle.solver_sets.specs.Census.{IsCensus, Standing, census_in, census_of}
 use Rattle.solver_sets.specs.EachOnce.{ListsEachOnce}
-use Rattle.solver_sets.specs.Beside.{neighbours, stirred_by}
+use Rattle.solver_sets.specs.Beside.{stirred_by, joined_to, touched_by}
 use Rattle.solver_sets.specs.BesideByTies.{ShowMoving, stirred_among, ties_among}
 use Rattle.solver_sets.specs.Joining.{handle_at, joined_with, unjoined, unjoined_all}
 use Rattle.solver_sets.specs.Slept.{asleep_only_in}
@@ -172,7 +172,7 @@ TiesOfAMover = (slot : ℕ) (bodies : List (Option Body)) (s : JointSlots) (cont
 
 -- the ties of a body that is no mover have one mover each, which is beside it
 abbrev pub TiesOfNoMover : Type 0
-TiesOfNoMover = (slot : ℕ) (bodies : List (Option Body)) (s : JointSlots) (contacts : List ContactEntry) (m : Member Constraint) → moves bodies slot ≡ false → Contains (ties_at slot bodies s contacts) m → (m.movers.second ≡ None) × Contains (neighbours bodies s.joints contacts slot) m.movers.first
+TiesOfNoMover = (slot : ℕ) (bodies : List (Option Body)) (s : JointSlots) (contacts : List ContactEntry) (m : Member Constraint) → moves bodies slot ≡ false → Contains (ties_at slot bodies s contacts) m → (m.movers.second ≡ None) × Contains (joined_to bodies s.joints slot ++ touched_by bodies contacts slot) m.movers.first
 
 -- the ties of a body are picked of all ties that there are
 abbrev pub TiesArePicked : Type 0

@@ -37,7 +37,7 @@ use Rattle.plain_world.specs.Slots.{item_at}
 use Rattle.world_core_base.specs.Carried.{carried_motion, carried_to}
 use Rattle.world_core_base.specs.Renewal.{renewed_bodies, with_renewed}
 use Rattle.world_core_base.specs.Solving as steps
-use Rattle.world_core_base.specs.Solving.{Moving, Solving, Visits, all_changed, carried_on, begin, bodies_of, bounce, carry, motion_changed, clamp, ends_now, gain, gain_between, left, after_impulse, moving, pass, pull, solve, solved, tick, ticks, row_visit, visit_between, visit_joined, visit_joint, warm, nothing}
+use Rattle.world_core_base.specs.Solving.{Moving, Solving, Visits, all_changed, carried_on, begin, bodies_of, bounce, carry, motion_changed, clamp, ends_now, gain, gain_between, left, after_impulse, moving, pass, pull, solve, solved, tick, ticks, row_visit, visit_between, visit_joined, warm, nothing}
 use Rattle.world_core.proofs.ImpulseBounds.{AreEndsWithin, KeepsWithin, bounce_keeps, solve_keeps, warm_keeps, wider}
 
 -- ---- bodies in a step
@@ -111,7 +111,7 @@ joined_bound k g c f s slot j (Some a) (Some b) keeps h at_a at_b =
       clamp = h.clamp;
     }
 
-joint_bound : (k g c : ℕ) (f : Visits) (s : Solving) (slot : ℕ) (o : Option BodyJoint) → KeepsWithin k f → IsBounded k g c s → IsBounded k g c (visit_joint f s slot o)
+joint_bound : (k g c : ℕ) (f : Visits) (s : Solving) (slot : ℕ) (o : Option BodyJoint) → KeepsWithin k f → IsBounded k g c s → IsBounded k g c (option_map_or (λ (j : BodyJoint). visit_joined f s slot j (item_at s.bodies j.a) (item_at s.bodies j.b)) o s)
 joint_bound k g c f s slot None keeps h = h
 joint_bound k g c f s slot (Some j) keeps h = joined_bound k g c f s slot j (item_at s.bodies j.a) (item_at s.bodies j.b) keeps h refl refl
 

@@ -28,7 +28,7 @@ use Rattle.plain_world.specs.Sleep.{roused, told, told_body, told_by}
 use Rattle.plain_world.specs.Slots.{body_at}
 use Rattle.sleep_wake.specs.Acting.{Acting, IsConsistent}
 use Rattle.sleep_wake.specs.Changes.{begun, after_change, ended, parted, after_changes, united}
-use Rattle.sleep_wake.specs.SleepPhase.{edges_of, is_island, picked_to_split, ready, sleep_phase, split_at, split_picked}
+use Rattle.sleep_wake.specs.SleepPhase.{is_island, picked_to_split, ready, sleep_phase, split_at, split_picked, edges_in}
 use Rattle.sleep_wake.specs.Sleeping.{islands_woken, rested_at, slept_at, split_if_loose}
 use Rattle.sleep_wake.specs.Waking.{movers_woken, put_to_rest, set_woken, woken_at}
 use Rattle.sleep_wake.specs.declared.change.Change.{Change}
@@ -172,7 +172,7 @@ component_in labels now name slot t n edges p inside parts in_name a same b =
 split_in : (s : Acting Constraint) (slot : ℕ) (l : Label) → IsConsistent constraint_number s → label_at s.labels slot ≡ Some l → IsSplitIn s.labels (split_at l.name s).labels slot
 unfolding split_at
 split_in s slot l w e =
-    let edges : Edges = edges_of s l.name in
+    let edges : Edges = edges_in s.labels l.name s.ties in
     let inside : Inside s.labels l.name edges = edges_inside s.labels l.name s.ties w.islands in
     let parts = split_is s.labels l.name edges w.islands.partition inside in
     let own : IsIn s.labels l.name slot = in_of (label_at s.labels slot) l l.name e refl in
@@ -427,8 +427,8 @@ loose_named name (Some l) h = (l, refl, (and_is (l.name == name) (is_loose l.sta
 split_on : (name : ℕ) (s : Acting Constraint) → IsConsistent constraint_number s → is_island true name (label_at s.labels name) ≡ true → SleepOn s.labels (split_at name s).labels
 unfolding split_at
 split_on name s w island t n e =
-    let inside : Inside s.labels name (edges_of s name) = edges_inside s.labels name s.ties w.islands in
-    let parts = split_is s.labels name (edges_of s name) w.islands.partition inside in
+    let inside : Inside s.labels name (edges_in s.labels name s.ties) = edges_inside s.labels name s.ties w.islands in
+    let parts = split_is s.labels name (edges_in s.labels name s.ties) w.islands.partition inside in
     let own = asleep_label (label_at s.labels t) n e in
     let loose = loose_named name (label_at s.labels name) island in
     let clash : (l : Label) → l.state ≡ Asleep → is_loose l.state ≡ true → ⊥ = λ l a b. let no_more : false ≡ true = sym (ap is_loose a) ∙ b in cc in

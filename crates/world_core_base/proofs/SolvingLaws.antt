@@ -5,6 +5,7 @@ use Rattle.std.specs.List.{slice_get, cons_option, filter_map}
 use Rattle.std.proofs.lemmas.List.Elements.{All-head, All-tail, All-weaker}
 use Rattle.std.specs.List.Sorted.{IsStrictlyIncreasing}
 use Rattle.std.proofs.lemmas.Option.{none-some, same_Some, slice_get-map}
+use Rattle.std.specs.Option.{option_map_or}
 use Rattle.fixed_geom.specs.declared.vectors.Vec2.{Vec2}
 use Rattle.momenta.specs.Motions.{speed_clamped}
 use Rattle.momenta.specs.declared.state.BodyState.{BodyState}
@@ -31,7 +32,7 @@ use Rattle.plain_world.specs.Slots.{item_at}
 use Rattle.colour_solver.specs.ConstraintVisits.{contacts_among, joints_among}
 use Rattle.world_core_base.specs.ConstraintRows.{constraint_row, joint_row_in, joint_row_of, with_joint_rows}
 use Rattle.world_core_base.specs.Gather.{row_of, states_of, with_motions, with_rows}
-use Rattle.world_core_base.specs.Solving.{Moving, Solving, Visits, begin, bounce, clamp, ends_now, ends_then, left, pass, pull, solve, solve_order, solved, tick, ticks, row_visit, visit_between, visit_joined, visit_joint, warm, with_contact}
+use Rattle.world_core_base.specs.Solving.{Moving, Solving, Visits, begin, bounce, clamp, ends_now, ends_then, left, pass, pull, solve, solve_order, solved, tick, ticks, row_visit, visit_between, visit_joined, warm, with_contact}
 use Rattle.world_core_base.specs.SolvingArrays.{ArraysAreSolving, IsRunOf}
 use Rattle.world_core_base.proofs.SolvingBack.{IsOther, IsSameBeside, bare, bare_contact, bare_point, rows_back}
 use Rattle.world_core_base.proofs.SolvingContacts.{put_else}
@@ -104,7 +105,7 @@ visit_impulsed f s (constraints.Joint h) order law = by (joint_at s.joints h.slo
     between j (Some a) None = unimpulsed (constraints.Joint h ∷ order) s.contacts
     between j (Some a) (Some b) = unimpulsed (constraints.Joint h ∷ order) s.contacts
 
-    by : (o : Option BodyJoint) → IsImpulsed (constraints.Joint h ∷ order) s.contacts (visit_joint f s h.slot o).contacts
+    by : (o : Option BodyJoint) → IsImpulsed (constraints.Joint h ∷ order) s.contacts (option_map_or (λ (j : BodyJoint). visit_joined f s h.slot j (item_at s.bodies j.a) (item_at s.bodies j.b)) o s).contacts
     by None = unimpulsed (constraints.Joint h ∷ order) s.contacts
     by (Some j) = between j (item_at s.bodies j.a) (item_at s.bodies j.b)
 visit_impulsed f s (constraints.Contact key) order law = by (lookup s.contacts key) (item_at s.bodies key.first.slot) (item_at s.bodies key.second.slot) refl
@@ -159,7 +160,7 @@ visit_joints f s (constraints.Joint h) order law = by (joint_at s.joints h.slot)
     between j (Some a) (Some b) is =
         put_impulsed (constraints.Joint h ∷ order) s.joints h.slot j (record j { joint = (f.joint j.joint (ends_then a b) (ends_now a b)).joint }) is (law j (ends_then a b) (ends_now a b)) (λ other all. All-head (IsAway other) (constraints.Joint h) order all)
 
-    by : (o : Option BodyJoint) → joint_at s.joints h.slot ≡ o → AreImpulsed (constraints.Joint h ∷ order) s.joints (visit_joint f s h.slot o).joints
+    by : (o : Option BodyJoint) → joint_at s.joints h.slot ≡ o → AreImpulsed (constraints.Joint h ∷ order) s.joints (option_map_or (λ (j : BodyJoint). visit_joined f s h.slot j (item_at s.bodies j.a) (item_at s.bodies j.b)) o s).joints
     by None is = none_impulsed (constraints.Joint h ∷ order) s.joints
     by (Some j) is = between j (item_at s.bodies j.a) (item_at s.bodies j.b) is
 

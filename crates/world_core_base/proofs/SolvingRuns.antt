@@ -50,7 +50,7 @@ use Rattle.plain_world.specs.Slots.{item_at}
 use Rattle.world_core_base.specs.Carried.{solver_mass}
 use Rattle.world_core_base.specs.ConstraintRows.{constraint_row, rows_in, rows_of}
 use Rattle.world_core_base.specs.Gather.{bodies_of, state_of, states_of}
-use Rattle.world_core_base.specs.Solving.{Moving, Solving, Visits, all_changed, carried_on, begin, bounce, carry, motion_changed, clamp, gain, gain_between, moving, pass, pull, solve, solve_order, solved, state_with, tick, ticks, row_visit, visit_between, visit_joined, visit_joint, warm, nothing}
+use Rattle.world_core_base.specs.Solving.{Moving, Solving, Visits, all_changed, carried_on, begin, bounce, carry, motion_changed, clamp, gain, gain_between, moving, pass, pull, solve, solve_order, solved, state_with, tick, ticks, row_visit, visit_between, visit_joined, warm, nothing}
 use Rattle.world_core_base.specs.SolvingArrays.{CanSolve, HasEnds}
 use Rattle.world_core_base.proofs.GatherLaws.{carried_state, mass_carried}
 use Rattle.world_core_base.proofs.SolvingJoints.{all_ends_as, bare_joints}
@@ -92,7 +92,7 @@ booked_visit f s (constraints.Joint h) = by (joint_at s.joints h.slot)
     between j (Some a) None = record { gravity = refl; clamp = refl }
     between j (Some a) (Some b) = record { gravity = refl; clamp = refl }
 
-    by : (o : Option BodyJoint) → AreBookedAlike s (visit_joint f s h.slot o)
+    by : (o : Option BodyJoint) → AreBookedAlike s (option_map_or (λ (j : BodyJoint). visit_joined f s h.slot j (item_at s.bodies j.a) (item_at s.bodies j.b)) o s)
     by None = record { gravity = refl; clamp = refl }
     by (Some j) = between j (item_at s.bodies j.a) (item_at s.bodies j.b)
 booked_visit f s (constraints.Contact key) = by (lookup s.contacts key) (item_at s.bodies key.first.slot) (item_at s.bodies key.second.slot)

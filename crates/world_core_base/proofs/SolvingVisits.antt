@@ -5,6 +5,7 @@ use Rattle.std.specs.List.{AllPairs, filter_map, cons_option}
 use Rattle.std.proofs.lemmas.Int.{ints}
 use Rattle.std.proofs.lemmas.List.Elements.{All-head, All-tail}
 use Rattle.std.proofs.lemmas.Option.{none-some, same_Some}
+use Rattle.std.specs.Option.{option_map_or}
 use Rattle.body_handles.specs.declared.handle.Handle.{Handle}
 use Rattle.joint_rows.specs.Rows.{joint_row}
 use Rattle.joint_rows.specs.Joints.{SolvedJoint}
@@ -47,7 +48,7 @@ use Rattle.plain_world.specs.Slots.{body_at, item_at}
 use Rattle.world_core_base.specs.Carried.{solver_motion}
 use Rattle.world_core_base.specs.Gather.{bodies_of, ends_at, row_in, row_of, state_of, states_of}
 use Rattle.world_core_base.specs.ConstraintRows.{constraint_row, joint_bodies, joint_ends, joint_row_in}
-use Rattle.world_core_base.specs.Solving.{Moving, Solving, Visits, ends_now, ends_then, gain_between, given_by_immovable, after_impulse, nothing, pass, gain_sum, put_back, put_joint_back, state_with, row_visit, visit_between, visit_joined, visit_joint, with_contact, with_sum}
+use Rattle.world_core_base.specs.Solving.{Moving, Solving, Visits, ends_now, ends_then, gain_between, given_by_immovable, after_impulse, nothing, pass, gain_sum, put_back, put_joint_back, state_with, row_visit, visit_between, visit_joined, with_contact, with_sum}
 use Rattle.world_core_base.specs.SolvingArrays.{AreOther, HasEnds, JointHasEnds}
 use Rattle.world_core_base.proofs.ContactLaws.{row_bodies, row_is}
 use Rattle.world_core_base.proofs.SolvingJoints.{all_ends_as, bare_joint, bare_joints, bare_put, joint_put_other, joint_put_same}
@@ -123,7 +124,7 @@ stood_visit f s (constraints.Joint h) = by (joint_at s.joints h.slot)
         let t : SolvedJoint = f.joint j.joint (ends_then a b) (ends_now a b) in
         stood_put s.bodies j.a j.b a b (after_impulse t.ends.a a) (after_impulse t.ends.b b) at_a at_b refl refl
 
-    by : (o : Option BodyJoint) → stood (visit_joint f s h.slot o).bodies ≡ stood s.bodies
+    by : (o : Option BodyJoint) → stood (option_map_or (λ (j : BodyJoint). visit_joined f s h.slot j (item_at s.bodies j.a) (item_at s.bodies j.b)) o s).bodies ≡ stood s.bodies
     by None = refl
     by (Some j) = between j (item_at s.bodies j.a) (item_at s.bodies j.b) refl refl
 stood_visit f s (constraints.Contact key) = by (lookup s.contacts key) (item_at s.bodies key.first.slot) (item_at s.bodies key.second.slot) refl refl
@@ -155,7 +156,7 @@ bare_visit f s (constraints.Joint h) law = by (joint_at s.joints h.slot) refl
     between j (Some a) None is = refl
     between j (Some a) (Some b) is = bare_put s.joints h.slot j (record j { joint = (f.joint j.joint (ends_then a b) (ends_now a b)).joint }) is (law j (ends_then a b) (ends_now a b))
 
-    by : (o : Option BodyJoint) → joint_at s.joints h.slot ≡ o → bare_joints (visit_joint f s h.slot o).joints ≡ bare_joints s.joints
+    by : (o : Option BodyJoint) → joint_at s.joints h.slot ≡ o → bare_joints (option_map_or (λ (j : BodyJoint). visit_joined f s h.slot j (item_at s.bodies j.a) (item_at s.bodies j.b)) o s).joints ≡ bare_joints s.joints
     by None is = refl
     by (Some j) is = between j (item_at s.bodies j.a) (item_at s.bodies j.b) is
 
@@ -170,7 +171,7 @@ row_joint_other f states s h (constraints.Joint k) ne = by (joint_at s.joints h.
     between j (Some a) (Some b) =
         ap (λ (o : Option BodyJoint). option_map rows.Joint (joint_row_in states k.slot o)) (joint_put_other s.joints h.slot k.slot (Some (record j { joint = (f.joint j.joint (ends_then a b) (ends_now a b)).joint })) ne)
 
-    by : (o : Option BodyJoint) → constraint_row states (visit_joint f s h.slot o).joints s.contacts (constraints.Joint k) ≡ constraint_row states s.joints s.contacts (constraints.Joint k)
+    by : (o : Option BodyJoint) → constraint_row states (option_map_or (λ (j : BodyJoint). visit_joined f s h.slot j (item_at s.bodies j.a) (item_at s.bodies j.b)) o s).joints s.contacts (constraints.Joint k) ≡ constraint_row states s.joints s.contacts (constraints.Joint k)
     by None = refl
     by (Some j) = between j (item_at s.bodies j.a) (item_at s.bodies j.b)
 row_joint_other f states s h (constraints.Contact key) ne = by (joint_at s.joints h.slot)
@@ -180,7 +181,7 @@ row_joint_other f states s h (constraints.Contact key) ne = by (joint_at s.joint
     between j (Some a) None = refl
     between j (Some a) (Some b) = refl
 
-    by : (o : Option BodyJoint) → constraint_row states (visit_joint f s h.slot o).joints (visit_joint f s h.slot o).contacts (constraints.Contact key) ≡ constraint_row states s.joints s.contacts (constraints.Contact key)
+    by : (o : Option BodyJoint) → constraint_row states (option_map_or (λ (j : BodyJoint). visit_joined f s h.slot j (item_at s.bodies j.a) (item_at s.bodies j.b)) o s).joints (option_map_or (λ (j : BodyJoint). visit_joined f s h.slot j (item_at s.bodies j.a) (item_at s.bodies j.b)) o s).contacts (constraints.Contact key) ≡ constraint_row states s.joints s.contacts (constraints.Contact key)
     by None = refl
     by (Some j) = between j (item_at s.bodies j.a) (item_at s.bodies j.b)
 
@@ -355,7 +356,7 @@ joined_by f k g s h j a b law is at_a at_b =
     }
 
 visited_joint : (f : Visits) (k : JointRow → Ends → JointAfter) (g : ContactRow → Ends → RowAfter ContactRow) (s : Solving) (h : Handle) (j : BodyJoint) → IsVisitAlike f k g → joint_at s.joints h.slot ≡ Some j → JointHasEnds (stood s.bodies) (Some j)
-    → IsVisited (either_visit k g) (states_of (stood s.bodies)) (map held s.bodies) s.sums.immovable (visit_joint f s h.slot (Some j)) (constraints.Joint h) (rows.Joint (made_of (states_of (stood s.bodies)) h.slot j))
+    → IsVisited (either_visit k g) (states_of (stood s.bodies)) (map held s.bodies) s.sums.immovable (option_map_or (λ (j : BodyJoint). visit_joined f s h.slot j (item_at s.bodies j.a) (item_at s.bodies j.b)) (Some j) s) (constraints.Joint h) (rows.Joint (made_of (states_of (stood s.bodies)) h.slot j))
 visited_joint f k g s h j law is there =
     by (item_at s.bodies j.a) (item_at s.bodies j.b) refl refl (ap is_some (sym (body_there s.bodies j.a)) ∙ there.0) (ap is_some (sym (body_there s.bodies j.b)) ∙ there.1)
   where
@@ -371,10 +372,10 @@ visited : (f : Visits) (k : JointRow → Ends → JointAfter) (g : ContactRow �
 visited f k g s (constraints.Joint h) r law there is = by (joint_at s.joints h.slot) refl there is
   where
     by : (o : Option BodyJoint) → joint_at s.joints h.slot ≡ o → JointHasEnds (stood s.bodies) o → option_map rows.Joint (joint_row_in (states_of (stood s.bodies)) h.slot o) ≡ Some r
-        → IsVisited (either_visit k g) (states_of (stood s.bodies)) (map held s.bodies) s.sums.immovable (visit_joint f s h.slot o) (constraints.Joint h) r
+        → IsVisited (either_visit k g) (states_of (stood s.bodies)) (map held s.bodies) s.sums.immovable (option_map_or (λ (j : BodyJoint). visit_joined f s h.slot j (item_at s.bodies j.a) (item_at s.bodies j.b)) o s) (constraints.Joint h) r
     by None at there is = absurd (none-some r is)
     by (Some j) at there is =
-        subst (λ (q : ConstraintRow). IsVisited (either_visit k g) (states_of (stood s.bodies)) (map held s.bodies) s.sums.immovable (visit_joint f s h.slot (Some j)) (constraints.Joint h) q)
+        subst (λ (q : ConstraintRow). IsVisited (either_visit k g) (states_of (stood s.bodies)) (map held s.bodies) s.sums.immovable (option_map_or (λ (j : BodyJoint). visit_joined f s h.slot j (item_at s.bodies j.a) (item_at s.bodies j.b)) (Some j) s) (constraints.Joint h) q)
         (same_Some (rows.Joint (made_of (states_of (stood s.bodies)) h.slot j)) r is) (visited_joint f k g s h j law at there)
 visited f k g s (constraints.Contact key) r law there is = by (row_of (states_of (stood s.bodies)) s.contacts (constraints.Contact key)) refl is
   where
@@ -412,7 +413,7 @@ idle_contact f k g states s key law is =
 idle_visit : (f : Visits) (k : JointRow → Ends → JointAfter) (g : ContactRow → Ends → RowAfter ContactRow) (states : List BodyState) (s : Solving) (id : Constraint) → IsVisitAlike f k g → constraint_row states s.joints s.contacts id ≡ None → row_visit f s id ≡ s
 idle_visit f k g states s (constraints.Joint h) law is = by (joint_at s.joints h.slot) is
   where
-    by : (o : Option BodyJoint) → option_map rows.Joint (joint_row_in states h.slot o) ≡ None → visit_joint f s h.slot o ≡ s
+    by : (o : Option BodyJoint) → option_map rows.Joint (joint_row_in states h.slot o) ≡ None → option_map_or (λ (j : BodyJoint). visit_joined f s h.slot j (item_at s.bodies j.a) (item_at s.bodies j.b)) o s ≡ s
     by None is = refl
     by (Some j) is = absurd (none-some (rows.Joint (joint_row (joint_bodies h.slot j) (joint_ends states j) j.joint)) (sym is))
 idle_visit f k g states s (constraints.Contact key) law is = by (row_of states s.contacts (constraints.Contact key)) refl is

@@ -117,10 +117,9 @@ with_sum g sums = record sums { immovable = gain_sum sums.immovable g }
 
 -- the joint in a slot and its two bodies put back, and what an immovable one gave booked
 abbrev pub put_joint_back : ℕ → BodyJoint → Moving → Moving → SolvedJoint → Solving → Solving
-put_joint_back slot j a b solved s = record {
+put_joint_back slot j a b solved s = record s {
   bodies = slice_set (slice_set s.bodies j.a (Some (after_impulse solved.ends.a a))) j.b (Some (after_impulse solved.ends.b b));
   joints = slice_set s.joints slot (Some (record j { joint = solved.joint }));
-  contacts = s.contacts;
   sums = with_sum (given_by_immovable (ends_now a b) solved.ends) s.sums;
 }
 
@@ -130,14 +129,10 @@ visit_joined f s slot j None b = s
 visit_joined f s slot j (Some a) None = s
 visit_joined f s slot j (Some a) (Some b) = put_joint_back slot j a b (f.joint j.joint (ends_then a b) (ends_now a b)) s
 
-abbrev pub visit_joint : Visits → Solving → ℕ → Option BodyJoint → Solving
-visit_joint f s slot joint = option_map_or (λ (j : BodyJoint). visit_joined f s slot j (item_at s.bodies j.a) (item_at s.bodies j.b)) joint s
-
 -- the contact and its two bodies put back, and what an immovable one gave booked
 abbrev pub put_back : ContactKey → Moving → Moving → SolvedContact → Solving → Solving
-put_back key a b solved s = record {
+put_back key a b solved s = record s {
   bodies = slice_set (slice_set s.bodies key.first.slot (Some (after_impulse solved.ends.a a))) key.second.slot (Some (after_impulse solved.ends.b b));
-  joints = s.joints;
   contacts = with_contact key solved.contact s.contacts;
   sums = with_sum (given_by_immovable (ends_now a b) solved.ends) s.sums;
 }
@@ -151,7 +146,7 @@ visit_between f s key (Some e) (Some a) (Some b) = put_back key a b (f.contact e
 
 -- the visit of a constraint
 abbrev pub row_visit : Visits → Solving → Constraint → Solving
-row_visit f s (constraints.Joint h) = visit_joint f s h.slot (joint_at s.joints h.slot)
+row_visit f s (constraints.Joint h) = option_map_or (λ (j : BodyJoint). visit_joined f s h.slot j (item_at s.bodies j.a) (item_at s.bodies j.b)) (joint_at s.joints h.slot) s
 row_visit f s (constraints.Contact key) = visit_between f s key (lookup s.contacts key) (item_at s.bodies key.first.slot) (item_at s.bodies key.second.slot)
 
 -- ---- passes

@@ -1,5 +1,5 @@
 -- The ties of a body can end once those were woken whom its change wakes.
-use Rattle.std.proofs.Common.{◌≡◌, ℕ, Bool, true, false, List, [], ◌∷◌, Option, Some, None, is_some, refl, sym, ap, ◌∙◌, subst, arith}
+use Rattle.std.proofs.Common.{◌≡◌, ℕ, Bool, true, false, List, [], ◌∷◌, Option, Some, None, is_some, refl, sym, ap, ◌∙◌, subst, arith, ◌++◌}
 use Rattle.std.specs.Prelude.{Contains, filter}
 use Rattle.std.specs.List.{filter_map}
 use Rattle.std.proofs.lemmas.Bool.{false≢true}
@@ -13,7 +13,7 @@ use Rattle.plain_world.specs.Plain.{Plain}
 use Rattle.plain_world.specs.Slots.{body_at}
 use Rattle.sleep_wake.specs.Acting.{are_awake, is_mover_awake}
 use Rattle.sleep_wake.specs.ChangeLists.{CanEnd}
-use Rattle.solver_sets.specs.Beside.{neighbours, stirred_by, stirred_if}
+use Rattle.solver_sets.specs.Beside.{stirred_by, stirred_if, joined_to, touched_by}
 use Rattle.solver_sets.specs.Alike.{AreAlike, AreJointSlots}
 use Rattle.plain_world.specs.Bodies.{is_mover_in, moves}
 use Rattle.solver_sets.specs.Ties.{Bond, JointSlots, bonds_of, is_bond_of, is_enabled, is_enabled_in, tie_of, ties_at, ties_of}
@@ -52,11 +52,11 @@ stirs_others (Some b) slot beside h on = rw (h, on) refl
 
 stirred_itself : (w : Plain) (slot : ℕ) → moves w.bodies slot ≡ true → stirred_by w.bodies w.joints w.contacts slot ≡ slot ∷ []
 unfolding stirred_by
-stirred_itself w slot h = stirs_itself (body_at w.bodies slot) slot (neighbours w.bodies w.joints w.contacts slot) h
+stirred_itself w slot h = stirs_itself (body_at w.bodies slot) slot (joined_to w.bodies w.joints slot ++ touched_by w.bodies w.contacts slot) h
 
-stirred_others : (w : Plain) (slot : ℕ) → moves w.bodies slot ≡ false → is_enabled w.bodies slot ≡ true → stirred_by w.bodies w.joints w.contacts slot ≡ neighbours w.bodies w.joints w.contacts slot
+stirred_others : (w : Plain) (slot : ℕ) → moves w.bodies slot ≡ false → is_enabled w.bodies slot ≡ true → stirred_by w.bodies w.joints w.contacts slot ≡ joined_to w.bodies w.joints slot ++ touched_by w.bodies w.contacts slot
 unfolding stirred_by
-stirred_others w slot h on = stirs_others (body_at w.bodies slot) slot (neighbours w.bodies w.joints w.contacts slot) h on
+stirred_others w slot h on = stirs_others (body_at w.bodies slot) slot (joined_to w.bodies w.joints slot ++ touched_by w.bodies w.contacts slot) h on
 
 -- a mover that is stirred is awake
 pub mover_up : (w : World) (slot : ℕ) → IsKept w → moves w.plain.bodies slot ≡ true → is_mover_awake (stirred w.plain slot).islands slot ≡ true

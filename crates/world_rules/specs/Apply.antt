@@ -118,15 +118,16 @@ apply_create w d = unless_refused (def_refusal d) (need (nat_lt (lowest w.slot_e
 
 -- ---- DestroyBody
 
+abbrev pub with_joints : JointSlots → Plain → Plain
+with_joints joints w = record w { joint_entries = joints.slot_entries; joints = joints.joints }
+
 -- the lists without a body, its joints and its contacts
 abbrev pub without_body : Handle → JointSlots → Plain → Plain
-without_body h joints w = record w {
+without_body h joints w = with_joints joints (record w {
   slot_entries = slot_entries_without w.slot_entries h;
   bodies = slice_set w.bodies h.slot None;
-  joint_entries = joints.slot_entries;
-  joints = joints.joints;
   contacts = contacts_without h.slot w.contacts;
-}
+})
 
 -- the body goes with its joints and its contacts
 abbrev pub body_destroyed : Handle → Bool → Plain → Plain
@@ -143,9 +144,6 @@ abbrev pub apply_destroy : Plain → Handle → Result Applied Refusal
 apply_destroy w h = where_named (body_named w h) (λ b. Ok (destroyed w h b))
 
 -- ---- CreateJoint and DestroyJoint
-
-abbrev pub with_joints : JointSlots → Plain → Plain
-with_joints joints w = record w { joint_entries = joints.slot_entries; joints = joints.joints }
 
 -- the first reason why two bodies can't be joined
 abbrev pub join_refusal : Option Body → Option Body → JointDef → Option Refusal
