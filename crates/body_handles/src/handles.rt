@@ -56,7 +56,8 @@ impl Handles {
         Ok(())
     }
 
-    /// Gives out the lowest slot that is free and not worn out. Refused as `TooMany` where there is none below `MAX_SLOTS`.
+    /// Gives out the lowest slot that is free and not worn out. Refused as `TooMany` where there is none below
+    /// `MAX_SLOTS`.
     pub fn insert(&mut self) -> Result<Handle, Refusal>
         requires { 1 ≤ self.old.room }
         ensures slot { IfOk result (λ h. h.slot ≡ lowest self.old.slot_entries) }

@@ -83,8 +83,8 @@ pub(crate) fn take_back(slot_entries: &mut Vec<SlotEntry>, handle: Handle)
     entry.live = false;
 }
 
-/// The law of the limits: the numbers that definitions take from the code, in digits. The function does nothing; its contract is
-/// the law.
+/// The law of the limits: the numbers that definitions take from the code, in digits. The function does nothing; its
+/// contract is the law.
 pub fn limits_in_digits()
     ensures slots { MAX_SLOTS ≡ 65536 }
     ensures worn_out { WORN_OUT ≡ 4294967295 }

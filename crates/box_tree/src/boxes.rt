@@ -114,8 +114,8 @@ impl BoxTree {
         );
     }
 
-    /// Gives a key that has a box another one. It takes no memory. The tree stays as it is where the new box lies within the
-    /// loose one, and keeps its form where the new box is near.
+    /// Gives a key that has a box another one. It takes no memory. The tree stays as it is where the new box lies
+    /// within the loose one, and keeps its form where the new box is near.
     pub fn replace(&mut self, key: u32, bounds: &Box2)
         requires { is_some (box_at self.old key) ≡ true }
         ensures { self.new ≡ slice_set self.old key (Some bounds.now) }
@@ -142,8 +142,8 @@ impl BoxTree {
         Ok(index::overlapping(&self.root, &self.entries, &self.boxes, wanted, alloc)?)
     }
 
-    /// The ray's nearest hit over all keys that have a box, of two as near that of the lesser key. A key is hit only where
-    /// the ray reaches its box, so that a walk may leave out what it doesn't reach. It takes no memory.
+    /// The ray's nearest hit over all keys that have a box, of two as near that of the lesser key. A key is hit only
+    /// where the ray reaches its box, so that a walk may leave out what it doesn't reach. It takes no memory.
     pub fn first_on_ray<R: Ray>(&self, ray: &R) -> Option<Hit>
         requires { AreHitsWithin (R.reaches ray.now) (R.hit ray.now) self.now }
         ensures { result ≡ first_hit (R.hit ray.now) 0 self.now None }
@@ -155,9 +155,9 @@ impl BoxTree {
         roots::first_hit(&self.root, &among)
     }
 
-    /// How many nodes stand on the longest way from the root to a leaf: what a walk costs. Box2D's 'b2DynamicTree_GetHeight'
-    /// counts the forks of that way alone. It is 0 only where no key has a box. A tree so deep has at least the boxes of a
-    /// balanced one, so that the depth grows with the logarithm of their number.
+    /// How many nodes stand on the longest way from the root to a leaf: what a walk costs. Box2D's
+    /// 'b2DynamicTree_GetHeight' counts the forks of that way alone. It is 0 only where no key has a box. A tree so
+    /// deep has at least the boxes of a balanced one, so that the depth grows with the logarithm of their number.
     pub fn depth(&self) -> u64
         ensures few { result ≤ 28 }
         ensures none { result ≡ 0 → boxed self.now ≡ 0 }

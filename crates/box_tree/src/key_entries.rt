@@ -61,8 +61,8 @@ fn spread(bits: u64) -> u64 {
     (bits | (bits << 1)) & 0x5555555555555555
 }
 
-// A number that ends in the key, and begins alike for boxes that are close (G. M. Morton, 'A computer oriented geodetic data
-// base', 1966), by cells of 2^18 u. How it begins decides the time alone.
+// A number that ends in the key, and begins alike for boxes that are close (G. M. Morton, 'A computer oriented geodetic
+// data base', 1966), by cells of 2^18 u. How it begins decides the time alone.
 fn rank_of(key: u32, bounds: &Box2) -> u64
     requires { key < MAX_KEYS }
     ensures { result % MAX_KEYS ≡ key }
@@ -85,16 +85,16 @@ pub(crate) fn key_entry_for(key: u32, bounds: &Box2) -> KeyEntry
     }
 }
 
-// Ranks that are the same from this bit on are of boxes whose corners lie in the same cell of 2^24 u. Where a cell is this
-// wide, most moves keep a rank, and a walk meets only a few boxes more than if all ranks were new.
+// Ranks that are the same from this bit on are of boxes whose corners lie in the same cell of 2^24 u. Where a cell is
+// this wide, most moves keep a rank, and a walk meets only a few boxes more than if all ranks were new.
 const CELL: u32 = 31;
 
 fn are_near(a: u64, b: u64) -> bool {
     a >> CELL == b >> CELL
 }
 
-/// An entry for a key that had another and has this box now. It keeps its rank while its corner stays in one cell, so that
-/// its leaf stays where it is in the tree.
+/// An entry for a key that had another and has this box now. It keeps its rank while its corner stays in one cell, so
+/// that its leaf stays where it is in the tree.
 pub(crate) fn key_entry_after(key: u32, old: &KeyEntry, bounds: &Box2) -> KeyEntry
     requires room { key < MAX_KEYS }
     requires old { old.now.rank % MAX_KEYS ≡ key }
@@ -112,8 +112,8 @@ pub(crate) fn key_entry_after(key: u32, old: &KeyEntry, bounds: &Box2) -> KeyEnt
     }
 }
 
-/// The law of the limits: the numbers that definitions take from the code, in digits. The function does nothing; its contract is
-/// the law.
+/// The law of the limits: the numbers that definitions take from the code, in digits. The function does nothing; its
+/// contract is the law.
 pub fn limits_in_digits()
     ensures keys { MAX_KEYS ≡ 524288 }
 {}

@@ -5,12 +5,12 @@
 //!
 //! # How it is kept
 //!
-//! Box2D's dynamic tree ('b2DynamicTree') gave the idea: a binary tree of boxes, with a leaf for each box, where the leaf
-//! has a loose box so that small moves leave the tree as it is. Its leaves stand in no order; here they stand in the order of
-//! a Morton code of the box's corner, so that one way down finds the leaf of a known rank. The tree is balanced as
-//! Adelson-Velsky and Landis do it. A table gives the rank by key, with which `remove` and `replace` cost by the
-//! logarithm. A box that moves a short way keeps its rank: its leaf stays where it is, and the boxes above it follow. A ray
-//! that meets a leaf's loose box asks the key's own box before it looks for its hit.
+//! Box2D's dynamic tree ('b2DynamicTree') gave the idea: a binary tree of boxes, with a leaf for each box, where the
+//! leaf has a loose box so that small moves leave the tree as it is. Its leaves stand in no order; here they stand in
+//! the order of a Morton code of the box's corner, so that one way down finds the leaf of a known rank. The tree is
+//! balanced as Adelson-Velsky and Landis do it. A table gives the rank by key, with which `remove` and `replace` cost
+//! by the logarithm. A box that moves a short way keeps its rank: its leaf stays where it is, and the boxes above it
+//! follow. A ray that meets a leaf's loose box asks the key's own box before it looks for its hit.
 #![tactic(auto)]
 
 mod boxes;

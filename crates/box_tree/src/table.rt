@@ -87,7 +87,8 @@ pub(crate) fn replace(
     entries[key as usize] = Some(*new);
 }
 
-/// The keys whose loose boxes overlap the wanted one, ascending. The tree alone is read; its contract tells of the entries.
+/// The keys whose loose boxes overlap the wanted one, ascending. The tree alone is read; its contract tells of the
+/// entries.
 pub(crate) fn overlapping(
     root: &[Tree],
     _entries: &[Option<KeyEntry>],

@@ -1,4 +1,5 @@
--- A tree may cross threads, and be shared by them. A type that holds itself is shown to by a layer of it over any parts that do.
+-- A tree may cross threads, and be shared by them. A type that holds itself is shown to by a layer of it over any parts
+-- that do.
 use denote.RattleType.{RattleType}
 use denote.Struct.Field.{Field, row_field}
 use denote.Hole.{as_row}

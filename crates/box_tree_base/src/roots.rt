@@ -1,5 +1,5 @@
-//! A tree that may be empty: a list of at most one. A list is dropped by one call, where a tree that stands in a type is
-//! dropped in place by whoever drops the type.
+//! A tree that may be empty: a list of at most one. A list is dropped by one call, where a tree that stands in a type
+//! is dropped in place by whoever drops the type.
 
 ghost use Rattle.std.specs.Prelude.{◌≡◌, ℕ, ◌+◌, ◌^◌, ◌<◌, ◌≤◌, length, List, OnOk, OnErr, IfOk, None};
 ghost use Rattle.box_tree_base.specs.Lists.{Each, IsIn, IsAdded};
@@ -46,8 +46,8 @@ pub fn remove(root: &mut Vec<Tree>, leaf: &Leaf)
     }
 }
 
-/// Takes out a leaf that is there, and puts another in. It takes no memory: the new leaf stands in the boxes of the old. With
-/// the old one's rank it stands in its place, and the tree keeps its form.
+/// Takes out a leaf that is there, and puts another in. It takes no memory: the new leaf stands in the boxes of the
+/// old. With the old one's rank it stands in its place, and the tree keeps its form.
 pub fn replace(root: &mut Vec<Tree>, old: &Leaf, new: &Leaf)
     requires there { IsIn old.now (leaves_of root.old.items) }
     requires few { length (leaves_of root.old.items) < 2 ^ 32 }

@@ -13,8 +13,8 @@ use std::alloc::{AllocError, Global};
 use std::marker::Model;
 use std::mem;
 
-/// What a fork keeps of the leaves below it: those on its left have ranks below the split, those on its right from it on. A box
-/// round each side stands here and not below, so that a walk that passes a side over reads nothing of it.
+/// What a fork keeps of the leaves below it: those on its left have ranks below the split, those on its right from it
+/// on. A box round each side stands here and not below, so that a walk that passes a side over reads nothing of it.
 #[derive(Clone, Copy)]
 pub(crate) struct Stem {
     pub split: u64,

@@ -33,8 +33,8 @@ impl Tree {
         Ok(())
     }
 
-    /// Puts the nearest of the best hit so far and the ray's hits on the keys of all leaves in the best one's place. A key is
-    /// hit only where the ray reaches its box.
+    /// Puts the nearest of the best hit so far and the ray's hits on the keys of all leaves in the best one's place. A
+    /// key is hit only where the ray reaches its box.
     pub fn first_hit<R: Ray>(&self, ray: &R, best: &mut Option<Hit>)
         requires { Each (IsHitWithin (R.reaches ray.now) (R.hit ray.now)) self.now.leaves }
         ensures { best.new ≡ first_among (R.hit ray.now) self.now.leaves best.old }

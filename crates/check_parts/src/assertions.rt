@@ -1,5 +1,5 @@
-//! What the tests assert. Each form is written, and proved, once: an `assert_eq!` of its own in each test is proved anew, with the comparison and
-//! the text of its values.
+//! What the tests assert. Each form is written, and proved, once: an `assert_eq!` of its own in each test is proved
+//! anew, with the comparison and the text of its values.
 
 use std::fmt::Debug;
 use std::process::Abort;

@@ -222,8 +222,8 @@ fn lifted(alloc: Global, y: i64) -> Result<Changes, Refusal> {
     collide(alloc, &resting(alloc)?, &mut lying_at(alloc, y)?)
 }
 
-/// What comes of a lift: how many contacts were made, are gone, begin and end, whether the capsule's contact is the only one of these, and the
-/// contact that is there then.
+/// What comes of a lift: how many contacts were made, are gone, begin and end, whether the capsule's contact is the
+/// only one of these, and the contact that is there then.
 fn told(alloc: Global, y: i64) -> Result<([usize; 4], bool, Option<ContactEntry>), Refusal> {
     let changes = lifted(alloc, y)?;
     Ok((
@@ -238,7 +238,8 @@ fn are_of_capsule(changes: &Changes) -> bool {
     changes.gone.iter().all(|key| *key == KEY) && changes.end.iter().all(|key| *key == KEY)
 }
 
-/// A capsule that is lifted by one parts from its floor, one far above is gone, and one that stays keeps its impulses with their candidates.
+/// A capsule that is lifted by one parts from its floor, one far above is gone, and one that stays keeps its impulses
+/// with their candidates.
 #[test]
 fn a_capsule_is_lifted(rt: HostRuntime) {
     let first = point(2, -50_000, 5, 1);

@@ -110,7 +110,8 @@ fn slots_of(alloc: Global, shapes: &[Proxy]) -> Result<Vec<u32>, Refusal>
     Ok(slots)
 }
 
-/// A collide of these shapes with all slots marked, carried out; the bodies of the forbidden pair pass through one another.
+/// A collide of these shapes with all slots marked, carried out; the bodies of the forbidden pair pass through one
+/// another.
 fn collide(
     alloc: Global,
     contacts: &mut ContactTable,
@@ -149,8 +150,8 @@ fn lifted_in_a_copy(alloc: Global, contacts: &ContactTable) -> Result<[usize; 3]
     laid_at(alloc, &mut copied, 1_000_000)
 }
 
-/// What there is of a capsule that is laid down, lifted by one, lifted far in a copy, and laid down again, and how many contacts are left
-/// without its body.
+/// What there is of a capsule that is laid down, lifted by one, lifted far in a copy, and laid down again, and how many
+/// contacts are left without its body.
 fn kept_in(alloc: Global, contacts: &mut ContactTable) -> Result<([[usize; 3]; 4], usize), Refusal>
     requires { ArePairs contacts.old.contacts }
 {
@@ -242,7 +243,8 @@ fn drop_body(contacts: &mut ContactTable, slot: u32)
     contacts.drop_of_body(slot);
 }
 
-/// The numbers once three balls lie, once the first is lifted, once the fourth comes down, and once it goes as the first comes down again.
+/// The numbers once three balls lie, once the first is lifted, once the fourth comes down, and once it goes as the
+/// first comes down again.
 fn come_and_go(alloc: Global) -> Result<[Numbers; 4], Refusal> {
     let mut contacts = ContactTable::new(alloc);
     let three = put_at(alloc, &mut contacts, &[DOWN, DOWN, DOWN, UP])?;
@@ -273,7 +275,8 @@ fn without_one(alloc: Global) -> Result<ContactTable, Refusal>
     Ok(contacts)
 }
 
-/// The numbers of the contacts, whether they are one list, how many the last change made and ended, and below which number all are.
+/// The numbers of the contacts, whether they are one list, how many the last change made and ended, and below which
+/// number all are.
 fn shown(contacts: &ContactTable) -> (Numbers, bool, [usize; 3]) {
     let counts = [
         contacts.made().len(),
@@ -283,7 +286,8 @@ fn shown(contacts: &ContactTable) -> (Numbers, bool, [usize; 3]) {
     (numbers(contacts), contacts.as_one().is_some(), counts)
 }
 
-/// What is shown once a body's contacts are dropped, once a sweep has made the lists one, and once nothing was carried out.
+/// What is shown once a body's contacts are dropped, once a sweep has made the lists one, and once nothing was carried
+/// out.
 fn swept(alloc: Global) -> Result<[(Numbers, bool, [usize; 3]); 3], Refusal> {
     let mut contacts = without_one(alloc)?;
     let dropped = shown(&contacts);
@@ -301,7 +305,8 @@ fn numbers_stay_over_a_drop_a_sweep_and_a_commit(rt: HostRuntime) {
     same(&rt, &swept(rt.alloc()), &Ok(told));
 }
 
-/// The numbers of the contacts that have the body in a slot on one side, ascending: of eight at most, which are more than there are.
+/// The numbers of the contacts that have the body in a slot on one side, ascending: of eight at most, which are more
+/// than there are.
 fn thread(
     alloc: Global,
     contacts: &ContactTable,

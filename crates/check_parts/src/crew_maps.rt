@@ -87,8 +87,8 @@ impl Gate for Holding<'_> {
     }
 }
 
-/// Holds each piece until all pieces of its map have entered. Notes which pieces have entered, and how many waited too long or were of another
-/// number of pieces than is due.
+/// Holds each piece until all pieces of its map have entered. Notes which pieces have entered, and how many waited too
+/// long or were of another number of pieces than is due.
 #[derive(Drop)]
 struct Gathering {
     due: u64,

@@ -133,7 +133,8 @@ fn solved_apart() -> JointAfter {
     JointAfter { row, ends }
 }
 
-/// A stretched joint pulls its bodies together, and a pressed one pushes them apart. The error grows as the centres part.
+/// A stretched joint pulls its bodies together, and a pressed one pushes them apart. The error grows as the centres
+/// part.
 #[test]
 fn joints_act_on_both_bodies(rt: HostRuntime) {
     let still = two_movers(ORIGIN, ORIGIN);
@@ -272,7 +273,8 @@ fn beside_the_centre(ends: &Ends) -> JointRow
     row_of(off, ends)
 }
 
-/// Between the centres a pass changes the momenta alone. Great momenta have none, and no joint that holds another point.
+/// Between the centres a pass changes the momenta alone. Great momenta have none, and no joint that holds another
+/// point.
 #[test]
 fn a_pass_between_centres_is_the_pass(rt: HostRuntime) {
     let ends = two_movers(ORIGIN, ORIGIN);

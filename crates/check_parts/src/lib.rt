@@ -1,5 +1,5 @@
-//! Tests of the crates below the world, by their public calls: values worked by hand, and each call that takes memory where there is enough
-//! of it. They stand in a crate of their own because a crate with tests is proved twice.
+//! Tests of the crates below the world, by their public calls: values worked by hand, and each call that takes memory
+//! where there is enough of it. They stand in a crate of their own because a crate with tests is proved twice.
 #![tactic(auto)]
 
 #[cfg(test)]

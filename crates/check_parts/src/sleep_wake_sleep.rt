@@ -58,7 +58,7 @@ struct Told {
     sets: Sets<Joint>,
 }
 
-/// What these sets have to tell. Refused 1 where memory is wanting.
+/// What these sets have to tell.
 fn told_by(sets: &Sets<Joint>, alloc: Global) -> Result<Told, Refusal>
     ensures ties { IfOk result (λ told. told.ties.items ≡ sets.now.acting.ties) }
     ensures sets { IfOk result (λ told. told.sets.acting ≡ sets.now.acting) }

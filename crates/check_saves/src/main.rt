@@ -1,9 +1,10 @@
 //! Reads saved worlds and parts of them, one a line, and writes each again.
 //!
-//! A line is the version's number, a tab, the part's word or `world`, a tab and the value. What is told of it is the value that was written, or the
-//! number of the first clause that was found broken. The word `text` stands for a world whose text is written with no value between. The word `quick`
-//! stands for one whose text is read with no value of it: what is told then is how much it has. The word `slots` stands for the same of a world that
-//! has nothing but as many free slots of bodies and of joints as the value says.
+//! A line is the version's number, a tab, the part's word or `world`, a tab and the value. What is told of it is the
+//! value that was written, or the number of the first clause that was found broken. The word `text` stands for a world
+//! whose text is written with no value between. The word `quick` stands for one whose text is read with no value of it:
+//! what is told then is how much it has. The word `slots` stands for the same of a world that has nothing but as many
+//! free slots of bodies and of joints as the value says.
 #![tactic(auto)]
 
 mod saved_parts;

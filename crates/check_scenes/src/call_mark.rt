@@ -4,7 +4,8 @@ use std::alloc::Global;
 use std::fmt::Write;
 use world_core::Refusal;
 
-/// By a request for so many bytes the library that refuses memory knows that the call begins, and by the next size that it has ended.
+/// By a request for so many bytes the library that refuses memory knows that the call begins, and by the next size that
+/// it has ended.
 const BEGIN: usize = 1_234_567;
 
 /// A short text with so much room. It is written by `write!`, so that no compiler does without it.

@@ -1,7 +1,7 @@
 //! Commands from a text.
 //!
-//! A line is a command: a word and whole numbers, of which those that are left out are 0. Bodies and joints are named by their slots, and are the
-//! first of them.
+//! A line is a command: a word and whole numbers, of which those that are left out are 0. Bodies and joints are named
+//! by their slots, and are the first of them.
 //!
 //! | Line | Command |
 //! |---|---|

@@ -1,7 +1,8 @@
-//! What the programs that check worlds have in common: a world by the calls that are made of it, what worlds are made of, worlds as text, the marks
-//! between which a call may be refused memory, a program's words, and why it ends early.
+//! What the programs that check worlds have in common: a world by the calls that are made of it, what worlds are made
+//! of, worlds as text, the marks between which a call may be refused memory, a program's words, and why it ends early.
 //!
-//! What a world is made of is a list of commands. So no scene names a world, and one function makes the worlds of a program.
+//! What a world is made of is a list of commands. So no scene names a world, and one function makes the worlds of a
+//! program.
 #![tactic(auto)]
 
 mod call_mark;

@@ -17,7 +17,8 @@ const MASS: MassData = MassData {
 
 const RADIUS: i64 = 32_768;
 
-/// How far the centres of neighbours in a pile are from each other, in u. It is less than two radii, so that they touch at once.
+/// How far the centres of neighbours in a pile are from each other, in u. It is less than two radii, so that they touch
+/// at once.
 const APART: i64 = 60_000;
 
 /// How high the centres of the lowest row lie over the floor, in u.

@@ -75,7 +75,7 @@ fn write_ledger(text: &mut String, ledger: &Ledger) -> Result<(), Refusal> {
     Ok(())
 }
 
-/// All of a world: its plain lists, its events, its totals and its entries. Refused 1 where memory is wanting.
+/// All of a world: its plain lists, its events, its totals and its entries.
 pub fn text_of<W: World>(alloc: Global, world: &W) -> Result<String, Refusal> {
     let mut text = String::new(alloc);
     match world.lists() {

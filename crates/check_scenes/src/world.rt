@@ -1,5 +1,5 @@
-//! A world by the calls that are made of it, in methods that promise nothing. The checks are generic over it, so that no proof of theirs has to read what a
-//! world promises or keeps, and none of them drops one part by part.
+//! A world by the calls that are made of it, in methods that promise nothing. The checks are generic over it, so that
+//! no proof of theirs has to read what a world promises or keeps, and none of them drops one part by part.
 
 use std::alloc::Global;
 use world_core::{Command, Events, Frame, Ledger, Plain, Refusal, Reply, Vec2, WorldCore};

@@ -19,7 +19,8 @@ fn filled_by<W: World>(world: &mut W, commands: &[Command]) -> Result<W, Refusal
     world.copied()
 }
 
-/// A world in which commands were made. It is a copy, whose lists have no spare room, so that whatever grows asks for memory.
+/// A world in which commands were made. It is a copy, whose lists have no spare room, so that whatever grows asks for
+/// memory.
 pub fn world_after<W: World>(alloc: Global, commands: &[Command]) -> Result<W, Refusal> {
     match W::empty(alloc, NO_GRAVITY) {
         Ok(mut world) => filled_by(&mut world, commands),

@@ -1,5 +1,5 @@
-//! Tests of the program's words and of its engine, by their public calls: what it tells of lines and refusals, and readers and writers that fail.
-//! They stand in a crate of their own because a crate with tests is proved twice.
+//! Tests of the program's words and of its engine, by their public calls: what it tells of lines and refusals, and
+//! readers and writers that fail. They stand in a crate of their own because a crate with tests is proved twice.
 #![tactic(auto)]
 
 #[cfg(test)]

@@ -1,8 +1,9 @@
 //! Worlds that seats share.
 //!
-//! With no further word seats take turns, and 1, 2 and 64 threads call at once. `stress ROUNDS` lets 16 threads make mixed calls, and prints after each
-//! round the shared world and the replay of its journal, for `tests/stress` to compare. `time PUSHES` measures pushes. `try WORLD CALL` shares the world
-//! that the commands of a text make, and makes one call while memory may be refused to it, as `tests/faults/run` does. It says in a line what came of it.
+//! With no further word seats take turns, and 1, 2 and 64 threads call at once. `stress ROUNDS` lets 16 threads make
+//! mixed calls, and prints after each round the shared world and the replay of its journal, for `tests/stress` to
+//! compare. `time PUSHES` measures pushes. `try WORLD CALL` shares the world that the commands of a text make, and
+//! makes one call while memory may be refused to it, as `tests/faults/run` does. It says in a line what came of it.
 
 mod chance;
 mod checks;

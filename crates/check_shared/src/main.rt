@@ -1,8 +1,9 @@
-//! Checks worlds that seats share, in three parts: seats that call at once, mirrors of a shared world, and all of these together with workers.
+//! Checks worlds that seats share, in three parts: seats that call at once, mirrors of a shared world, and all of these
+//! together with workers.
 //!
-//! Without a word it makes the checks of all parts, one after another, each under its name. It prints the same lines whatever the schedule, which the gate
-//! compares. `check_shared PART` makes those of one part: `locks`, `mirrors` or `shared`. Further words go to the part. They stand at the heads of
-//! `locks.rt`, `mirrors.rt` and `shared.rt`.
+//! Without a word it makes the checks of all parts, one after another, each under its name. It prints the same lines
+//! whatever the schedule, which the gate compares. `check_shared PART` makes those of one part: `locks`, `mirrors` or
+//! `shared`. Further words go to the part. They stand at the heads of `locks.rt`, `mirrors.rt` and `shared.rt`.
 #![tactic(auto)]
 
 mod calls;

@@ -1,7 +1,8 @@
 //! Mirrors of shared worlds.
 //!
-//! With no further word there is a worked example, and then readers look on threads of their own. `try CALL` makes one call while memory may be refused
-//! to it, as `tests/faults/run` does, and says in a line what came of it. `time POSES` measures readers and publishers.
+//! With no further word there is a worked example, and then readers look on threads of their own. `try CALL` makes one
+//! call while memory may be refused to it, as `tests/faults/run` does, and says in a line what came of it. `time POSES`
+//! measures readers and publishers.
 
 mod crowd;
 mod example;

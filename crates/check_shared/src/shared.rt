@@ -1,8 +1,8 @@
 //! Worlds that seats share and that step by workers, and what readers are answered meanwhile.
 //!
-//! With no further word a seat pushes while another one steps by three workers, and a reader is asked while a step is held. `stress ROUNDS` lets 16 seats
-//! work while one more publishes and 32 readers look, and prints after each round the shared world and the replay of its journal, for `tests/stress` to
-//! compare.
+//! With no further word a seat pushes while another one steps by three workers, and a reader is asked while a step is
+//! held. `stress ROUNDS` lets 16 seats work while one more publishes and 32 readers look, and prints after each round
+//! the shared world and the replay of its journal, for `tests/stress` to compare.
 
 mod notes;
 mod readers;

@@ -52,7 +52,8 @@ fn end_mark(mark: &Option<CallMark>) {
     }
 }
 
-/// Opens the mirror, lets the work be done, and ends the publisher. All seats are given back. Answers what there is to tell.
+/// Opens the mirror, lets the work be done, and ends the publisher. All seats are given back. Answers what there is to
+/// tell.
 fn mirror_to<N: Opened + Mirrored + Send + Sync, R: Threads + Wait + Clock + Sync>(
     rt: &R,
     alloc: Global,
@@ -152,8 +153,8 @@ fn shut_by<W: World>(left: Result<Left<W>, Refusal>) -> Shut<W> {
     }
 }
 
-/// Opens the world to the seats of a roster, between marks where memory may be refused to that. The mirror has the world's name. Where it can't be opened
-/// the world comes back as it was.
+/// Opens the world to the seats of a roster, between marks where memory may be refused to that. The mirror has the
+/// world's name. Where it can't be opened the world comes back as it was.
 fn share<N: Opened + Mirrored + Send + Sync, R: Threads + Wait + Clock + Sync>(
     rt: &R,
     alloc: Global,
@@ -177,7 +178,8 @@ fn share<N: Opened + Mirrored + Send + Sync, R: Threads + Wait + Clock + Sync>(
     }
 }
 
-/// Opens the world to so many seats, lets the work be done, and closes it. A world that can't be opened for want of a roster is dropped.
+/// Opens the world to so many seats, lets the work be done, and closes it. A world that can't be opened for want of a
+/// roster is dropped.
 pub fn open_to<R: Threads + Wait + Clock + Sync>(
     rt: &R,
     alloc: Global,

@@ -16,7 +16,7 @@ fn write_shown(text: &mut String, body: &FrameBody) -> Result<(), Refusal> {
     Ok(())
 }
 
-/// What a frame shows: its number of calls, the momentum and the booked total, and its bodies. Refused 1 where memory is wanting.
+/// What a frame shows: its number of calls, the momentum and the booked total, and its bodies.
 pub fn text_of_frame(alloc: Global, frame: &Frame) -> Result<String, Refusal> {
     let mut text = String::new(alloc);
     let numbers = (frame.calls(), frame.momentum(), frame.booked());
@@ -29,7 +29,7 @@ pub fn text_of_frame(alloc: Global, frame: &Frame) -> Result<String, Refusal> {
     Ok(text)
 }
 
-/// What events tell. Refused 1 where memory is wanting.
+/// What events tell.
 pub fn text_of_events(alloc: Global, events: &Events) -> Result<String, Refusal> {
     let mut text = String::new(alloc);
     write_events(&mut text, events)?;

@@ -1,11 +1,13 @@
 //! Checks worlds in two parts: worlds that were worked by hand, and steps by workers.
 //!
-//! Without a word it makes the checks of both parts, one after another, each under its name. It prints the same lines whatever the schedule, which the gate
-//! compares. `check_worlds PART` makes those of one part: `worlds` or `workers`. Further words go to the part.
+//! Without a word it makes the checks of both parts, one after another, each under its name. It prints the same lines
+//! whatever the schedule, which the gate compares. `check_worlds PART` makes those of one part: `worlds` or `workers`.
+//! Further words go to the part.
 //!
-//! `check_worlds worlds WORLD CALL` makes one call while memory may be refused to it, in the world that the commands of a text make, and says in a line what
-//! came of it: `kept` where a refused call left everything as it was and then succeeded, `none` where the call met
-//! no refusal, `outside` where something beside the call met it, and else what differs. Words of the other part stand at the head of `workers.rt`.
+//! `check_worlds worlds WORLD CALL` makes one call while memory may be refused to it, in the world that the commands of
+//! a text make, and says in a line what came of it: `kept` where a refused call left everything as it was and then
+//! succeeded, `none` where the call met no refusal, `outside` where something beside the call met it, and else what
+//! differs. Words of the other part stand at the head of `workers.rt`.
 #![tactic(auto)]
 
 mod whole_world;

@@ -40,7 +40,8 @@ pub trait WholeWorld: World {
     /// What a ray hits first, if its numbers are within their limits.
     fn hit(&self, from: Vec2, along: Vec2) -> Option<Hit>;
 
-    /// What a ray hits first of the shapes that the filter lets through. Refused 5 where its numbers are beyond their limits.
+    /// What a ray hits first of the shapes that the filter lets through. Refused 5 where its numbers are beyond their
+    /// limits.
     fn hit_through(
         &self,
         from: Vec2,

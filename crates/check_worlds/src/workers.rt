@@ -1,8 +1,8 @@
 //! Steps by workers.
 //!
-//! With no further word they step piles of circles beside the same steps by one thread. `steps N` makes only so many steps where there are forty else.
-//! `try WORLD CALL` makes one step in the world that the commands of a text make, while memory or threads may be refused to it, as `tests/faults/run` does,
-//! and says in a line what came of it.
+//! With no further word they step piles of circles beside the same steps by one thread. `steps N` makes only so many
+//! steps where there are forty else. `try WORLD CALL` makes one step in the world that the commands of a text make,
+//! while memory or threads may be refused to it, as `tests/faults/run` does, and says in a line what came of it.
 
 mod at_once;
 mod gates;

@@ -1,5 +1,5 @@
-//! Worlds whose values were worked by hand: each check makes a world of its own, gives it commands, and tells what it saw, a name on a
-//! line and each value on one of its own.
+//! Worlds whose values were worked by hand: each check makes a world of its own, gives it commands, and tells what it
+//! saw, a name on a line and each value on one of its own.
 //!
 //! They are lines and no tests, since a test that calls a world costs the proof minutes, and a line none.
 

@@ -72,7 +72,8 @@ movers_same old new same = movers_same_from old new 0 same.long same.movable
 
 -- ---- the walk
 
--- the state of the walk once k of the slots were seen: two passes over all slots below the next mover's, with their gains
+-- the state of the walk once k of the slots were seen: two passes over all slots below the next mover's, with their
+-- gains
 pub record HasWalked (f g : MassData → Motion → Motion) (P : MassData → Motion → Type 0) (all : List BodyState) (places : List ℕ) (k : ℕ) (now : List BodyState) (first second : Vec2) : Type 0 where
   pub walk : IsReached moves all places k
   pub items : now ≡ pass g (pass f (take (reached places k all) all)) ++ drop (reached places k all) all

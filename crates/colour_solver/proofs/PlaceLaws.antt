@@ -1,4 +1,5 @@
--- The places of those in a list that pass a test, walked one after another: between one place and the next nothing changes.
+-- The places of those in a list that pass a test, walked one after another: between one place and the next nothing
+-- changes.
 use Rattle.std.proofs.Common.{◌≡◌, ℕ, zero, suc, ◌+◌, ◌<◌, ◌≤◌, Bool, false, List, [], ◌∷◌, ◌++◌, length, get_or, take, drop, map, Some, arith, refl, sym, ap, ◌∙◌, subst, inl, inr}
 use Rattle.std.specs.List.{slice_get}
 use Rattle.std.proofs.lemmas.Bool.{cases_Bool}

@@ -1,4 +1,5 @@
--- Trusted: A colour: rows no two of which share a mover. Their visits may be made at once, each with the bodies as they are before all of them.
+-- Trusted: A colour: rows no two of which share a mover. Their visits may be made at once, each with the bodies as they
+-- are before all of them.
 use Rattle.std.specs.Prelude.{◌≡◌, ◌≢◌, ◌<◌, ℕ, Bool, true, List, [], ◌∷◌, Some, map, All, slice_get, slice_index_or}
 use Rattle.fixed_geom.specs.Vectors.{plus, zero_vector}
 use Rattle.fixed_geom.specs.declared.vectors.Vec2.{Vec2}

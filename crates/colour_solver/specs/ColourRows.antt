@@ -6,7 +6,8 @@ use Rattle.colour_solver_base.specs.declared.row.ContactRow.{ContactRow}
 use Rattle.colour_solver.specs.declared.constraint_row.ConstraintRow.{ConstraintRow}
 use Rattle.colour_solver.specs.declared.constraint_row.ConstraintRow.TheVariants.{Joint, Contact}
 
--- what contracts see: the rows of each colour, those of the colour that hasn't ended yet, and for how many more rows and colours there is room
+-- what contracts see: the rows of each colour, those of the colour that hasn't ended yet, and for how many more rows
+-- and colours there is room
 pub record ColourRows (R : Type 0) : Type 0 where
   pub colours : List (List R)
   pub left : List R
@@ -49,7 +50,8 @@ each_joints_first [] contacts = []
 each_joints_first (js ∷ joints) [] = []
 each_joints_first (js ∷ joints) (cs ∷ contacts) = joints_first js cs ∷ each_joints_first joints contacts
 
--- the rows of the colours that have ended, the joints of each ending at the one list of numbers, the contacts at the other
+-- the rows of the colours that have ended, the joints of each ending at the one list of numbers, the contacts at the
+-- other
 abbrev pub colours_of : List ℕ → List ℕ → List JointRow → List ContactRow → List (List ConstraintRow)
 colours_of joint_ends contact_ends joints contacts = each_joints_first (cut 0 joint_ends joints) (cut 0 contact_ends contacts)
 

@@ -2,7 +2,8 @@
 use Rattle.std.specs.Prelude.{◌^◌, pos}
 use Rattle.momenta.specs.declared.mass.MassData.{MassData}
 
--- the mass of a body that is carried along: with it the momentum is the velocity itself, and the angular momentum the spin
+-- the mass of a body that is carried along: with it the momentum is the velocity itself, and the angular momentum the
+-- spin
 abbrev pub carrier : MassData
 carrier = record { mass = pos 1; inertia = pos (2 ^ 30) }
 

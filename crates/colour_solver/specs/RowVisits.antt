@@ -1,5 +1,5 @@
--- Trusted: a pass over rows in solve order: the left fold of one visit, and what the immovable bodies have given. A row may be of any kind: what is known of it is
--- where its two bodies stand.
+-- Trusted: a pass over rows in solve order: the left fold of one visit, and what the immovable bodies have given. A row
+-- may be of any kind: what is known of it is where its two bodies stand.
 use Rattle.std.specs.Prelude.{◌≡◌, ℕ, Bool, ◌<◌, ◌≢◌, ◌-◌, cond, List, [], ◌∷◌, length, take, drop, All, slice_set, slice_index_or}
 use Rattle.fixed_geom.specs.Vectors.{minus, plus, zero_vector}
 use Rattle.fixed_geom.specs.declared.vectors.Vec2.{Vec2}
@@ -77,7 +77,8 @@ AreRowsOn at is n rows = All (IsRowOn at is n) rows
 abbrev pub between : {R : Type 0} → ℕ → ℕ → List R → List R
 between n e rows = take (e - n) (drop n rows)
 
--- the visits f of the rows, from the bodies before them on, leave these bodies and these rows, and the movers with so much more momentum
+-- the visits f of the rows, from the bodies before them on, leave these bodies and these rows, and the movers with so
+-- much more momentum
 pub record IsPassed {R : Type 0} (at : R → Slots) (is : R → Type 0) (f : R → Ends → RowAfter R) (before : List BodyState) (rows : List R) (now : List BodyState) (visited : List R) (given : Vec2) : Type 0 where
   pub states : now ≡ passed at f before rows
   pub rows_are : visited ≡ rows_passed at f before rows

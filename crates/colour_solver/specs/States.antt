@@ -1,4 +1,5 @@
--- Trusted: the bodies of a step by slot, and the movers' momentum. A mover here is an awake one: of the others `movable` is false.
+-- Trusted: the bodies of a step by slot, and the movers' momentum. A mover here is an awake one: of the others
+-- `movable` is false.
 use Rattle.std.specs.Prelude.{◌+◌, ◌≡◌, ℕ, suc, ◌^◌, ◌≤◌, Bool, true, false, cond, not, List, [], ◌∷◌, Some, pos, unsigned_abs, length, slice_get, slice_index_or}
 use Rattle.std.specs.Ordering.{int_eq}
 use Rattle.momenta.specs.declared.gain.Gain.{Gain}
@@ -75,7 +76,8 @@ total (s ∷ states) = plus (momentum_of s) (total states)
 
 -- ---- what is left alone
 
--- by impulses and by what is done to movers alone: which bodies move, their masses with their reciprocals, and all of a body that doesn't move
+-- by impulses and by what is done to movers alone: which bodies move, their masses with their reciprocals, and all of a
+-- body that doesn't move
 pub record AreSameStates (old new : List BodyState) : Type 0 where
   pub long : length new ≡ length old
   pub immovable : (slot : ℕ) → (slice_index_or old slot nobody).movable ≡ false → slice_index_or new slot nobody ≡ slice_index_or old slot nobody

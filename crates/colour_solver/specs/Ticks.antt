@@ -1,4 +1,5 @@
--- Trusted: a step's ticks and its restitution on the dense arrays: passes over the bodies and the constraints, and what each adds to the movers' momentum.
+-- Trusted: a step's ticks and its restitution on the dense arrays: passes over the bodies and the constraints, and what
+-- each adds to the movers' momentum.
 use Rattle.std.specs.Prelude.{ℕ, zero, suc, ◌^◌, List}
 use Rattle.fixed_geom.specs.Vectors.{IsWithin, plus, zero_vector}
 use Rattle.fixed_geom.specs.declared.vectors.Vec2.{Vec2}
@@ -16,8 +17,8 @@ use Rattle.colour_solver.specs.ConstraintVisits.{constraint_bounced, constraint_
 use Rattle.colour_solver.specs.States.{as_vector}
 use Rattle.colour_solver.specs.RowVisits.{passed, rows_passed, share}
 
--- the bodies and the constraints, and what gravity, immovable bodies, and the speed limit with the edge of the world have added since
--- the step began
+-- the bodies and the constraints, and what gravity, immovable bodies, and the speed limit with the edge of the world
+-- have added since the step began
 pub record Run : Type 0 where
   pub states : List BodyState
   pub rows : List ConstraintRow
@@ -51,7 +52,8 @@ visit_all f r = record r {
 abbrev pub carry_all : Run → Run
 carry_all r = record r { states = carry r.states }
 
--- gravity, the speed limit, the warm start, the solver's pass, the speed limit again, the move, and what is carried along
+-- gravity, the speed limit, the warm start, the solver's pass, the speed limit again, the move, and what is carried
+-- along
 unfoldable pub tick : Vec2 → Run → Run
 tick g r = carry_all (clamp_all advanced (clamp_all speed_clamped (visit_all constraint_solved (visit_all constraint_warmed (clamp_all speed_clamped (pull_all g r))))))
 

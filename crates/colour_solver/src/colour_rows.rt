@@ -29,8 +29,8 @@ struct ColourEnd {
     contacts: usize,
 }
 
-/// Rows by colour: in each its joints, and then its contacts. Contracts see those of each colour that has ended, those of the next one, and
-/// for how many more rows and colours there is room.
+/// Rows by colour: in each its joints, and then its contacts. Contracts see those of each colour that has ended, those
+/// of the next one, and for how many more rows and colours there is room.
 #[derive(Drop)]
 pub struct Rows {
     joints: Vec<JointRow>,
@@ -250,7 +250,7 @@ impl Rows {
         }
     }
 
-    /// Makes room for that many more rows, of either kind, and colours. Refused 1 where memory is wanting.
+    /// Makes room for that many more rows, of either kind, and colours.
     pub fn reserve(&mut self, rows: usize, colours: usize) -> Result<(), Refusal>
         ensures room { OnOk result (rows ≤ self.new.room) }
         ensures more { OnOk result (colours ≤ self.new.more) }
@@ -386,8 +386,8 @@ impl Rows {
         )
     }
 
-    /// One pass over the rows of a colour that has ended, and over no others. Answers what immovable bodies have given to the movers
-    /// (mass·u/tick).
+    /// One pass over the rows of a colour that has ended, and over no others. Answers what immovable bodies have given
+    /// to the movers (mass·u/tick).
     pub fn pass_in(&mut self, colour: usize, states: &mut Vec<BodyState>, phase: Phase) -> Gain
         requires colour { colour < length self.old.colours }
         requires few { length states.old.items ≤ MAX_SLOTS }
@@ -444,8 +444,9 @@ impl Rows {
         self.contacts.as_slice()
     }
 
-    /// One pass over all rows in solve order, the one visit made of joints and the other of contacts, each with the bodies as those before
-    /// it left them; each row stays in its colour. Answers what immovable bodies have given to the movers (mass·u/tick).
+    /// One pass over all rows in solve order, the one visit made of joints and the other of contacts, each with the
+    /// bodies as those before it left them; each row stays in its colour. Answers what immovable bodies have given to
+    /// the movers (mass·u/tick).
     pub fn pass<J: Visit<JointRow>, C: Visit<ContactRow>>(
         &mut self,
         states: &mut Vec<BodyState>,

@@ -23,8 +23,8 @@ pub trait Passes {
     /// They are of a step of so many bodies.
     ghost fits: { Self → ℕ → Type 0 } = { λ _ _. Unit {0} };
 
-    /// One pass over all rows in solve order, each with the bodies as those before it left them; each row stays in its colour. Answers
-    /// what immovable bodies have given to the movers (mass·u/tick).
+    /// One pass over all rows in solve order, each with the bodies as those before it left them; each row stays in its
+    /// colour. Answers what immovable bodies have given to the movers (mass·u/tick).
     fn pass(&mut self, states: &mut Vec<BodyState>, phase: Phase) -> Gain
         requires few { length states.old.items ≤ MAX_SLOTS }
         requires states { AreAllStates states.old.items }

@@ -9,7 +9,8 @@ use crate::{Row, Slots};
 use colour_solver_base::ContactRow;
 use joint_rows::JointRow;
 
-/// A constraint in a step: a joint, or a contact that touches. Contracts see the rows of both kinds in one list of these.
+/// A constraint in a step: a joint, or a contact that touches. Contracts see the rows of both kinds in one list of
+/// these.
 #[derive(Clone, Copy, Debug, PartialEq, Eq)]
 pub enum ConstraintRow {
     Joint(JointRow),

@@ -28,7 +28,8 @@ fn put_impulse(row: &mut JointRow, visited: Exerted64) -> MomentaPair64
     visited.now
 }
 
-/// Writes what a visit between the centres has made of a joint's impulse into its row. Answers the momenta of its bodies.
+/// Writes what a visit between the centres has made of a joint's impulse into its row. Answers the momenta of its
+/// bodies.
 #[inline(always)]
 fn put_pushed(row: &mut JointRow, visited: Pushed64) -> MomentumPair
     ensures row { row.new ≡ with_impulse row.old visited.total }

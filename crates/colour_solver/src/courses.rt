@@ -1,4 +1,5 @@
-//! Bodies that are carried along: no impulse moves them, and each tick moves them on by a velocity and a spin of their own.
+//! Bodies that are carried along: no impulse moves them, and each tick moves them on by a velocity and a spin of their
+//! own.
 
 ghost use Rattle.std.specs.Prelude.{◌≡◌, true};
 ghost use Rattle.momenta.specs.ImpulseBounds.{IsState};
@@ -14,8 +15,8 @@ fn is_carried(body: &BodyState) -> bool
     !body.movable && body.mass.inertia != 0
 }
 
-/// Moves a body that is carried along on by its velocity and its spin, and leaves another one as it is. At the edge of the world it
-/// stops, and that component of the velocity becomes 0.
+/// Moves a body that is carried along on by its velocity and its spin, and leaves another one as it is. At the edge of
+/// the world it stops, and that component of the velocity becomes 0.
 fn carry_body(body: &mut BodyState)
     requires state { IsState body.old }
     requires course { is_carried body.old ≡ true → HasCourse body.old }
@@ -29,7 +30,8 @@ fn carry_body(body: &mut BodyState)
     body.motion = moved;
 }
 
-/// Moves the bodies that are carried along, whose slots are `carried`, on by a tick. Nothing is booked: their momenta are no mover's.
+/// Moves the bodies that are carried along, whose slots are `carried`, on by a tick. Nothing is booked: their momenta
+/// are no mover's.
 pub fn carry_along(states: &mut Vec<BodyState>, carried: &[u32])
     requires carried { carried.now ≡ carried_of states.old.items }
     requires states { AreAllStates states.old.items }

@@ -1,5 +1,5 @@
-//! Which pass is made over constraints: the warm start, the solver's impulses, or the restitution. One type for the three and for both kinds
-//! of rows, so that one crew serves them all.
+//! Which pass is made over constraints: the warm start, the solver's impulses, or the restitution. One type for the
+//! three and for both kinds of rows, so that one crew serves them all.
 
 ghost use Rattle.std.specs.Prelude.{◌≡◌, true, None, IfSome};
 ghost use Rattle.momenta.specs.declared.state.Ends.{Ends};

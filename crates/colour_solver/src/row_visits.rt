@@ -23,7 +23,8 @@ pub struct Slots {
     pub b: u32,
 }
 
-/// A row of a step: what the impulses between two bodies need, with those accumulated so far. A contact's is the `ContactRow`.
+/// A row of a step: what the impulses between two bodies need, with those accumulated so far. A contact's is the
+/// `ContactRow`.
 pub trait Row: Copy {
     ghost use Rattle.colour_solver.specs.declared.row_visits.Slots.{Slots};
 
@@ -46,8 +47,8 @@ pub trait Visit<R: Row> {
     fn is_idle(&self, row: &R) -> bool
         ensures { result ≡ true → (e : Ends) → AreStates e → visit self.now row.now e ≡ record { row = row.now; ends = e } };
 
-    /// The same visit in 64 bits, where there is room: it is written into the row, and the momenta that the two bodies then have are
-    /// the answer. Where there is none, the row stays as it is.
+    /// The same visit in 64 bits, where there is room: it is written into the row, and the momenta that the two bodies
+    /// then have are the answer. Where there is none, the row stays as it is.
     fn visit_64(&self, row: &mut R, a: &BodyState, b: &BodyState) -> Option<MomentaPair64>
         requires row { R.is_row row.old }
         requires first { IsState a.now }
@@ -56,8 +57,8 @@ pub trait Visit<R: Row> {
         ensures slots { R.slots row.new ≡ R.slots row.old }
         ensures none { result ≡ None → row.new ≡ row.old };
 
-    /// The same visit in 64 bits of a row between the centres of its bodies: their angular momenta stay as they are, and the answer has the
-    /// momenta alone. Where the row isn't one, or there is no room, it stays as it is.
+    /// The same visit in 64 bits of a row between the centres of its bodies: their angular momenta stay as they are,
+    /// and the answer has the momenta alone. Where the row isn't one, or there is no room, it stays as it is.
     fn visit_centres_64(&self, row: &mut R, a: &BodyState, b: &BodyState) -> Option<MomentumPair>
         requires row { R.is_row row.old }
         requires first { IsState a.now }
@@ -149,7 +150,8 @@ fn put_64(body: &mut BodyState, now: Momenta64)
     body.motion.l = i128::from(now.l);
 }
 
-/// Puts the momenta that a visit has given the bodies in these slots in their places. Answers what the immovable one has given, if one is.
+/// Puts the momenta that a visit has given the bodies in these slots in their places. Answers what the immovable one
+/// has given, if one is.
 #[inline(always)]
 fn put_visit(states: &mut Vec<BodyState>, slots: Slots, now: MomentaPair64) -> Gain
     requires states { AreAllStates states.old.items }
@@ -186,7 +188,8 @@ fn visit_row_64<R: Row, T: Visit<R>>(
     visit.visit_64(row, &states[slots.a as usize], &states[slots.b as usize])
 }
 
-/// The visit of one row that has something to do: in 64 bits, where there is room. Answers what the immovable body has given, if one is.
+/// The visit of one row that has something to do: in 64 bits, where there is room. Answers what the immovable body has
+/// given, if one is.
 #[inline(always)]
 fn visit_in_place<R: Row, T: Visit<R>>(states: &mut Vec<BodyState>, row: &mut R, visit: &T) -> Gain
     requires states { AreAllStates states.old.items }
@@ -216,8 +219,8 @@ fn put_momentum(body: &mut BodyState, p: Vec2)
     body.motion.p = p;
 }
 
-/// Puts the momenta that a visit between their centres has given the bodies in these slots in their places. Answers what the immovable one
-/// has given, if one is.
+/// Puts the momenta that a visit between their centres has given the bodies in these slots in their places. Answers
+/// what the immovable one has given, if one is.
 #[inline(always)]
 fn put_centres(states: &mut Vec<BodyState>, slots: Slots, now: MomentumPair) -> Gain
     requires states { AreAllStates states.old.items }
@@ -254,8 +257,8 @@ fn visit_row_centres_64<R: Row, T: Visit<R>>(
     visit.visit_centres_64(row, &states[slots.a as usize], &states[slots.b as usize])
 }
 
-/// The visit of one row with its two bodies among `states`, as the definition has it. Answers what an immovable body has given
-/// (mass·u/tick), by which the movers' momentum grows.
+/// The visit of one row with its two bodies among `states`, as the definition has it. Answers what an immovable body
+/// has given (mass·u/tick), by which the movers' momentum grows.
 #[inline(always)]
 pub fn solve_one<R: Row, T: Visit<R>>(states: &mut Vec<BodyState>, row: &mut R, visit: &T) -> Gain
     requires states { AreAllStates states.old.items }
@@ -295,9 +298,9 @@ fn with_got(given: Gain, got: Gain) -> Gain
     }
 }
 
-/// One pass over the rows from the one with the number `start` up to the one with the number `end`, in their order, each with the bodies
-/// as those before it left them. Answers what immovable bodies have given to the movers (mass·u/tick); what two movers give one another
-/// leaves their sum alone.
+/// One pass over the rows from the one with the number `start` up to the one with the number `end`, in their order,
+/// each with the bodies as those before it left them. Answers what immovable bodies have given to the movers
+/// (mass·u/tick); what two movers give one another leaves their sum alone.
 pub fn pass_rows<R: Row, T: Visit<R>>(
     states: &mut Vec<BodyState>,
     rows: &mut Vec<R>,
@@ -325,9 +328,10 @@ pub fn pass_rows<R: Row, T: Visit<R>>(
     given
 }
 
-/// The colour law: of rows no two of which share a mover, the visits may be made at once, each with the bodies as they are
-/// before all of them; written back, they give the bodies, the rows and the sums that one visit after another gives. So a colour
-/// may be solved in parallel (as Box2D v3's graph colours are). The function does nothing; its contract is the law.
+/// The colour law: of rows no two of which share a mover, the visits may be made at once, each with the bodies as they
+/// are before all of them; written back, they give the bodies, the rows and the sums that one visit after another
+/// gives. So a colour may be solved in parallel (as Box2D v3's graph colours are). The function does nothing; its
+/// contract is the law.
 pub fn colours_at_once<R: Row>()
     ensures { ColoursAreAtOnce R.slots }
 {}

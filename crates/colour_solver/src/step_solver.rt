@@ -13,9 +13,10 @@ use body_handles::MAX_SLOTS;
 use fixed_geom::Vec2;
 use momenta::BodyState;
 
-/// Runs the ticks of a step as `run_step` does, with the same states, rows and sums. It can't be refused: it has the threads that it needs,
-/// and where it lacks memory the calling thread runs the ticks alone. [`OneThread`] here and `PartCrew` of `part_solver` implement it, and
-/// `BodyTable::run` of `world_core_base` calls it: this crate starts no threads.
+/// Runs the ticks of a step as `run_step` does, with the same states, rows and sums. It can't be refused: it has the
+/// threads that it needs, and where it lacks memory the calling thread runs the ticks alone. [`OneThread`] here and
+/// `PartCrew` of `part_solver` implement it, and `BodyTable::run` of `world_core_base` calls it: this crate starts no
+/// threads.
 pub trait StepSolver {
     /// `run_step` of the same numbers.
     fn run_step(

@@ -114,8 +114,8 @@ impl Change for Move {
     }
 }
 
-/// One tick of the awake movers and the constraints: gravity, the speed limit, the warm start, the solver's pass, the speed limit again, the move;
-/// and then of the bodies that are carried along. Adds to the sums so far.
+/// One tick of the awake movers and the constraints: gravity, the speed limit, the warm start, the solver's pass, the
+/// speed limit again, the move; and then of the bodies that are carried along. Adds to the sums so far.
 #[tactic(auto, unfolding(crate::specs::Ticks::tick))]
 fn tick<P: Passes>(
     states: &mut Vec<BodyState>,
@@ -162,13 +162,13 @@ fn tick<P: Passes>(
     }
 }
 
-/// Runs that many ticks, 0 to 8, over the awake movers, whose slots are `awake`, and the joints and contacts, and then the restitution: in each
-/// tick gravity (u/tick², each component within ±2^16), the speed limit, the warm start and the solver's pass over them in
-/// their order, the speed limit again, and the move. The bodies that are carried along, whose slots are `carried`, move on at the end of
-/// each tick; any other body stays as it is.
+/// Runs that many ticks, 0 to 8, over the awake movers, whose slots are `awake`, and the joints and contacts, and then
+/// the restitution: in each tick gravity (u/tick², each component within ±2^16), the speed limit, the warm start and
+/// the solver's pass over them in their order, the speed limit again, and the move. The bodies that are carried along,
+/// whose slots are `carried`, move on at the end of each tick; any other body stays as it is.
 ///
-/// Answers what gravity, what immovable bodies, and what the speed limit with the edge of the world have added to the movers'
-/// momentum (mass·u/tick).
+/// Answers what gravity, what immovable bodies, and what the speed limit with the edge of the world have added to the
+/// movers' momentum (mass·u/tick).
 #[tactic(auto, unfolding(crate::specs::Ticks::ran))]
 pub fn run_ticks<P: Passes>(
     states: &mut Vec<BodyState>,

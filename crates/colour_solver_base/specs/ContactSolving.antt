@@ -1,5 +1,5 @@
--- Trusted: One contact in a step: what its impulses do to it and to its two bodies. All that the solver computes once a step is computed
--- here where it is used.
+-- Trusted: One contact in a step: what its impulses do to it and to its two bodies. All that the solver computes once a
+-- step is computed here where it is used.
 use Rattle.std.specs.Prelude.{Bool, false, cond, Option, Some, None, ℤ, pos, neg_ℤ, ◌+ℤ◌, ◌*ℤ◌, int_lt, ◌-ℤ◌}
 use Rattle.fixed_geom.specs.Numbers.{rdiv, fdiv}
 use Rattle.fixed_geom.specs.Vectors.{unit_length, dot, minus}
@@ -70,8 +70,8 @@ point_solved friction p e = tangent_solved friction (normal_solved (overlap_bias
 abbrev pub point_warmed : ContactPoint → Ends → Ends
 point_warmed p e = warmed (tangent_line p (warmed (normal_line p e) p.normal_impulse e)) p.tangent_impulse (warmed (normal_line p e) p.normal_impulse e)
 
--- whether the point bounces: its bodies, standing as when the step began, come together faster than the bounce speed, and the last
--- tick has left it a normal impulse
+-- whether the point bounces: its bodies, standing as when the step began, come together faster than the bounce speed,
+-- and the last tick has left it a normal impulse
 abbrev pub bounces : ℤ → Ends → ContactPoint → Bool
 bounces restitution start p = cond (int_lt (pos 0) restitution) (cond (int_lt (speed_along (normal_line p start) start) (neg_ℤ BOUNCE_SPEED)) (int_lt (pos 0) p.normal_impulse) false) false
 

@@ -23,7 +23,8 @@ with_impulses p normal_impulse tangent_impulse = record p { normal_impulse = nor
 abbrev pub with_point_impulses : PointImpulses → PointRow → PointRow
 with_point_impulses i p = with_impulses p i.normal i.tangent
 
--- what stands in n is t, which a pass has left of the point p and of the two bodies: they are a and b, and stood as e has them before it
+-- what stands in n is t, which a pass has left of the point p and of the two bodies: they are a and b, and stood as e
+-- has them before it
 pub record IsPointAfter64 (t : PointAfter) (p : PointRow) (a b : BodyState) (e : Ends) (n : PointAfter64) : Type 0 where
   pub value : t ≡ record { point = with_point_impulses n.impulses p; ends = ends_with a b n.now }
   pub point : IsPointRow (with_point_impulses n.impulses p)

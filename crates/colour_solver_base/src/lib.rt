@@ -1,8 +1,8 @@
 //! One contact in a step: what stays for the whole step, computed once (`ContactRow`), and the impulses that
 //! its two bodies give one another in a warm start, in a solver pass and at restitution.
 //!
-//! The solver is that of Erin Catto's sequential impulses (GDC 2006): accumulated and clamped impulses with a warm start, a
-//! bias velocity beyond a slop, and sub-steps, here with whole numbers.
+//! The solver is that of Erin Catto's sequential impulses (GDC 2006): accumulated and clamped impulses with a warm
+//! start, a bias velocity beyond a slop, and sub-steps, here with whole numbers.
 #![tactic(auto)]
 
 mod laws;

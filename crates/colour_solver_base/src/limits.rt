@@ -11,8 +11,8 @@ pub const MAX_BIAS: i64 = 16_384;
 /// Bodies that come together no faster than this, in u/tick, don't bounce.
 pub const BOUNCE_SPEED: i64 = 4096;
 
-/// The law of the limits: the numbers that definitions take from the code, in digits. The function does nothing; its contract is
-/// the law.
+/// The law of the limits: the numbers that definitions take from the code, in digits. The function does nothing; its
+/// contract is the law.
 pub fn limits_in_digits()
     ensures slop { SLOP ≡ pos 5243 }
     ensures bias { MAX_BIAS ≡ pos 16384 }

@@ -13,9 +13,9 @@ use fixed_geom::{UNIT, Vec2};
 use momenta::{Ends, Line, inverse_mass, inverse_reciprocal, speed_along};
 
 /// A point of a contact in a step: the normal from the first body to the second (times 2^30), the offsets from the two
-/// centres (u), the inverse masses along the normal and across it (times 2^40) and their reciprocals, the separation (u) and,
-/// where there is restitution, the speed along the normal (u/tick) when the step began, and the accumulated impulses along the
-/// normal and across it (mass·u/tick).
+/// centres (u), the inverse masses along the normal and across it (times 2^40) and their reciprocals, the separation
+/// (u) and, where there is restitution, the speed along the normal (u/tick) when the step began, and the accumulated
+/// impulses along the normal and across it (mass·u/tick).
 #[derive(Clone, Copy, Debug, PartialEq, Eq)]
 pub struct PointRow {
     pub normal: Vec2,
@@ -31,8 +31,8 @@ pub struct PointRow {
     pub tangent_impulse: i64,
 }
 
-/// Which contact a row is of, by the slots of its two bodies and the indexes of its two shapes among the shapes of these bodies; and the mixed
-/// friction and restitution of the contact, in 256ths.
+/// Which contact a row is of, by the slots of its two bodies and the indexes of its two shapes among the shapes of
+/// these bodies; and the mixed friction and restitution of the contact, in 256ths.
 #[derive(Clone, Copy, Debug, PartialEq, Eq)]
 pub struct Bodies {
     pub a: u32,

@@ -46,8 +46,8 @@ pub struct RowAfter64 {
     pub now: MomentaPair64,
 }
 
-/// The velocity at which the second body's point leaves the first's, after an impulse along the normal had brought the accumulated
-/// one from `normal_impulse` to that of `after`: where it gave nothing, the velocity is still `apart`.
+/// The velocity at which the second body's point leaves the first's, after an impulse along the normal had brought the
+/// accumulated one from `normal_impulse` to that of `after`: where it gave nothing, the velocity is still `apart`.
 #[inline(always)]
 fn parting_after(
     normal_impulse: i64,

@@ -96,8 +96,8 @@ fn parting_at(point: &PointRow, ends: &Ends) -> Vec2
     parting(point.ra, point.rb, ends)
 }
 
-/// The same after an impulse along the normal, which had brought the accumulated one to `normal_impulse` (mass·u/tick) before: where it
-/// gave nothing, the velocity is still `apart`.
+/// The same after an impulse along the normal, which had brought the accumulated one to `normal_impulse` (mass·u/tick)
+/// before: where it gave nothing, the velocity is still `apart`.
 #[inline(always)]
 fn parting_after(normal_impulse: i64, apart: Vec2, point: &PointRow, ends: &Ends) -> Vec2
     requires point { IsPointRow point.now }

@@ -1,4 +1,5 @@
--- The flagged slots are listed, and the places of the contacts of their bodies, found one body at a time, are those that a pass over all finds.
+-- The flagged slots are listed, and the places of the contacts of their bodies, found one body at a time, are those
+-- that a pass over all finds.
 use Rattle.std.proofs.Common.{Result, Ok, Err, ◌≡◌, ℕ, zero, suc, ◌+◌, ◌-◌, ◌<◌, ◌≤◌, ◌==◌, ◌||◌, ◌&&◌, ◌↔◌, List, [], ◌∷◌, ◌++◌, length, take, replicate, slice_set, Bool, true, false, true≢false, cond, Option, Some, None, ◌⊎◌, inl, inr, refl, sym, ap, ◌∙◌, subst, arith, eqb}
 use Rattle.std.specs.List.{Contains, dedup}
 use Rattle.std.specs.Prelude.{OnOk, option_map, slice_get}
@@ -246,7 +247,8 @@ counted_in [] (x ∷ es) (suc k) e off at = inr (counted_in [] es k e refl at)
 counted_in (o ∷ over) (x ∷ es) zero e off at = counted_first o x e (counting over es) off (sym (same_Some x e at))
 counted_in (o ∷ over) (x ∷ es) (suc k) e off at = counted_behind o x e (counting over es) (counted_in over es k e off at)
 
--- where all bodies have a flag, the places of the contacts of the flagged ones, ascending, are those of which a body may stir
+-- where all bodies have a flag, the places of the contacts of the flagged ones, ascending, are those of which a body
+-- may stir
 pub gathered_are : (flags : List Bool) (slots places : List ℕ) (s : Split) (b : NumberBook) → AreFlagsListed flags slots → IsBook b → AreNumbered (contacts_in s) b.contacts.items → length b.ends.firsts.sets ≤ length flags → length b.ends.seconds.sets ≤ length flags → IsStrictlyIncreasing places
     → ((place : ℕ) → Contains places place ↔ IsPlaceOfOne s.long b.contacts.items slots place) → AreStirring flags s places
 gathered_are flags slots places s b listed book numbered firsts seconds up are = record {

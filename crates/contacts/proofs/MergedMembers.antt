@@ -1,4 +1,5 @@
--- Lists that ascend by a number: two with the same members are equal, and what is merged of two has the members of both.
+-- Lists that ascend by a number: two with the same members are equal, and what is merged of two has the members of
+-- both.
 use Rattle.std.proofs.Common.{◌≡◌, ℕ, ◌<◌, ◌≤◌, List, [], ◌∷◌, map, Bool, true, false, cond, nat_lt, ltb-true, ltb-false, ◌⊎◌, inl, inr, refl, sym, ap, subst, arith}
 use Rattle.contacts_base.specs.Merge.{merged, put_in}
 use Rattle.contacts.proofs.Members.{Each, IsIn, each_in}

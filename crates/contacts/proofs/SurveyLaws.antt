@@ -1,4 +1,5 @@
--- A collide passes over those contacts of the long list alone of which a body may stir, and finds what it would find of all that count.
+-- A collide passes over those contacts of the long list alone of which a body may stir, and finds what it would find of
+-- all that count.
 use Rattle.std.proofs.Common.{◌≡◌, ℕ, zero, suc, ◌+◌, ◌<◌, ◌≤◌, List, [], ◌∷◌, ◌++◌, length, map, take, drop, get_or, Bool, true, false, true≢false, cond, ◌&&◌, Option, Some, None, inl, inr, refl, sym, ap, ◌∙◌, subst, arith, add-one}
 use Rattle.std.specs.Prelude.{All, filter, option_map, slice_get, slice_set}
 use Rattle.std.specs.List.{cons_option}
@@ -421,7 +422,8 @@ all_found moved pairs ps s notes ends begin end same t =
 
 -- ---- the places that are kept
 
--- what the loop over the places keeps: they are those of the contacts whose key a test lets in, which is that of each that counts
+-- what the loop over the places keeps: they are those of the contacts whose key a test lets in, which is that of each
+-- that counts
 pub record IsWalking (flags : List Bool) (s : Split) (places : List ℕ) (index : ℕ) (I : ℕ → Type 0) : Type 0 where
   pub lets_in : ContactKey → Bool
   pub counts : (place : ℕ) (e : ContactEntry) → counting_at s place ≡ Some e → lets_in e.key ≡ true

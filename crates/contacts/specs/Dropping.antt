@@ -21,8 +21,8 @@ pub record IsKeyOver (key : ContactKey) (old new : Split) : Type 0 where
 abbrev pub IsOf : ℕ → ContactKey → Type 0
 IsOf slot key = (side : Side) × (slot_on side key ≡ slot)
 
--- While the contacts of a body go, from what the contacts and their numbers were. All contacts that are left have their numbers, the numbers that are left
--- tell what they did, and only the body's contacts are over.
+-- While the contacts of a body go, from what the contacts and their numbers were. All contacts that are left have their
+-- numbers, the numbers that are left tell what they did, and only the body's contacts are over.
 pub record IsDropping (slot : ℕ) (was : Split) (numbered : List (Option NumberedContact)) (now : Split) (b : NumberBook) : Type 0 where
   pub keys : HaveKeys was now
   pub rising : AreKeysRising (contacts_in now)

@@ -76,7 +76,8 @@ noted place (Renewed c) = record { place = place; contact = c } ∷ []
 
 -- ---- the list made anew
 
--- what becomes of a contact, with the fresh ones before it, is added to a list: `place` fresh ones were in it before, and `next` are after
+-- what becomes of a contact, with the fresh ones before it, is added to a list: `place` fresh ones were in it before,
+-- and `next` are after
 abbrev pub IsAdded : Option ContactEntry → List ContactEntry → ℕ → ℕ → List ContactEntry → List ContactEntry → Type 0
 IsAdded None fresh place next all more = (more ≡ all) × (next ≡ place)
 IsAdded (Some f) fresh place next all more = (more ≡ (all ++ below_of entry_number f (drop place fresh)) ++ f ∷ []) × (drop next fresh ≡ beyond_of entry_number f (drop place fresh))

@@ -19,8 +19,9 @@ use Rattle.contacts.specs.Fates.{AreWithin, IsMade, moved_by}
 use Rattle.packed_sets.specs.Marks.{AreListed}
 use Rattle.contacts.specs.declared.contact_table.ContactTable.TheInside.{Inside}
 
--- the contacts, and what they become when the last collide is carried out; by its number each contact, and by the slot of its first body and of its second one
--- which numbers there are; which numbers the last change gave and took away; and below which number all contacts have theirs once what is pending is carried out
+-- the contacts, and what they become when the last collide is carried out; by its number each contact, and by the slot
+-- of its first body and of its second one which numbers there are; which numbers the last change gave and took away;
+-- and below which number all contacts have theirs once what is pending is carried out
 pub record Kept : Type 0 where
   pub contacts : List ContactEntry
   pub pending : List ContactEntry
@@ -36,8 +37,8 @@ abbrev pub numbers_on : Side → Kept → List (List ℕ)
 numbers_on First k = k.firsts
 numbers_on Second k = k.seconds
 
--- what the fields of a `ContactTable` hold: the places in the long list of those contacts of which a body may stir, and what can be carried out; each contact
--- has a number, and there is room for those that come
+-- what the fields of a `ContactTable` hold: the places in the long list of those contacts of which a body may stir, and
+-- what can be carried out; each contact has a number, and there is room for those that come
 pub record IsKeptContacts (a : Inside) : Type 0 where
   pub held : AreHeld a.beside.stirring a.contacts
   pub pending : IsPendingUpdate a.pending a.contacts
@@ -45,7 +46,8 @@ pub record IsKeptContacts (a : Inside) : Type 0 where
   pub numbered : AreNumbered (contacts_in a.contacts) a.numbers.contacts.items
   pub room : a.pending.any ≡ true → HasRoomFor a.pending.made.items a.numbers
 
--- what a collide stands on: shapes in their order, marks for all of their bodies, and contacts that tell which of those that aren't marked are near
+-- what a collide stands on: shapes in their order, marks for all of their bodies, and contacts that tell which of those
+-- that aren't marked are near
 pub record CanCollide (ps : List Proxy) (marks : List Bool) (marked : List ℕ) (forbidden : List BodyPair) (contacts : List ContactEntry) : Type 0 where
   pub shapes : IsProxyList ps
   pub within : AreWithin marks ps

@@ -53,8 +53,8 @@ pub record IsKnown (moved : ℕ → Bool) (pairs : List BodyPair) (ps : List Pro
   pub keys : All (λ e. IsPairKey e.key) old
   pub still : (k : ContactKey) → IsPairKey k → either_moved moved k ≡ false → near_key pairs ps k ≡ has_key old k
 
--- what two shapes were to one another is what they are now: neither had moved, they are as near as they were, and they have a contact where they
--- had one
+-- what two shapes were to one another is what they are now: neither had moved, they are as near as they were, and they
+-- have a contact where they had one
 pub record IsSameOf (moved : ℕ → Bool) (pairs later : List BodyPair) (ps qs : List Proxy) (old now : List ContactEntry) (k : ContactKey) : Type 0 where
   pub unmoved : either_moved moved k ≡ false
   pub near : near_key later qs k ≡ near_key pairs ps k

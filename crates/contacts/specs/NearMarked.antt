@@ -1,4 +1,5 @@
--- Inner forms of the code; no public contract rests on them. The contacts of fresh pairs, found by asking what is near each shape of a marked slot.
+-- Inner forms of the code; no public contract rests on them. The contacts of fresh pairs, found by asking what is near
+-- each shape of a marked slot.
 use Rattle.std.specs.Prelude.{◌≡◌, ℕ, zero, suc, ◌+◌, ◌*◌, ◌/◌, ◌%◌, ◌^◌, ◌<◌, Bool, cond, nat_lt, List, [], ◌∷◌, ◌++◌, Option, Some, None}
 use Rattle.std.specs.List.{Contains}
 use Rattle.std.specs.Option.{option_to_list}

@@ -17,8 +17,8 @@ pub record AreFree (contacts : List (Option NumberedContact)) (free : List ℕ) 
   pub are : (number : ℕ) → Contains free number → slice_get contacts number ≡ Some None
   pub all : (number : ℕ) → slice_get contacts number ≡ Some None → Contains free number
 
--- numbers are free just if they are listed so, for which there is room; the threads of each body have the numbers of its contacts; and no two contacts have
--- one key
+-- numbers are free just if they are listed so, for which there is room; the threads of each body have the numbers of
+-- its contacts; and no two contacts have one key
 pub record IsBook (b : NumberBook) : Type 0 where
   pub free : AreFree b.contacts.items b.free.items
   pub room : length b.contacts.items ≤ vec_capacity b.free

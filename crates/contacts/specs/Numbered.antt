@@ -38,8 +38,9 @@ pub record AreNumbered (contacts : List ContactEntry) (numbered : List (Option N
   pub only : (number : ℕ) (c : NumberedContact) → contact_at numbered number ≡ Some c → Contains (map numbered_of contacts) c
   pub once : AreKeysOnce numbered
 
--- Once a change is carried out: what it made has numbers that no contact had, what it ended leaves its numbers, and each other number has the contact with the
--- key that it had. Who is there before and after it has the number that it had.
+-- Once a change is carried out: what it made has numbers that no contact had, what it ended leaves its numbers, and
+-- each other number has the contact with the key that it had. Who is there before and after it has the number that it
+-- had.
 pub record IsTurnover (old new : List (Option NumberedContact)) (come go : List ℕ) : Type 0 where
   pub stay : (number : ℕ) → (Contains come number → ⊥) → (Contains go number → ⊥) → number_key_at new number ≡ number_key_at old number
   pub fresh : (number : ℕ) → Contains come number → contact_at old number ≡ None

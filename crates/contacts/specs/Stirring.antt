@@ -21,7 +21,8 @@ one_flagged flags e = is_flagged flags e.key.first.slot || is_flagged flags e.ke
 abbrev pub stirring_places : List Bool → (ContactKey → Bool) → List ContactEntry → List ℕ
 stirring_places flags lets_in es = places_from (λ e. one_flagged flags e && lets_in e.key) 0 es
 
--- the places of the contacts of the long list of which a body may stir: of each that counts, and maybe of some that are over
+-- the places of the contacts of the long list of which a body may stir: of each that counts, and maybe of some that are
+-- over
 pub record AreStirring (flags : List Bool) (c : Split) (places : List ℕ) : Type 0 where
   pub lets_in : ContactKey → Bool
   pub is : places ≡ stirring_places flags lets_in c.long

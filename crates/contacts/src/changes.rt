@@ -139,7 +139,7 @@ fn key_if_new(other: Option<&ContactEntry>, entry: &ContactEntry) -> Option<Cont
     }
 }
 
-/// Adds a key, if there is one. Refused 1 where memory is wanting.
+/// Adds a key, if there is one.
 pub(crate) fn push_key(keys: &mut Vec<ContactKey>, key: Option<ContactKey>) -> Result<(), Refusal>
     ensures pushed { OnOk result (keys.new.items ≡ keys.old.items ++ option_to_list key) }
     ensures memory_only { IsOkUnless result Refusal.NoMemory }
@@ -165,9 +165,10 @@ struct Past {
     end: Vec<ContactKey>,
 }
 
-/// The contacts of these pairs, and what is new in them. Refused 1 where memory is wanting.
+/// The contacts of these pairs, and what is new in them.
 ///
-/// Pairs and old contacts ascend, so each search goes on where the one before it ended. The contacts are listed in the memory of `room`.
+/// Pairs and old contacts ascend, so each search goes on where the one before it ended. The contacts are listed in the
+/// memory of `room`.
 fn contacts_of_pairs(
     room: Vec<ContactEntry>,
     old: &[ContactEntry],
@@ -201,7 +202,7 @@ fn contacts_of_pairs(
     Ok(Present { now, made, begin })
 }
 
-/// What is no longer in the contacts. Refused 1 where memory is wanting.
+/// What is no longer in the contacts.
 fn lost_keys(alloc: Global, now: &[ContactEntry], old: &[ContactEntry]) -> Result<Past, Refusal>
     requires now { AreKeysRising now.now }
     requires old { AreKeysRising old.now }
@@ -220,8 +221,8 @@ fn lost_keys(alloc: Global, now: &[ContactEntry], old: &[ContactEntry]) -> Resul
     Ok(Past { gone, end })
 }
 
-/// The contacts of these pairs, those of bodies that stir evaluated anew, and what changed. `old` are the contacts until
-/// now. Refused 1 where memory is wanting. The contacts are listed in the memory of `room`.
+/// The contacts of these pairs, those of bodies that stir evaluated anew, and what changed. `old` are the contacts
+/// until now. The contacts are listed in the memory of `room`.
 pub(crate) fn update(
     room: Vec<ContactEntry>,
     old: &[ContactEntry],

@@ -3,7 +3,8 @@
 use crate::fates::ShapesById;
 use crate::forbidden::ForbiddenPairs;
 
-/// What a collide reads: the shapes as they are now, which bodies' shapes have moved, and which bodies pass through one another.
+/// What a collide reads: the shapes as they are now, which bodies' shapes have moved, and which bodies pass through one
+/// another.
 #[derive_where(Clone, Copy)]
 pub(crate) struct Collide<'a, S: ShapesById, F: ForbiddenPairs> {
     pub shapes: &'a S,

@@ -1,5 +1,5 @@
-//! The contacts of near shapes, kept from collide to collide, so that a collide looks for new ones only where a shape has a new
-//! fat box, came or went.
+//! The contacts of near shapes, kept from collide to collide, so that a collide looks for new ones only where a shape
+//! has a new fat box, came or went.
 
 ghost use Rattle.std.specs.Prelude.{◌≡◌, ◌≤◌, ◌^◌, ◌↔◌, ◌∷◌, ◌++◌, [], ℕ, Contains, IfOk, IfSome, List, OnErr, OnOk, Some, false, length, map, slice_get, true};
 ghost use Rattle.std.specs.Result.{IsOkUnless};
@@ -57,13 +57,14 @@ struct Beside {
     spent: usize,
 }
 
-/// A contact for each pair of near shapes. Contracts see the list of them (`contacts`), what it becomes when the last collide is carried out (`pending`), by
-/// number what is known of a contact (`numbered`), the numbers of each body's contacts by side (`firsts`, `seconds`), those that the last change made and
-/// ended (`made`, `gone`), and a bound of the numbers once what is pending is carried out (`bound`).
+/// A contact for each pair of near shapes. Contracts see the list of them (`contacts`), what it becomes when the last
+/// collide is carried out (`pending`), by number what is known of a contact (`numbered`), the numbers of each body's
+/// contacts by side (`firsts`, `seconds`), those that the last change made and ended (`made`, `gone`), and a bound of
+/// the numbers once what is pending is carried out (`bound`).
 ///
-/// They are kept as a long list and a short one: where a contact comes or goes the long list stands, and the places in it hold. The two are made one
-/// when the collides since the last time have looked at as many contacts beside the long list as it has, so that this costs no more than was spent
-/// before it.
+/// They are kept as a long list and a short one: where a contact comes or goes the long list stands, and the places in
+/// it hold. The two are made one when the collides since the last time have looked at as many contacts beside the long
+/// list as it has, so that this costs no more than was spent before it.
 #[derive(Drop)]
 pub struct ContactTable {
     contacts: SplitContacts,
@@ -100,15 +101,15 @@ fn nothing_beside(alloc: Global) -> Beside
     }
 }
 
-/// Whether so many slots are marked that all near pairs are looked for as soon as those of the marked: in a small world, which is swept
-/// quickly, a twelfth of them, and else a seventh.
+/// Whether so many slots are marked that all near pairs are looked for as soon as those of the marked: in a small
+/// world, which is swept quickly, a twelfth of them, and else a seventh.
 fn are_many(marked: &[u32], marks: &[bool]) -> bool {
     let parts = if marks.len() < SMALL_WORLD { 12 } else { 7 };
     marked.len() > marks.len() / parts
 }
 
-/// Whether all near pairs are looked for: where many slots are marked, or where the marked bodies that aren't dynamic overlap more slots than there
-/// are, so that a step never costs by the square of what overlaps and can't collide. Refused 1 where memory is wanting.
+/// Whether all near pairs are looked for: where many slots are marked, or where the marked bodies that aren't dynamic
+/// overlap more slots than there are, so that a step never costs by the square of what overlaps and can't collide.
 fn is_sweep_wanted<S: ShapesById, F: ForbiddenPairs>(
     collide: &Collide<'_, S, F>,
 ) -> Result<bool, Refusal>
@@ -146,7 +147,8 @@ fn flush(alloc: Global, contacts: &mut SplitContacts, beside: &mut Beside) -> Re
     Ok(())
 }
 
-/// The same where the collides have looked at as many contacts beside the long list as it has; and what the next one looks at is counted.
+/// The same where the collides have looked at as many contacts beside the long list as it has; and what the next one
+/// looks at is counted.
 fn flush_if_spent(
     alloc: Global,
     contacts: &mut SplitContacts,
@@ -164,7 +166,7 @@ fn flush_if_spent(
     Ok(())
 }
 
-/// Notes all that a collide by all near pairs finds. Refused 1 where memory is wanting.
+/// Notes all that a collide by all near pairs finds.
 fn note_changes(
     alloc: Global,
     pending: &mut PendingUpdate,
@@ -190,7 +192,7 @@ fn note_changes(
     Ok(touches)
 }
 
-/// What a collide makes of the contacts: by all near pairs, or by what is known of them. Refused 1 where memory is wanting.
+/// What a collide makes of the contacts: by all near pairs, or by what is known of them.
 fn make_pending<S: ShapesById, F: ForbiddenPairs>(
     beside: &mut Beside,
     alloc: Global,
@@ -311,7 +313,7 @@ fn renumber(numbers: &mut NumberBook, pending: &PendingUpdate)
     }
 }
 
-/// These contacts get the numbers from 0 on. Refused 1 where memory is wanting.
+/// These contacts get the numbers from 0 on.
 fn number_all(alloc: Global, entries: &[ContactEntry]) -> Result<NumberBook, Refusal>
     requires { AreContacts entries.now }
     ensures book { IfOk result (λ numbers. IsBook numbers) }
@@ -370,7 +372,7 @@ impl ContactTable {
         }
     }
 
-    /// These contacts; nothing is pending. Refused 1 where memory is wanting.
+    /// These contacts; nothing is pending.
     pub fn from_contacts(alloc: Global, contacts: Contacts) -> Result<ContactTable, Refusal>
         ensures contacts { IfOk result (λ kept. kept.contacts ≡ contacts) }
         ensures memory_only { IsOkUnless result Refusal.NoMemory }
@@ -386,7 +388,7 @@ impl ContactTable {
         })
     }
 
-    /// A copy, of which nothing is pending. Refused 1 where memory is wanting.
+    /// A copy, of which nothing is pending.
     pub fn try_copy(&self, alloc: Global) -> Result<ContactTable, Refusal>
         ensures copy { IfOk result (λ copied. copied.contacts ≡ self.now.contacts) }
         ensures memory_only { IsOkUnless result Refusal.NoMemory }
@@ -414,7 +416,7 @@ impl ContactTable {
         }
     }
 
-    /// A list of the contacts, ascending by key. Refused 1 where memory is wanting.
+    /// A list of the contacts, ascending by key.
     pub fn to_entries(&self, alloc: Global) -> Result<Vec<ContactEntry>, Refusal>
         ensures value { IfOk result (λ entries. entries.items ≡ self.now.contacts) }
         ensures contacts { IfOk result (λ entries. AreContacts entries.items) }
@@ -441,8 +443,8 @@ impl ContactTable {
         self.numbers.contact(number)
     }
 
-    /// The number of the contact with this key, if there is one. It costs by the shorter of two threads: those of the contacts whose first body is the key's
-    /// first one, and of those whose second body is its second one.
+    /// The number of the contact with this key, if there is one. It costs by the shorter of two threads: those of the
+    /// contacts whose first body is the key's first one, and of those whose second body is its second one.
     pub fn number_of(&self, key: ContactKey) -> Option<u32>
         ensures number { (number : ℕ) → (result ≡ Some number) ↔ (number_key_at self.now.numbered number ≡ Some key) }
     {
@@ -491,7 +493,8 @@ impl ContactTable {
         self.numbers.gone()
     }
 
-    /// Drops the contacts of the body in a slot; nothing is pending then. Takes no memory. Each of them takes a search of both lists.
+    /// Drops the contacts of the body in a slot; nothing is pending then. Takes no memory. Each of them takes a search
+    /// of both lists.
     pub fn drop_of_body(&mut self, slot: u32)
         ensures contacts { self.new.contacts ≡ contacts_without slot self.old.contacts }
         ensures turnover { IsTurnover self.old.numbered self.new.numbered self.new.made self.new.gone }
@@ -502,8 +505,9 @@ impl ContactTable {
         self.contacts.know_ascending();
     }
 
-    /// Gives the points of the contact with this key these impulses, in mass·u/tick. Without any for the second point that stays as it is, and so do
-    /// all contacts where there is none with the key. It is looked for at `place` of the long list first. Nothing is pending then.
+    /// Gives the points of the contact with this key these impulses, in mass·u/tick. Without any for the second point
+    /// that stays as it is, and so do all contacts where there is none with the key. It is looked for at `place` of the
+    /// long list first. Nothing is pending then.
     #[inline(always)]
     pub fn set_impulses(
         &mut self,
@@ -520,16 +524,17 @@ impl ContactTable {
         self.contacts.know_ascending();
     }
 
-    /// A collide of the shapes as they are now, in which the bodies of the forbidden pairs pass through
-    /// one another: what the contacts become by it is pending, and they stay as they are until it is carried out. Refused 1 where memory is
-    /// wanting.
+    /// A collide of the shapes as they are now, in which the bodies of the forbidden pairs pass through one another:
+    /// what the contacts become by it is pending, and they stay as they are until it is carried out.
     ///
-    /// `marks` tell by slot which bodies' shapes have moved, and `marked` are the slots that are marked: two shapes that haven't moved are near and
-    /// may touch just where they have a contact, so new ones are looked for only where one has.
+    /// `marks` tell by slot which bodies' shapes have moved, and `marked` are the slots that are marked: two shapes
+    /// that haven't moved are near and may touch just where they have a contact, so new ones are looked for only where
+    /// one has.
     ///
-    /// A contact is evaluated anew if one of its two bodies stirs, and else stays as it is. A pair that had a contact keeps its surface, and the
-    /// impulses of its points by their candidates; a new pair gets a contact with what its shapes' surfaces mix to. A contact ends that touched
-    /// and doesn't any more, also where its shapes are no longer near or its bodies may no longer collide. What [`ContactTable::made`] tells isn't known then.
+    /// A contact is evaluated anew if one of its two bodies stirs, and else stays as it is. A pair that had a contact
+    /// keeps its surface, and the impulses of its points by their candidates; a new pair gets a contact with what its
+    /// shapes' surfaces mix to. A contact ends that touched and doesn't any more, also where its shapes are no longer
+    /// near or its bodies may no longer collide. What [`ContactTable::made`] tells isn't known then.
     pub fn collide<S: ShapesById, F: ForbiddenPairs>(
         &mut self,
         alloc: Global,

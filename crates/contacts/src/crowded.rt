@@ -1,5 +1,5 @@
-//! Whether the marked bodies that aren't dynamic overlap so many others that a sweep of all shapes costs less than asking what is near
-//! each: two bodies that aren't dynamic never collide, which a sweep knows beforehand.
+//! Whether the marked bodies that aren't dynamic overlap so many others that a sweep of all shapes costs less than
+//! asking what is near each: two bodies that aren't dynamic never collide, which a sweep knows beforehand.
 
 ghost use Rattle.std.specs.Result.{IsOkUnless};
 
@@ -8,7 +8,7 @@ use contacts_base::ShapeId;
 use fixed_geom::Refusal;
 use shapes::MAX_SHAPES;
 
-/// How many slots overlap the shape with this name, if it is there. Refused 1 where memory is wanting.
+/// How many slots overlap the shape with this name, if it is there.
 fn count_of_shape<S: ShapesById>(shapes: &S, id: ShapeId) -> Result<usize, Refusal>
     ensures memory_only { IsOkUnless result Refusal.NoMemory }
 {
@@ -18,7 +18,7 @@ fn count_of_shape<S: ShapesById>(shapes: &S, id: ShapeId) -> Result<usize, Refus
     }
 }
 
-/// How many slots overlap the shapes of a slot, with those of each counted. Refused 1 where memory is wanting.
+/// How many slots overlap the shapes of a slot, with those of each counted.
 fn count_of_slot<S: ShapesById>(shapes: &S, slot: u32) -> Result<usize, Refusal>
     ensures memory_only { IsOkUnless result Refusal.NoMemory }
 {
@@ -41,8 +41,8 @@ fn is_immovable<S: ShapesById>(shapes: &S, slot: u32) -> bool {
     }
 }
 
-/// Whether the shapes of those of these slots whose bodies aren't dynamic overlap more than `most` slots, with those of each shape counted.
-/// It decides the time alone. Refused 1 where memory is wanting.
+/// Whether the shapes of those of these slots whose bodies aren't dynamic overlap more than `most` slots, with those of
+/// each shape counted. It decides the time alone.
 pub(crate) fn are_crowded<S: ShapesById>(
     shapes: &S,
     marked: &[u32],

@@ -40,7 +40,8 @@ fn end_side(numbers: &mut NumberBook, contacts: &mut SplitContacts, side: Side, 
     }
 }
 
-/// The contacts of the body in a slot go, and their numbers are free. Takes no memory. Each of them takes a search of both lists.
+/// The contacts of the body in a slot go, and their numbers are free. Takes no memory. Each of them takes a search of
+/// both lists.
 pub(crate) fn drop_of_body(numbers: &mut NumberBook, contacts: &mut SplitContacts, slot: u32)
     requires book { IsBook numbers.old }
     requires numbered { AreNumbered (contacts_in contacts.old) numbers.old.contacts.items }

@@ -1,7 +1,8 @@
-//! Which contacts are a body's: by body the numbers of the contacts whose first body it is, and of those whose second one it is.
+//! Which contacts are a body's: by body the numbers of the contacts whose first body it is, and of those whose second
+//! one it is.
 //!
-//! As with Box2D's contact edges, a contact is in a thread of its first body and in one of its second, and comes and goes in constant time. Room for a
-//! contact is room in both, whatever its bodies are.
+//! As with Box2D's contact edges, a contact is in a thread of its first body and in one of its second, and comes and
+//! goes in constant time. Room for a contact is room in both, whatever its bodies are.
 
 ghost use Rattle.std.specs.Prelude.{◌≡◌, ◌<◌, ◌≤◌, ◌∷◌, ◌++◌, ℕ, [], List, Contains, OnErr, OnOk, length, slice_get};
 ghost use Rattle.std.specs.Result.{IsOkUnless};
@@ -42,8 +43,8 @@ impl ContactEnds {
         }
     }
 
-    /// Makes room for contacts whose numbers are below `contacts`, of bodies in slots below `bodies`. Refused 1 where memory is wanting, or there would be
-    /// more than `MAX_ITEMS` contacts. Changes no thread.
+    /// Makes room for contacts whose numbers are below `contacts`, of bodies in slots below `bodies`. Refused 1 where
+    /// memory is wanting, or there would be more than `MAX_ITEMS` contacts. Changes no thread.
     pub fn reserve(&mut self, contacts: usize, bodies: usize) -> Result<(), Refusal>
         ensures firsts { OnOk result (bodies ≤ length self.new.firsts.sets) }
         ensures seconds { OnOk result (bodies ≤ length self.new.seconds.sets) }
@@ -56,8 +57,8 @@ impl ContactEnds {
         self.seconds.reserve(bodies, contacts)
     }
 
-    /// What is known of the threads: in those of one side no number is twice, and each is below a number. The function does nothing; its contract is the
-    /// law.
+    /// What is known of the threads: in those of one side no number is twice, and each is below a number. The function
+    /// does nothing; its contract is the law.
     #[inline(always)]
     pub fn know_once(&self)
         ensures firsts { IsOnce self.now.firsts }

@@ -48,12 +48,12 @@ pub trait ShapesById {
         ensures value { result.now ≡ carried self.now }
         ensures stirring { (n : ℕ) → stirs_in (found (proxies self.now) n) ≡ true → Contains (awake self.now) (n / 256) ⊎ Contains (carried self.now) (n / 256) };
 
-    /// The slots of all bodies with a shape whose fat box overlaps the wanted one, and perhaps of others. Refused 1 where memory is wanting.
+    /// The slots of all bodies with a shape whose fat box overlaps the wanted one, and perhaps of others.
     fn overlapping(&self, wanted: &Box2) -> Result<Vec<u32>, Refusal>
         ensures complete { IfOk result (λ slots. All (λ p. overlaps p.fat wanted.now ≡ true → Contains slots.items p.id.slot) (proxies self.now)) }
         ensures memory_only { IsOkUnless result Refusal.NoMemory };
 
-    /// Fills a broad phase with the shapes. Refused 1 where memory is wanting.
+    /// Fills a broad phase with the shapes.
     fn gather(&self, broad: &mut PairSweep) -> Result<(), Refusal>
         ensures gathered { OnOk result (broad.new ≡ proxies self.now) }
         ensures memory_only { IsOkUnless result Refusal.NoMemory };
@@ -131,8 +131,8 @@ fn points_again<S: ShapesById>(shapes: &S, entry: &ContactEntry) -> PackedContac
     contact_with(Some(entry), &p, &q)
 }
 
-/// What becomes of a contact: it goes where one of its shapes has moved and they are no longer near, and else is evaluated
-/// anew if one of its bodies stirs.
+/// What becomes of a contact: it goes where one of its shapes has moved and they are no longer near, and else is
+/// evaluated anew if one of its bodies stirs.
 pub(crate) fn fate_of<S: ShapesById, F: ForbiddenPairs>(
     collide: &Collide<'_, S, F>,
     entry: &ContactEntry,
@@ -212,7 +212,7 @@ pub(crate) fn begun_key(entry: &ContactEntry, fate: &Fate) -> Option<ContactKey>
     }
 }
 
-/// Notes what the contact at a place becomes, if it is evaluated anew. Refused 1 where memory is wanting.
+/// Notes what the contact at a place becomes, if it is evaluated anew.
 pub(crate) fn note(notes: &mut Vec<Renewal>, place: usize, fate: &Fate) -> Result<(), Refusal>
     ensures noted { OnOk result (notes.new.items ≡ notes.old.items ++ noted place fate.now) }
     ensures memory_only { IsOkUnless result Refusal.NoMemory }
@@ -230,7 +230,7 @@ pub(crate) fn note(notes: &mut Vec<Renewal>, place: usize, fate: &Fate) -> Resul
     }
 }
 
-/// Notes the place of a contact that goes. Refused 1 where memory is wanting.
+/// Notes the place of a contact that goes.
 pub(crate) fn note_end(ends: &mut Vec<usize>, place: usize, fate: &Fate) -> Result<(), Refusal>
     ensures noted { OnOk result (ends.new.items ≡ ends.old.items ++ ending place fate.now) }
     ensures memory_only { IsOkUnless result Refusal.NoMemory }

@@ -62,7 +62,7 @@ fn is_allowed<F: ForbiddenPairs>(forbidden: &F, proxies: &[Proxy], code: u64) ->
     !is_forbidden(forbidden, &proxies[first], &proxies[second])
 }
 
-/// Adds a pair's code, if it is wanted. Refused 1 where memory is wanting.
+/// Adds a pair's code, if it is wanted.
 fn push_if(codes: &mut Vec<u64>, wanted: bool, code: u64) -> Result<(), Refusal>
     ensures pushed { OnOk result (codes.new.items ≡ codes.old.items ++ cond wanted (code ∷ []) []) }
     ensures memory_only { IsOkUnless result Refusal.NoMemory }
@@ -73,8 +73,7 @@ fn push_if(codes: &mut Vec<u64>, wanted: bool, code: u64) -> Result<(), Refusal>
     Ok(())
 }
 
-/// Fills `allowed` with the codes of those pairs of shapes whose bodies aren't among the forbidden pairs. Refused 1 where memory is
-/// wanting.
+/// Fills `allowed` with the codes of those pairs of shapes whose bodies aren't among the forbidden pairs.
 pub(crate) fn list_allowed<F: ForbiddenPairs>(
     allowed: &mut Vec<u64>,
     forbidden: &F,

@@ -4,9 +4,10 @@
 //! its `update_contacts` makes the new list of contacts and says which were made, which are gone,
 //! and which began or ended to touch.
 //!
-//! `ContactTable` has the contacts of a world from one collide to the next. A collide looks for new ones only where a shape has a
-//! new fat box, came or went; where much has moved, it goes over all shapes by `PairSweep`. Each contact has a number for as long as it is there, and a body
-//! has two threads of the numbers of its contacts, one for each `Side`.
+//! `ContactTable` has the contacts of a world from one collide to the next. A collide looks for new ones only where a
+//! shape has a new fat box, came or went; where much has moved, it goes over all shapes by `PairSweep`. Each contact
+//! has a number for as long as it is there, and a body has two threads of the numbers of its contacts, one for each
+//! `Side`.
 #![tactic(auto)]
 
 mod changes;

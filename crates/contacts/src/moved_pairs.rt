@@ -1,5 +1,5 @@
-//! The contacts of near pairs that have none yet, found by asking what is near each shape of a marked slot: where few are
-//! marked, that costs less than a sweep of all.
+//! The contacts of near pairs that have none yet, found by asking what is near each shape of a marked slot: where few
+//! are marked, that costs less than a sweep of all.
 
 ghost use Rattle.std.specs.Prelude.{◌≡◌, ◌++◌, ◌/◌, ◌%◌, ◌^◌, ◌<◌, All, IfOk, OnOk};
 ghost use Rattle.std.specs.List.Sorted.{IsStrictlyIncreasing};
@@ -60,7 +60,7 @@ fn number_with<S: ShapesById>(shapes: &S, p: &Proxy, id: ShapeId) -> Option<u128
     }
 }
 
-/// Adds a number, if there is one. Refused 1 where memory is wanting.
+/// Adds a number, if there is one.
 fn push_number(numbers: &mut Vec<u128>, number: Option<u128>) -> Result<(), Refusal>
     ensures pushed { OnOk result (numbers.new.items ≡ numbers.old.items ++ option_to_list number) }
     ensures memory_only { IsOkUnless result Refusal.NoMemory }
@@ -71,7 +71,7 @@ fn push_number(numbers: &mut Vec<u128>, number: Option<u128>) -> Result<(), Refu
     Ok(())
 }
 
-/// Adds the numbers of a shape with those of a slot. Refused 1 where memory is wanting.
+/// Adds the numbers of a shape with those of a slot.
 fn push_numbers_in<S: ShapesById>(
     numbers: &mut Vec<u128>,
     shapes: &S,
@@ -91,7 +91,7 @@ fn push_numbers_in<S: ShapesById>(
     Ok(())
 }
 
-/// Adds the numbers of a shape with those of these slots. Refused 1 where memory is wanting.
+/// Adds the numbers of a shape with those of these slots.
 fn push_numbers_with<S: ShapesById>(
     numbers: &mut Vec<u128>,
     shapes: &S,
@@ -107,7 +107,7 @@ fn push_numbers_with<S: ShapesById>(
     Ok(())
 }
 
-/// Adds the numbers of the pairs that the shape with a name makes. Refused 1 where memory is wanting.
+/// Adds the numbers of the pairs that the shape with a name makes.
 fn push_numbers_of<S: ShapesById>(
     numbers: &mut Vec<u128>,
     shapes: &S,
@@ -126,7 +126,7 @@ fn push_numbers_of<S: ShapesById>(
     Ok(())
 }
 
-/// Adds the numbers of the pairs that the shapes of a slot make. Refused 1 where memory is wanting.
+/// Adds the numbers of the pairs that the shapes of a slot make.
 fn push_numbers_of_slot<S: ShapesById>(
     numbers: &mut Vec<u128>,
     shapes: &S,
@@ -147,7 +147,7 @@ fn push_numbers_of_slot<S: ShapesById>(
     Ok(())
 }
 
-/// Adds the numbers of the pairs that the shapes of these slots make. Refused 1 where memory is wanting.
+/// Adds the numbers of the pairs that the shapes of these slots make.
 fn push_numbers_of_all<S: ShapesById>(
     numbers: &mut Vec<u128>,
     shapes: &S,
@@ -163,8 +163,7 @@ fn push_numbers_of_all<S: ShapesById>(
     Ok(())
 }
 
-/// Fills `numbers` with those of the keys of the near pairs that the shapes of these slots make, ascending, each once. Refused 1 where memory
-/// is wanting.
+/// Fills `numbers` with those of the keys of the near pairs that the shapes of these slots make, ascending, each once.
 fn list_numbers<S: ShapesById>(
     numbers: &mut Vec<u128>,
     shapes: &S,
@@ -265,7 +264,7 @@ fn fresh_by<S: ShapesById, F: ForbiddenPairs>(
     fresh_of(collide, old, &p, &q)
 }
 
-/// Adds a contact, if there is one. Refused 1 where memory is wanting.
+/// Adds a contact, if there is one.
 fn push_entry(entries: &mut Vec<ContactEntry>, entry: Option<ContactEntry>) -> Result<(), Refusal>
     ensures pushed { OnOk result (entries.new.items ≡ entries.old.items ++ option_to_list entry) }
     ensures memory_only { IsOkUnless result Refusal.NoMemory }
@@ -276,8 +275,8 @@ fn push_entry(entries: &mut Vec<ContactEntry>, entry: Option<ContactEntry>) -> R
     Ok(())
 }
 
-/// The contacts of those near pairs of which a shape has moved, whose bodies aren't among the forbidden pairs, and that have none among `old`: all
-/// are of shapes of the marked slots. `numbers` is room to work in. Refused 1 where memory is wanting.
+/// The contacts of those near pairs of which a shape has moved, whose bodies aren't among the forbidden pairs, and that
+/// have none among `old`: all are of shapes of the marked slots. `numbers` is room to work in.
 pub(crate) fn fresh_of_marked<S: ShapesById, F: ForbiddenPairs>(
     alloc: Global,
     numbers: &mut Vec<u128>,

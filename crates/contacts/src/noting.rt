@@ -1,5 +1,5 @@
-//! What a collide does to the numbers of contacts, noted until it is carried out: which contacts come, and the keys of those that go, that begin to touch, and
-//! that end.
+//! What a collide does to the numbers of contacts, noted until it is carried out: which contacts come, and the keys of
+//! those that go, that begin to touch, and that end.
 
 ghost use Rattle.std.specs.Prelude.{◌≡◌, ◌++◌, OnOk, map, option_map, slice_get};
 ghost use Rattle.std.specs.List.{filter_map};
@@ -26,7 +26,7 @@ fn numbered(entry: &ContactEntry) -> NumberedContact
     }
 }
 
-/// Notes that these contacts come, and no others. Refused 1 where memory is wanting.
+/// Notes that these contacts come, and no others.
 pub(crate) fn note_fresh(
     made: &mut Vec<NumberedContact>,
     entries: &[ContactEntry],
@@ -41,7 +41,7 @@ pub(crate) fn note_fresh(
     Ok(())
 }
 
-/// Adds what the number of a contact tells of it, if there is a contact. Refused 1 where memory is wanting.
+/// Adds what the number of a contact tells of it, if there is a contact.
 fn push_numbered(
     made: &mut Vec<NumberedContact>,
     entry: Option<&ContactEntry>,
@@ -55,7 +55,7 @@ fn push_numbered(
     Ok(())
 }
 
-/// Notes which contacts come: those that have these keys, and no others. Refused 1 where memory is wanting.
+/// Notes which contacts come: those that have these keys, and no others.
 pub(crate) fn note_made(
     made: &mut Vec<NumberedContact>,
     entries: &[ContactEntry],
@@ -85,7 +85,7 @@ fn key_at(entries: &[ContactEntry], place: usize) -> Option<ContactKey>
     }
 }
 
-/// Adds the keys of the contacts at these places, which go. Refused 1 where memory is wanting.
+/// Adds the keys of the contacts at these places, which go.
 pub(crate) fn note_ended(
     gone: &mut Vec<ContactKey>,
     entries: &[ContactEntry],
@@ -100,7 +100,7 @@ pub(crate) fn note_ended(
     Ok(())
 }
 
-/// Becomes a copy of a list. Refused 1 where memory is wanting.
+/// Becomes a copy of a list.
 fn copy_keys(to: &mut Vec<ContactKey>, keys: &[ContactKey]) -> Result<(), Refusal>
     ensures copied { OnOk result (to.new.items ≡ keys.now) }
     ensures memory_only { IsOkUnless result Refusal.NoMemory }
@@ -110,7 +110,7 @@ fn copy_keys(to: &mut Vec<ContactKey>, keys: &[ContactKey]) -> Result<(), Refusa
     Ok(())
 }
 
-/// Notes which contacts begin to touch and which end. Refused 1 where memory is wanting.
+/// Notes which contacts begin to touch and which end.
 pub(crate) fn note_touches(pending: &mut PendingUpdate, touches: &Touches) -> Result<(), Refusal>
     ensures begin { OnOk result (pending.new.begin.items ≡ touches.now.begin.items) }
     ensures end { OnOk result (pending.new.end.items ≡ touches.now.end.items) }

@@ -1,7 +1,8 @@
-//! The numbers of contacts: a contact keeps its number for as long as it is there, wherever it stands in the lists of contacts.
+//! The numbers of contacts: a contact keeps its number for as long as it is there, wherever it stands in the lists of
+//! contacts.
 //!
-//! By a number the key of its contact is known, and whether it touches. The number isn't part of the contact, which is compared, saved and digested. The
-//! number that was let go last is the first to be given again.
+//! By a number the key of its contact is known, and whether it touches. The number isn't part of the contact, which is
+//! compared, saved and digested. The number that was let go last is the first to be given again.
 
 ghost use Rattle.std.specs.Prelude.{◌≡◌, ◌↔◌, ◌≢◌, ◌<◌, ◌≤◌, ◌+◌, ◌∷◌, ◌++◌, ℕ, true, [], List, None, OnErr, OnOk, Option, Some, length, slice_set, vec_capacity};
 ghost use Rattle.std.specs.Option.{is_some};
@@ -34,7 +35,8 @@ pub struct NumberedContact {
 pub(crate) struct NumberBook {
     // By number the contact that has it.
     pub contacts: Vec<Option<NumberedContact>>,
-    // The numbers below the length of `contacts` that no contact has, the last one let go at the end. There is room for as many as there are numbers.
+    // The numbers below the length of `contacts` that no contact has, the last one let go at the end. There is room for
+    // as many as there are numbers.
     pub free: Vec<u32>,
     pub ends: ContactEnds,
     // The numbers of the contacts that the last change made. It makes all before it ends some.
@@ -52,7 +54,7 @@ fn push_reserved<T: Copy>(list: &mut Vec<T>, item: T)
     let _ = list.push(item);
 }
 
-/// Empties a list, and makes room in it for so many items. Refused 1 where memory is wanting.
+/// Empties a list, and makes room in it for so many items.
 fn make_room(list: &mut Vec<u32>, count: usize) -> Result<(), Refusal>
     ensures empty { list.new.items ≡ [] }
     ensures room { OnOk result (count ≤ vec_capacity list.new) }
@@ -104,7 +106,8 @@ fn take_new(contacts: &mut Vec<Option<NumberedContact>>, contact: NumberedContac
     number
 }
 
-/// Gives a contact a number that no contact has: the one that was let go last, or else a new one, for which there is room.
+/// Gives a contact a number that no contact has: the one that was let go last, or else a new one, for which there is
+/// room.
 fn take(
     contacts: &mut Vec<Option<NumberedContact>>,
     free: &mut Vec<u32>,
@@ -161,8 +164,9 @@ impl NumberBook {
         }
     }
 
-    /// Makes room for a change that makes so many contacts at most, of bodies in slots below `bodies`. Refused 1 where memory is wanting, or there would be
-    /// more than [`MAX_CONTACTS`]. No number changes; which contacts the last change made isn't known any more.
+    /// Makes room for a change that makes so many contacts at most, of bodies in slots below `bodies`. Refused 1 where
+    /// memory is wanting, or there would be more than [`MAX_CONTACTS`]. No number changes; which contacts the last
+    /// change made isn't known any more.
     fn reserve(&mut self, made: usize, bodies: usize) -> Result<(), Refusal>
         requires { IsBook self.old }
         ensures room { OnOk result (HasRoom made bodies self.new) }
@@ -181,8 +185,8 @@ impl NumberBook {
         make_room(&mut self.made, made)
     }
 
-    /// Makes room for a change that makes these contacts. Refused 1 where memory is wanting, or there would be more than [`MAX_CONTACTS`]. No number changes;
-    /// which contacts the last change made isn't known any more.
+    /// Makes room for a change that makes these contacts. Refused 1 where memory is wanting, or there would be more
+    /// than [`MAX_CONTACTS`]. No number changes; which contacts the last change made isn't known any more.
     pub fn reserve_for(&mut self, contacts: &[NumberedContact]) -> Result<(), Refusal>
         requires { IsBook self.old }
         ensures room { OnOk result (HasRoomFor contacts.now self.new) }
@@ -224,8 +228,8 @@ impl NumberBook {
         }
     }
 
-    /// The number of the contact with a key, if there is one. It is looked for in the threads of both of its bodies at once, the newest first, so that it costs
-    /// by the shorter of the two.
+    /// The number of the contact with a key, if there is one. It is looked for in the threads of both of its bodies at
+    /// once, the newest first, so that it costs by the shorter of the two.
     pub fn number_of(&self, key: ContactKey) -> Option<u32>
         requires { IsBook self.now }
         ensures { (number : ℕ) → (result ≡ Some number) ↔ (number_key_at self.now.contacts.items number ≡ Some key) }
@@ -286,8 +290,9 @@ impl NumberBook {
         self.ended = self.free.len();
     }
 
-    /// The contact with a key, if there is one, touches or doesn't. Answers a guess at the number of the contact with the next lower key: those of a body that
-    /// came together are one behind the other in its thread, the highest key first.
+    /// The contact with a key, if there is one, touches or doesn't. Answers a guess at the number of the contact with
+    /// the next lower key: those of a body that came together are one behind the other in its thread, the highest key
+    /// first.
     fn set_touching(&mut self, guess: Option<u32>, key: ContactKey, touching: bool) -> Option<u32>
         requires { IsBook self.old }
         ensures touched { HaveTouched (key ∷ []) touching self.old.contacts.items self.new.contacts.items }
@@ -377,8 +382,8 @@ impl NumberBook {
         }
     }
 
-    /// The contacts with these keys, if there are any, go, the last one first: of contacts that came in one change that one stands nearest to the front of its
-    /// threads. Takes no memory.
+    /// The contacts with these keys, if there are any, go, the last one first: of contacts that came in one change that
+    /// one stands nearest to the front of its threads. Takes no memory.
     pub fn end_all(&mut self, keys: &[ContactKey])
         requires book { IsBook self.old }
         requires before { gone_of self.old ≡ [] }

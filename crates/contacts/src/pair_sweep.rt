@@ -98,7 +98,7 @@ impl PairSweep {
         Ok(())
     }
 
-    /// A copy. Refused 1 where memory is wanting.
+    /// A copy.
     pub fn try_copy(&self) -> Result<PairSweep, Refusal>
         ensures copy { IfOk result (λ copied. copied ≡ self.now) }
         ensures memory_only { IsOkUnless result Refusal.NoMemory }
@@ -127,8 +127,7 @@ impl PairSweep {
         self.proxies.as_slice()
     }
 
-    /// The numbers of all near pairs, ascending: 2^32 times the place of the one shape, and the place
-    /// of the other. Refused 1 where memory is wanting.
+    /// The numbers of all near pairs, ascending: 2^32 times the place of the one shape, and the place of the other.
     ///
     /// By a sweep along x in strips: the cost grows with the shapes and with the pairs whose fat boxes
     /// are close. The lists that it works in keep their room.
@@ -151,12 +150,13 @@ impl PairSweep {
         Ok(near)
     }
 
-    /// The contacts of the near pairs whose bodies aren't among the forbidden pairs, and what changed; `old` are the contacts until now. Refused 1
-    /// where memory is wanting. They are listed in the memory of `room`, whatever is in it.
+    /// The contacts of the near pairs whose bodies aren't among the forbidden pairs, and what changed; `old` are the
+    /// contacts until now. They are listed in the memory of `room`, whatever is in it.
     ///
-    /// A contact is evaluated anew if one of its two bodies stirs, and else stays as it is. A pair that had a contact keeps its surface, and the
-    /// impulses of its points by their candidates; a new pair gets a contact with what its shapes' surfaces mix to. A contact ends that touched and
-    /// doesn't any more, also where its shapes are no longer near or its bodies may no longer collide.
+    /// A contact is evaluated anew if one of its two bodies stirs, and else stays as it is. A pair that had a contact
+    /// keeps its surface, and the impulses of its points by their candidates; a new pair gets a contact with what its
+    /// shapes' surfaces mix to. A contact ends that touched and doesn't any more, also where its shapes are no longer
+    /// near or its bodies may no longer collide.
     pub fn update_contacts<F: ForbiddenPairs>(
         &mut self,
         room: Vec<ContactEntry>,

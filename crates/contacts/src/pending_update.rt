@@ -9,9 +9,10 @@ use crate::number_book::NumberedContact;
 use contacts_base::{ContactKey, Renewal, ShortList, SplitContacts};
 use std::alloc::Global;
 
-/// What a collide makes of the contacts, not yet carried out: of the long list what becomes of the contacts at some places, and which of them are
-/// over; and the short list anew, if one of it changes or contacts come. Or all contacts anew. And what that does to the numbers: which contacts come, and
-/// the keys of those that go, that begin to touch, and that end to touch.
+/// What a collide makes of the contacts, not yet carried out: of the long list what becomes of the contacts at some
+/// places, and which of them are over; and the short list anew, if one of it changes or contacts come. Or all contacts
+/// anew. And what that does to the numbers: which contacts come, and the keys of those that go, that begin to touch,
+/// and that end to touch.
 #[derive(Drop)]
 pub(crate) struct PendingUpdate {
     // What contacts of the long list become.

@@ -41,8 +41,8 @@ pub(crate) struct Rebuilt {
     pub gone: Vec<ContactKey>,
 }
 
-/// Adds a contact, and before it the fresh ones from a place on that come first. Answers the place of the next fresh one. Refused 1 where
-/// memory is wanting.
+/// Adds a contact, and before it the fresh ones from a place on that come first. Answers the place of the next fresh
+/// one.
 fn push_with(
     all: &mut Vec<ContactEntry>,
     fresh: &[ContactEntry],
@@ -59,8 +59,8 @@ fn push_with(
     Ok(next)
 }
 
-/// Adds what a contact becomes, if it stays, and before it the fresh ones from a place on that come first. Answers the place of the next
-/// fresh one. Refused 1 where memory is wanting.
+/// Adds what a contact becomes, if it stays, and before it the fresh ones from a place on that come first. Answers the
+/// place of the next fresh one.
 fn push_after_fate(
     all: &mut Vec<ContactEntry>,
     fresh: &[ContactEntry],
@@ -87,7 +87,7 @@ fn push_after_fate(
     }
 }
 
-/// Goes over the old contacts that aren't over once, and adds the fresh ones in their places. Refused 1 where memory is wanting.
+/// Goes over the old contacts that aren't over once, and adds the fresh ones in their places.
 fn fate_each<S: ShapesById, F: ForbiddenPairs>(
     alloc: Global,
     collide: &Collide<'_, S, F>,
@@ -144,7 +144,7 @@ fn key_of_touching(entry: &ContactEntry) -> Option<ContactKey>
     }
 }
 
-/// The keys of those contacts that touch. Refused 1 where memory is wanting.
+/// The keys of those contacts that touch.
 fn keys_of_touching(alloc: Global, fresh: &[ContactEntry]) -> Result<Vec<ContactKey>, Refusal>
     ensures value { IfOk result (λ keys. keys.items ≡ filter_map (key_if_new None) fresh.now) }
     ensures memory_only { IsOkUnless result Refusal.NoMemory }
@@ -156,7 +156,7 @@ fn keys_of_touching(alloc: Global, fresh: &[ContactEntry]) -> Result<Vec<Contact
     Ok(keys)
 }
 
-/// The list anew, of those that there were and aren't over, and the fresh ones. Refused 1 where memory is wanting.
+/// The list anew, of those that there were and aren't over, and the fresh ones.
 pub(crate) fn rebuild<S: ShapesById, F: ForbiddenPairs>(
     alloc: Global,
     collide: &Collide<'_, S, F>,

@@ -36,7 +36,8 @@ pub(crate) struct Stirring {
     // The slots whose flag is set, each once.
     pub flagged: Vec<u32>,
     pub places: Vec<usize>,
-    // Whether the places have all contacts of the long list that count and of which a body may stir. Some at them may be over.
+    // Whether the places have all contacts of the long list that count and of which a body may stir. Some at them may
+    // be over.
     pub holds: bool,
 }
 
@@ -104,7 +105,7 @@ fn are_complete<S: ShapesById, F: ForbiddenPairs>(
     are_flagged(flags, collide.shapes.carried())
 }
 
-/// Flags a slot that has a flag, if that isn't set. Refused 1 where memory is wanting.
+/// Flags a slot that has a flag, if that isn't set.
 fn flag_slot(flags: &mut Vec<bool>, flagged: &mut Vec<u32>, slot: u32) -> Result<(), Refusal>
     requires { AreFlagsListed flags.old.items flagged.old.items }
     ensures flagged { AreFlagsListed flags.new.items flagged.new.items }
@@ -117,7 +118,7 @@ fn flag_slot(flags: &mut Vec<bool>, flagged: &mut Vec<u32>, slot: u32) -> Result
     Ok(())
 }
 
-/// Flags these slots. Refused 1 where memory is wanting.
+/// Flags these slots.
 fn flag(flags: &mut Vec<bool>, flagged: &mut Vec<u32>, slots: &[u32]) -> Result<(), Refusal>
     requires { AreFlagsListed flags.old.items flagged.old.items }
     ensures flagged { AreFlagsListed flags.new.items flagged.new.items }
@@ -129,7 +130,7 @@ fn flag(flags: &mut Vec<bool>, flagged: &mut Vec<u32>, slots: &[u32]) -> Result<
     Ok(())
 }
 
-/// Flags the slots of all bodies that stir, and those that are marked. Refused 1 where memory is wanting.
+/// Flags the slots of all bodies that stir, and those that are marked.
 fn flag_stirring<S: ShapesById, F: ForbiddenPairs>(
     flags: &mut Vec<bool>,
     flagged: &mut Vec<u32>,
@@ -154,8 +155,8 @@ fn unflag(flags: &mut Vec<bool>, flagged: &[u32])
     }
 }
 
-/// Gives each slot below `slots` a flag that isn't set, in a time that goes by those that are set, where there are as many flags as that. Refused 1
-/// where memory is wanting.
+/// Gives each slot below `slots` a flag that isn't set, in a time that goes by those that are set, where there are as
+/// many flags as that.
 fn clear_flags(flags: &mut Vec<bool>, flagged: &mut Vec<u32>, slots: usize) -> Result<(), Refusal>
     requires { AreFlagsListed flags.old.items flagged.old.items }
     ensures flagged { AreFlagsListed flags.new.items flagged.new.items }
@@ -167,7 +168,7 @@ fn clear_flags(flags: &mut Vec<bool>, flagged: &mut Vec<u32>, slots: usize) -> R
     Ok(())
 }
 
-/// Flags all bodies that stir, and all slots that are marked. Refused 1 where memory is wanting.
+/// Flags all bodies that stir, and all slots that are marked.
 fn flag_anew<S: ShapesById, F: ForbiddenPairs>(
     stirring: &mut Stirring,
     collide: &Collide<'_, S, F>,
@@ -192,7 +193,7 @@ fn flag_anew<S: ShapesById, F: ForbiddenPairs>(
     Ok(())
 }
 
-/// Adds a place, if it is wanted. Refused 1 where memory is wanting.
+/// Adds a place, if it is wanted.
 fn push_place(places: &mut Vec<usize>, wanted: bool, place: usize) -> Result<(), Refusal>
     ensures pushed { OnOk result (places.new.items ≡ places.old.items ++ cond wanted (place ∷ []) []) }
     ensures memory_only { IsOkUnless result Refusal.NoMemory }
@@ -203,7 +204,7 @@ fn push_place(places: &mut Vec<usize>, wanted: bool, place: usize) -> Result<(),
     Ok(())
 }
 
-/// Lists the places of those contacts of which a body may stir in a pass over all. Refused 1 where memory is wanting.
+/// Lists the places of those contacts of which a body may stir in a pass over all.
 fn scan_places(
     places: &mut Vec<usize>,
     flags: &[bool],
@@ -229,8 +230,8 @@ fn has_key(entry: Option<&ContactEntry>, key: ContactKey) -> bool
     }
 }
 
-/// Adds the place in a list of the contact with the key of this one, if it is there. It is looked for from the hint on, which becomes where the search ended.
-/// Refused 1 where memory is wanting.
+/// Adds the place in a list of the contact with the key of this one, if it is there. It is looked for from the hint on,
+/// which becomes where the search ended.
 fn push_place_of(
     places: &mut Vec<usize>,
     hint: &mut usize,
@@ -248,7 +249,7 @@ fn push_place_of(
     Ok(())
 }
 
-/// Adds the places in a list of the contacts that have the body in a slot on one side. Refused 1 where memory is wanting.
+/// Adds the places in a list of the contacts that have the body in a slot on one side.
 fn push_side(
     places: &mut Vec<usize>,
     entries: &[ContactEntry],
@@ -271,7 +272,7 @@ fn push_side(
     Ok(())
 }
 
-/// Lists the places in a list of the contacts of the bodies in these slots, one body after the other. Refused 1 where memory is wanting.
+/// Lists the places in a list of the contacts of the bodies in these slots, one body after the other.
 fn push_places(
     places: &mut Vec<usize>,
     slots: &[u32],
@@ -291,7 +292,7 @@ fn push_places(
     Ok(())
 }
 
-/// Lists the places in a list of the contacts of the bodies in these slots, ascending. Refused 1 where memory is wanting.
+/// Lists the places in a list of the contacts of the bodies in these slots, ascending.
 fn gather_places(
     places: &mut Vec<usize>,
     slots: &[u32],
@@ -310,8 +311,8 @@ fn gather_places(
     Ok(())
 }
 
-/// Lists the places of those contacts of which a body may stir: where few are flagged, that takes a search for each of their contacts. Refused 1 where
-/// memory is wanting.
+/// Lists the places of those contacts of which a body may stir: where few are flagged, that takes a search for each of
+/// their contacts.
 fn list_places(
     places: &mut Vec<usize>,
     flags: &[bool],
@@ -357,7 +358,7 @@ fn do_serve<S: ShapesById, F: ForbiddenPairs>(
     are_complete(&stirring.flags, collide)
 }
 
-/// Puts the flags right. Refused 1 where memory is wanting.
+/// Puts the flags right.
 fn refresh_flags<S: ShapesById, F: ForbiddenPairs>(
     stirring: &mut Stirring,
     collide: &Collide<'_, S, F>,
@@ -375,7 +376,7 @@ fn refresh_flags<S: ShapesById, F: ForbiddenPairs>(
     flag_anew(stirring, collide)
 }
 
-/// Puts the places right. Refused 1 where memory is wanting.
+/// Puts the places right.
 fn refresh_places(
     stirring: &mut Stirring,
     contacts: &SplitContacts,
@@ -403,9 +404,9 @@ fn refresh_places(
     Ok(())
 }
 
-/// Puts flags and places right for a collide: they have all contacts of the long list of which a body stirs or has a marked slot. What they were
-/// made of before serves as long as it has all that, so that a step in which no body wakes costs by what stirs. Changes no contact. Refused 1 where
-/// memory is wanting.
+/// Puts flags and places right for a collide: they have all contacts of the long list of which a body stirs or has a
+/// marked slot. What they were made of before serves as long as it has all that, so that a step in which no body wakes
+/// costs by what stirs. Changes no contact.
 pub(crate) fn refresh<S: ShapesById, F: ForbiddenPairs>(
     stirring: &mut Stirring,
     collide: &Collide<'_, S, F>,

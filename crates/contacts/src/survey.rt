@@ -20,8 +20,8 @@ use contacts_base::{Renewal, SplitContacts};
 use fixed_geom::Refusal;
 use std::alloc::Global;
 
-/// Looks at the contact at a place of the long list, and notes what becomes of it: it stays as it is where none counts there. Refused 1 where memory
-/// is wanting.
+/// Looks at the contact at a place of the long list, and notes what becomes of it: it stays as it is where none counts
+/// there.
 #[inline(always)]
 fn look_at<S: ShapesById, F: ForbiddenPairs>(
     notes: &mut Vec<Renewal>,
@@ -50,8 +50,8 @@ fn look_at<S: ShapesById, F: ForbiddenPairs>(
     Ok(fate)
 }
 
-/// Goes once over the contacts of the long list of which a body may stir, notes the points of those that are evaluated anew, and the places of those
-/// that go. Answers which of them begin to touch, and which end. Refused 1 where memory is wanting.
+/// Goes once over the contacts of the long list of which a body may stir, notes the points of those that are evaluated
+/// anew, and the places of those that go. Answers which of them begin to touch, and which end.
 pub(crate) fn look_over<S: ShapesById, F: ForbiddenPairs>(
     alloc: Global,
     notes: &mut Vec<Renewal>,

@@ -98,7 +98,7 @@ fn place_at(start: u64) -> usize
     (start % PLACES) as usize
 }
 
-/// Adds a shape in each strip that its box reaches above the one where it begins. Refused 1 where memory is wanting.
+/// Adds a shape in each strip that its box reaches above the one where it begins.
 fn push_further(starts: &mut Vec<u64>, bits: u32, place: usize, fat: &Box2) -> Result<(), Refusal>
     requires least { LEAST_BITS ≤ bits }
     requires most { bits ≤ MOST_BITS }
@@ -114,7 +114,7 @@ fn push_further(starts: &mut Vec<u64>, bits: u32, place: usize, fat: &Box2) -> R
     Ok(())
 }
 
-/// Fills `starts` with each shape in the strip where its box begins. Refused 1 where memory is wanting.
+/// Fills `starts` with each shape in the strip where its box begins.
 fn fill_firsts(starts: &mut Vec<u64>, bits: u32, boxes: &[Box2]) -> Result<(), Refusal>
     requires least { LEAST_BITS ≤ bits }
     requires most { bits ≤ MOST_BITS }
@@ -129,7 +129,7 @@ fn fill_firsts(starts: &mut Vec<u64>, bits: u32, boxes: &[Box2]) -> Result<(), R
     Ok(())
 }
 
-/// Adds each shape in the further strips that its box reaches. Refused 1 where memory is wanting.
+/// Adds each shape in the further strips that its box reaches.
 fn push_furthers(starts: &mut Vec<u64>, bits: u32, boxes: &[Box2]) -> Result<(), Refusal>
     requires least { LEAST_BITS ≤ bits }
     requires most { bits ≤ MOST_BITS }
@@ -143,11 +143,10 @@ fn push_furthers(starts: &mut Vec<u64>, bits: u32, boxes: &[Box2]) -> Result<(),
     Ok(())
 }
 
-/// Fills `starts` with all shapes in the order of the strips, and in a strip the leftmost first. Refused 1 where memory
-/// is wanting.
+/// Fills `starts` with all shapes in the order of the strips, and in a strip the leftmost first.
 ///
-/// Where slots were given out from left to right and from below, the first strips of all shapes ascend already, and so do the further
-/// ones, and the sort only merges the two.
+/// Where slots were given out from left to right and from below, the first strips of all shapes ascend already, and so
+/// do the further ones, and the sort only merges the two.
 fn list_starts(starts: &mut Vec<u64>, bits: u32, boxes: &[Box2]) -> Result<(), Refusal>
     requires least { LEAST_BITS ≤ bits }
     requires most { bits ≤ MOST_BITS }
@@ -188,7 +187,7 @@ fn near_pair(proxies: &[Proxy], place: usize, other: usize) -> Option<u64>
     pair_at(proxies, place.min(other), place.max(other))
 }
 
-/// Adds a number, if there is one. Refused 1 where memory is wanting.
+/// Adds a number, if there is one.
 fn push_found(near: &mut Vec<u64>, found: Option<u64>) -> Result<(), Refusal>
     ensures pushed { OnOk result (near.new.items ≡ near.old.items ++ option_to_list found) }
     ensures memory_only { IsOkUnless result Refusal.NoMemory }
@@ -242,8 +241,8 @@ fn end_of(boxes: &[Box2], start: u64) -> u64
     spot(strip_at(start), boxes[place_at(start)].hi.x) + (PLACES - 1)
 }
 
-/// Adds the pairs of a start with those of the others that are near it, until one begins further
-/// right than the start's box ends. Refused 1 where memory is wanting.
+/// Adds the pairs of a start with those of the others that are near it, until one begins further right than the start's
+/// box ends.
 fn push_met(
     near: &mut Vec<u64>,
     bits: u32,
@@ -278,7 +277,7 @@ fn is_dynamic_at(proxies: &[Proxy], start: u64) -> bool
     proxies[place_at(start)].dynamic
 }
 
-/// Fills `dynamics` with the starts of dynamic bodies' shapes, in their order. Refused 1 where memory is wanting.
+/// Fills `dynamics` with the starts of dynamic bodies' shapes, in their order.
 fn list_dynamics(dynamics: &mut Vec<u64>, proxies: &[Proxy], starts: &[u64]) -> Result<(), Refusal>
     requires { All (IsPlaceIn proxies.now) starts.now }
     ensures listed { OnOk result (dynamics.new.items ≡ dynamics_of proxies.now starts.now) }
@@ -308,8 +307,8 @@ fn either<'a>(is_first: bool, first: &'a [u64], second: &'a [u64]) -> &'a [u64]
     if is_first { first } else { second }
 }
 
-/// Adds the pairs that each start makes with the later ones: one of a dynamic body's shape with all of them, and any other with
-/// `dynamics`, which are the starts of dynamic bodies' shapes. Refused 1 where memory is wanting.
+/// Adds the pairs that each start makes with the later ones: one of a dynamic body's shape with all of them, and any
+/// other with `dynamics`, which are the starts of dynamic bodies' shapes.
 fn sweep(
     near: &mut Vec<u64>,
     bits: u32,
@@ -347,8 +346,8 @@ fn strip_bits(heights: u64, count: usize) -> u32
 }
 
 /// Fills `near` with the numbers of all near pairs, ascending, and uses `starts` and `dynamics` as room to work in.
-/// `boxes` are the shapes' fat boxes by themselves, so that the sweep reads little. `heights` is the
-/// sum of their heights, in u, and decides the time alone. Refused 1 where memory is wanting.
+/// `boxes` are the shapes' fat boxes by themselves, so that the sweep reads little. `heights` is the sum of their
+/// heights, in u, and decides the time alone.
 pub(crate) fn near_pairs(
     starts: &mut Vec<u64>,
     dynamics: &mut Vec<u64>,

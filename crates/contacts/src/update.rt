@@ -1,5 +1,6 @@
-//! The contacts after a collide, from what is known of the near pairs: only fresh pairs are looked for, and of the long list of contacts those alone
-//! of which a body may stir. Contacts that come go into the short list, which is made anew.
+//! The contacts after a collide, from what is known of the near pairs: only fresh pairs are looked for, and of the long
+//! list of contacts those alone of which a body may stir. Contacts that come go into the short list, which is made
+//! anew.
 
 ghost use Rattle.std.specs.Prelude.{◌≡◌, All, IfOk, None, OnOk, false, option_map, true};
 ghost use Rattle.std.specs.Result.{IsOkUnless};
@@ -46,7 +47,7 @@ fn may_one_stir(flags: &[bool], short: &ShortList) -> bool
     false
 }
 
-/// The short list anew, if contacts come or a body of one in it may stir: else it stays as it is. Refused 1 where memory is wanting.
+/// The short list anew, if contacts come or a body of one in it may stir: else it stays as it is.
 fn rebuild_if<S: ShapesById, F: ForbiddenPairs>(
     alloc: Global,
     collide: &Collide<'_, S, F>,
@@ -70,7 +71,7 @@ fn rebuild_if<S: ShapesById, F: ForbiddenPairs>(
     Ok(Some(rebuilt))
 }
 
-/// Two ascending lists of keys as one. Refused 1 where memory is wanting.
+/// Two ascending lists of keys as one.
 fn join(
     alloc: Global,
     first: Vec<ContactKey>,
@@ -90,7 +91,7 @@ fn join(
     merge(alloc, &first, &second)
 }
 
-/// What begins and ends to touch in both lists. Refused 1 where memory is wanting.
+/// What begins and ends to touch in both lists.
 fn join_touches(alloc: Global, long: Touches, short: Touches) -> Result<Touches, Refusal>
     requires long_begin { AreAscending key_number long.begin.items }
     requires long_end { AreAscending key_number long.end.items }
@@ -105,8 +106,8 @@ fn join_touches(alloc: Global, long: Touches, short: Touches) -> Result<Touches,
     Ok(Touches { begin, end })
 }
 
-/// What a collide makes of both lists, and the keys of those of the short one that go. Answers which contacts begin to touch and which end. Refused 1 where
-/// memory is wanting: what is pending then has to be cleared.
+/// What a collide makes of both lists, and the keys of those of the short one that go. Answers which contacts begin to
+/// touch and which end. Refused 1 where memory is wanting: what is pending then has to be cleared.
 fn update_lists<S: ShapesById, F: ForbiddenPairs>(
     alloc: Global,
     pending: &mut PendingUpdate,
@@ -152,11 +153,13 @@ fn update_lists<S: ShapesById, F: ForbiddenPairs>(
     }
 }
 
-/// What a collide makes of the contacts `old`, of which it is known that a near pair of shapes that haven't moved has one: `fresh` are the
-/// contacts of the near pairs that have none yet.
-/// Answers which begin to touch and which end. Refused 1 where memory is wanting: what is pending then has to be cleared.
+/// What a collide makes of the contacts `old`, of which it is known that a near pair of shapes that haven't moved has
+/// one: `fresh` are the contacts of the near pairs that have none yet.
+/// Answers which begin to touch and which end. Refused 1 where memory is wanting: what is pending then has to be
+/// cleared.
 ///
-/// A contact goes if one of its shapes has moved and they are no longer near. Of those that stay the ones are evaluated anew of which a body stirs.
+/// A contact goes if one of its shapes has moved and they are no longer near. Of those that stay the ones are evaluated
+/// anew of which a body stirs.
 pub(crate) fn update_known<S: ShapesById, F: ForbiddenPairs>(
     alloc: Global,
     pending: &mut PendingUpdate,

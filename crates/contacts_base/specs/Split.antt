@@ -1,4 +1,5 @@
--- The contacts as a long list, which stands while contacts come and go, and a short one of those that have come since it was made.
+-- The contacts as a long list, which stands while contacts come and go, and a short one of those that have come since
+-- it was made.
 use Rattle.std.specs.Prelude.{ℕ, suc, Bool, true, false, cond, List, [], ◌∷◌, Option, Some, None, slice_get, slice_index_or, slice_set}
 use Rattle.contacts_base.specs.declared.contact.ContactEntry.{ContactEntry}
 use Rattle.contacts_base.specs.declared.split.Renewal.{Renewal}
@@ -6,7 +7,8 @@ use Rattle.contacts_base.specs.Contacts.{number_of}
 use Rattle.contacts_base.specs.ContactLists.{contact_set}
 use Rattle.contacts_base.specs.Merge.{merged}
 
--- what contracts see of the two lists: the long one, by place in it which contacts are over, and those of the short one that aren't
+-- what contracts see of the two lists: the long one, by place in it which contacts are over, and those of the short one
+-- that aren't
 pub record Split : Type 0 where
   pub long : List ContactEntry
   pub over : List Bool
@@ -59,6 +61,7 @@ abbrev pub or_kept : Option (List ContactEntry) → List ContactEntry → List C
 or_kept None es = es
 or_kept (Some more) es = more
 
--- what was noted of the long list is carried out: contacts at some places have new points, those at others are over, and the short list is another, if one is given
+-- what was noted of the long list is carried out: contacts at some places have new points, those at others are over,
+-- and the short list is another, if one is given
 abbrev pub carried : List Renewal → List ℕ → Option (List ContactEntry) → Split → Split
 carried notes ends short s = record { long = renewed notes s.long; over = over_at ends s.over; short = or_kept short s.short }

@@ -35,8 +35,7 @@ impl Numbered for ContactEntry {
     }
 }
 
-/// Adds the items of `more` from `place` on that come before `item`. Answers the place of the first that doesn't. Refused 1 where
-/// memory is wanting.
+/// Adds the items of `more` from `place` on that come before `item`. Answers the place of the first that doesn't.
 pub fn push_below<T: Numbered>(
     all: &mut Vec<T>,
     more: &[T],
@@ -59,7 +58,7 @@ pub fn push_below<T: Numbered>(
     Ok(more.len())
 }
 
-/// The items of two lists that ascend, as one list. Refused 1 where memory is wanting.
+/// The items of two lists that ascend, as one list.
 pub fn merge<T: Numbered>(alloc: Global, first: &[T], second: &[T]) -> Result<Vec<T>, Refusal>
     requires first { AreAscending T.number first.now }
     requires second { AreAscending T.number second.now }

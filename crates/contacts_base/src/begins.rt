@@ -20,7 +20,7 @@ fn slots_of(entries: &[ContactEntry]) -> usize {
     }
 }
 
-/// Adds a place for each slot that has none yet, of so many. Refused 1 where memory is wanting.
+/// Adds a place for each slot that has none yet, of so many.
 #[inline(always)]
 fn fill_up(places: &mut Vec<usize>, slots: usize, place: usize) -> Result<(), Refusal>
     ensures memory_only { IsOkUnless result Refusal.NoMemory }
@@ -39,7 +39,7 @@ impl Begins {
         }
     }
 
-    /// Those of a list that ascends by key. Refused 1 where memory is wanting.
+    /// Those of a list that ascends by key.
     pub fn of(alloc: Global, entries: &[ContactEntry]) -> Result<Begins, Refusal>
         ensures memory_only { IsOkUnless result Refusal.NoMemory }
     {

@@ -43,8 +43,8 @@ pub struct ContactEntry {
     pub contact: PackedContact,
 }
 
-/// The place of the first contact whose key's number is at least `wanted`, by halving: those before `low` have lesser ones,
-/// and those from `high` on have not.
+/// The place of the first contact whose key's number is at least `wanted`, by halving: those before `low` have lesser
+/// ones, and those from `high` on have not.
 fn place_between(entries: &[ContactEntry], low: usize, high: usize, wanted: u128) -> usize
     requires rising { AreKeysRising entries.now }
     requires low { IsAllBelow entries.now wanted low }
@@ -65,9 +65,9 @@ fn place_between(entries: &[ContactEntry], low: usize, high: usize, wanted: u128
     low
 }
 
-/// The place of the first contact, from the place `from` on, whose key's number is at least `wanted`, or the list's length:
-/// it looks near `from` first, and each time twice as far (Bentley and Yao, 'An almost optimal algorithm for unbounded
-/// searching', 1976).
+/// The place of the first contact, from the place `from` on, whose key's number is at least `wanted`, or the list's
+/// length: it looks near `from` first, and each time twice as far (Bentley and Yao, 'An almost optimal algorithm for
+/// unbounded searching', 1976).
 fn place_from(entries: &[ContactEntry], from: usize, wanted: u128) -> usize
     requires rising { AreKeysRising entries.now }
     requires from { IsAllBelow entries.now wanted from }
@@ -121,8 +121,8 @@ fn start_of(entries: &[ContactEntry], hint: usize, wanted: u128) -> usize
 
 /// The place of the first contact whose key isn't below this one, in a list whose keys ascend, or the list's length.
 ///
-/// The search begins at `hint` if that place isn't beyond it, and costs the less the nearer that is: one search after another,
-/// each from where the one before it ended, goes through the list once.
+/// The search begins at `hint` if that place isn't beyond it, and costs the less the nearer that is: one search after
+/// another, each from where the one before it ended, goes through the list once.
 #[inline(always)]
 pub(crate) fn seek(entries: &[ContactEntry], hint: usize, key: ContactKey) -> usize
     requires { AreKeysRising entries.now }
@@ -154,7 +154,8 @@ fn seek_further(entries: &[ContactEntry], hint: usize, key: ContactKey) -> usize
     seek(entries, hint, key)
 }
 
-/// `seek` where the contact wanted stands mostly at the hint or a little behind it: so many places are looked at before it is searched for.
+/// `seek` where the contact wanted stands mostly at the hint or a little behind it: so many places are looked at before
+/// it is searched for.
 #[inline(always)]
 pub(crate) fn seek_near(entries: &[ContactEntry], hint: usize, key: ContactKey) -> usize
     requires { AreKeysRising entries.now }
@@ -169,8 +170,8 @@ pub(crate) fn seek_near(entries: &[ContactEntry], hint: usize, key: ContactKey) 
     seek_further(entries, hint, key)
 }
 
-/// `seek` for one key after another of a list that has mostly the same: the contact is looked for at the hint, which is the place where the last
-/// search ended, and at the next, before it is searched for.
+/// `seek` for one key after another of a list that has mostly the same: the contact is looked for at the hint, which is
+/// the place where the last search ended, and at the next, before it is searched for.
 #[inline(always)]
 pub fn seek_next(entries: &[ContactEntry], hint: usize, key: ContactKey) -> usize
     requires { AreKeysRising entries.now }
@@ -194,8 +195,8 @@ fn is_same(one: ContactKey, other: ContactKey) -> bool
     one == other
 }
 
-/// The contact with this key, where `place` is that of the first contact whose key isn't below it; `None` where there is
-/// none.
+/// The contact with this key, where `place` is that of the first contact whose key isn't below it; `None` where there
+/// is none.
 #[inline(always)]
 pub fn contact_at(entries: &[ContactEntry], place: usize, key: ContactKey) -> Option<&ContactEntry>
     requires rising { AreKeysRising entries.now }
@@ -240,8 +241,8 @@ fn find_further<'a>(
     found
 }
 
-/// The contact with this key, for one key after another of a list that has mostly the same. It is looked for at the hint, before it is searched for. The
-/// hint becomes the place where the next contact is.
+/// The contact with this key, for one key after another of a list that has mostly the same. It is looked for at the
+/// hint, before it is searched for. The hint becomes the place where the next contact is.
 #[inline(always)]
 pub fn find_next<'a>(
     entries: &'a [ContactEntry],

@@ -1,4 +1,5 @@
-//! Lists of contacts that ascend by key, of which some are over: such a contact stands in its place, and counts no more.
+//! Lists of contacts that ascend by key, of which some are over: such a contact stands in its place, and counts no
+//! more.
 
 ghost use Rattle.std.specs.Prelude.{◌≡◌, ◌≤◌, ◌++◌, ℕ, IfOk, OnOk, drop, length, option_copied, true};
 ghost use Rattle.std.specs.Result.{IsOkUnless};
@@ -62,8 +63,8 @@ pub(crate) fn end_by_key(entries: &[ContactEntry], over: &mut CountedFlags, key:
     }
 }
 
-/// Adds the contacts from a place on that aren't over and come before `entry`. Answers the place of the first that doesn't. Refused 1 where memory is
-/// wanting.
+/// Adds the contacts from a place on that aren't over and come before `entry`. Answers the place of the first that
+/// doesn't.
 pub(crate) fn push_counting_below(
     all: &mut Vec<ContactEntry>,
     more: &[ContactEntry],
@@ -91,7 +92,7 @@ pub(crate) fn push_counting_below(
     Ok(more.len())
 }
 
-/// Adds the contacts from a place on that aren't over. Refused 1 where memory is wanting.
+/// Adds the contacts from a place on that aren't over.
 pub(crate) fn push_counting(
     all: &mut Vec<ContactEntry>,
     more: &[ContactEntry],

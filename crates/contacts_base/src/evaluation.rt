@@ -100,8 +100,8 @@ pub fn evaluate(old: Option<&ContactEntry>, manifold: &Manifold) -> PackedContac
     }
 }
 
-/// What the contact of two shapes becomes by the manifold of their cores. Shapes and poses are copied here rather than by whoever calls `contact_of`,
-/// which needs little of two circles.
+/// What the contact of two shapes becomes by the manifold of their cores. Shapes and poses are copied here rather than
+/// by whoever calls `contact_of`, which needs little of two circles.
 #[inline(never)]
 fn contact_by_cores(
     old: Option<&ContactEntry>,
@@ -119,8 +119,8 @@ fn contact_by_cores(
     evaluate(old, &manifold(&a, pose_a, &b, pose_b))
 }
 
-/// What the contact of two circles becomes, of bodies with these centres, where `old` is what it was before. Where a quick look shows that they are
-/// apart, no point is computed.
+/// What the contact of two circles becomes, of bodies with these centres, where `old` is what it was before. Where a
+/// quick look shows that they are apart, no point is computed.
 #[tactic(auto, unfolding(crate::specs::Evaluate::evaluated))]
 #[inline(always)]
 fn contact_of_discs(
@@ -147,8 +147,8 @@ fn contact_of_discs(
     evaluate(old, &manifold)
 }
 
-/// What the contact of two shapes becomes, where `old` is what it was before: `evaluate` of their manifold. Two circles go by a way of their own,
-/// which is shorter.
+/// What the contact of two shapes becomes, where `old` is what it was before: `evaluate` of their manifold. Two circles
+/// go by a way of their own, which is shorter.
 #[inline(always)]
 pub fn contact_of(old: Option<&ContactEntry>, p: &Proxy, q: &Proxy) -> PackedContact
     requires first { IsProxy p.now }

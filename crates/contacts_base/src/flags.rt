@@ -50,7 +50,7 @@ impl CountedFlags {
         }
     }
 
-    /// As many flags as asked for, of which none is set. Refused 1 where memory is wanting.
+    /// As many flags as asked for, of which none is set.
     pub fn none_set(alloc: Global, len: usize) -> Result<CountedFlags, Refusal>
         ensures value { IfOk result (λ flags. flags ≡ replicate len false) }
         ensures memory_only { IsOkUnless result Refusal.NoMemory }

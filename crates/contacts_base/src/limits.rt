@@ -28,8 +28,8 @@ pub const MAX_NORMAL_IMPULSE: u64 = SOLVED_NORMAL_IMPULSE as u64;
 /// The size of an impulse across the normal, in mass·u/tick: friction is at most 2, so twice that of one along it.
 pub const MAX_TANGENT_IMPULSE: u64 = MAX_LINE_IMPULSE as u64;
 
-/// The law of the limits: the numbers that definitions take from the code, in digits. The function does nothing; its contract is
-/// the law.
+/// The law of the limits: the numbers that definitions take from the code, in digits. The function does nothing; its
+/// contract is the law.
 pub fn limits_in_digits()
     ensures friction { MAX_FRICTION ≡ 512 }
     ensures restitution { MAX_RESTITUTION ≡ 256 }
@@ -40,8 +40,9 @@ pub fn limits_in_digits()
     ensures tangent_impulse { MAX_TANGENT_IMPULSE ≡ 8796093022208 }
 {}
 
-/// The law that limits of one thing agree, wherever they are named: a contact's surface has the numbers that its shapes may have, its
-/// normal is a unit vector, and its impulses are those that the solver may leave. The function does nothing; its contract is the law.
+/// The law that limits of one thing agree, wherever they are named: a contact's surface has the numbers that its shapes
+/// may have, its normal is a unit vector, and its impulses are those that the solver may leave. The function does
+/// nothing; its contract is the law.
 pub fn limits_agree()
     ensures friction { MAX_FRICTION ≡ unsigned_abs SHAPE_FRICTION }
     ensures restitution { MAX_RESTITUTION ≡ unsigned_abs SHAPE_RESTITUTION }

@@ -1,5 +1,5 @@
-//! A contact's points in little memory, as a world keeps them: most near shapes don't touch, and their contacts are copied and
-//! walked over all the same.
+//! A contact's points in little memory, as a world keeps them: most near shapes don't touch, and their contacts are
+//! copied and walked over all the same.
 
 ghost use Rattle.std.specs.Prelude.{◌≡◌, ◌≤◌, Some, None, is_some, option_map, unsigned_abs};
 ghost use Rattle.contacts_base.specs.ContactLists.{with_impulses, with_second};

@@ -15,8 +15,9 @@ use fixed_geom::Refusal;
 use std::alloc::Global;
 use std::marker::Model;
 
-/// Contacts ascending by key. One that is over stands in its place until the list is made anew, so that it costs by a search to end it. Contracts see the
-/// contacts, and by place which of them are over; those that aren't are `counted_in` it.
+/// Contacts ascending by key. One that is over stands in its place until the list is made anew, so that it costs by a
+/// search to end it. Contracts see the contacts, and by place which of them are over; those that aren't are
+/// `counted_in` it.
 #[derive(Drop)]
 pub struct ShortList {
     entries: Vec<ContactEntry>,
@@ -45,7 +46,7 @@ impl ShortList {
         }
     }
 
-    /// These contacts, of which none is over. Refused 1 where memory is wanting.
+    /// These contacts, of which none is over.
     pub fn from_entries(alloc: Global, entries: Vec<ContactEntry>) -> Result<ShortList, Refusal>
         requires { AreContacts entries.items }
         ensures value { IfOk result (λ list. counted_in list ≡ entries.items) }
@@ -108,8 +109,8 @@ impl ShortList {
         end_by_key(&self.entries, &mut self.over, key);
     }
 
-    /// Adds the contacts from a place on that aren't over and come before `entry`. Answers the place of the first that doesn't. Refused 1 where memory is
-    /// wanting.
+    /// Adds the contacts from a place on that aren't over and come before `entry`. Answers the place of the first that
+    /// doesn't.
     pub(crate) fn push_below(
         &self,
         all: &mut Vec<ContactEntry>,
@@ -125,7 +126,7 @@ impl ShortList {
         push_counting_below(all, &self.entries, &self.over, place, entry)
     }
 
-    /// Adds the contacts from a place on that aren't over. Refused 1 where memory is wanting.
+    /// Adds the contacts from a place on that aren't over.
     pub(crate) fn push_from(&self, all: &mut Vec<ContactEntry>, place: usize) -> Result<(), Refusal>
         requires { place ≤ length self.now.entries }
         ensures pushed { OnOk result (all.new.items ≡ all.old.items ++ counted_from place self.now) }

@@ -1,4 +1,5 @@
-//! The contacts as a long list, which stands while contacts come and go, and a short one of those that have come since it was made.
+//! The contacts as a long list, which stands while contacts come and go, and a short one of those that have come since
+//! it was made.
 
 ghost use Rattle.std.specs.Prelude.{◌≡◌, ◌++◌, [], ℕ, IfOk, IsTrue, OnErr, OnOk, false, length, map, option_copied, option_map, true};
 ghost use Rattle.std.specs.Option.{ForSome, is_some};
@@ -34,8 +35,9 @@ pub struct Hint {
     pub short: usize,
 }
 
-/// A contact for each pair of near shapes. Contracts see a long list of them, by place in it which are over, and of a short list those that aren't. The
-/// contacts (`contacts_in`) are those of both lists that aren't over, ascending by key.
+/// A contact for each pair of near shapes. Contracts see a long list of them, by place in it which are over, and of a
+/// short list those that aren't. The contacts (`contacts_in`) are those of both lists that aren't over, ascending by
+/// key.
 #[derive(Drop)]
 pub struct SplitContacts {
     // Ascending by key.
@@ -62,7 +64,7 @@ impl Model for SplitContacts {
     ghost invariant = { λ a. IsSplit (record { long = a.long.items; over = a.over; short = counted_in a.short }) };
 }
 
-/// Lists the contacts of a long list and those of a short one that aren't over, in the place of what the list has. Refused 1 where memory is wanting.
+/// Lists the contacts of a long list and those of a short one that aren't over, in the place of what the list has.
 fn join(
     all: &mut Vec<ContactEntry>,
     long: &[ContactEntry],
@@ -89,7 +91,8 @@ fn join(
     short.push_from(all, next)
 }
 
-/// Gives the points of the contact at a place these impulses, if it has this key and isn't over. Answers whether it has and isn't.
+/// Gives the points of the contact at a place these impulses, if it has this key and isn't over. Answers whether it has
+/// and isn't.
 #[inline(always)]
 fn give_at(
     entries: &mut Vec<ContactEntry>,
@@ -144,7 +147,7 @@ impl SplitContacts {
         }
     }
 
-    /// The contacts of a list, all in the long one. Refused 1 where memory is wanting.
+    /// The contacts of a list, all in the long one.
     pub fn from_entries(alloc: Global, entries: Vec<ContactEntry>) -> Result<SplitContacts, Refusal>
         requires { AreContacts entries.items }
         ensures contacts { IfOk result (λ split. contacts_in split ≡ entries.items) }
@@ -212,8 +215,9 @@ impl SplitContacts {
         self.long.get(place)
     }
 
-    /// The contact with this key. The search begins at the hint, whatever that is, or where the contacts of the key's first body begin, if that is
-    /// further on. The hint becomes where it ended: one search after another goes through the lists once.
+    /// The contact with this key. The search begins at the hint, whatever that is, or where the contacts of the key's
+    /// first body begin, if that is further on. The hint becomes where it ended: one search after another goes through
+    /// the lists once.
     #[inline(always)]
     pub fn find(&self, hint: &mut Hint, key: ContactKey) -> Option<&ContactEntry>
         ensures { option_copied result ≡ lookup (contacts_in self.now) key }
@@ -225,8 +229,9 @@ impl SplitContacts {
         }
     }
 
-    /// Gives the points of the contact with this key these impulses, in mass·u/tick. Without any for the second point that stays as it is, and so do
-    /// all contacts where there is none with the key. It is looked for at `place` of the long list first.
+    /// Gives the points of the contact with this key these impulses, in mass·u/tick. Without any for the second point
+    /// that stays as it is, and so do all contacts where there is none with the key. It is looked for at `place` of the
+    /// long list first.
     #[inline(always)]
     pub fn set_impulses(
         &mut self,
@@ -255,7 +260,7 @@ impl SplitContacts {
         self.short.give(key, first, second);
     }
 
-    /// A list of the contacts, ascending by key. Refused 1 where memory is wanting.
+    /// A list of the contacts, ascending by key.
     pub fn to_entries(&self, alloc: Global) -> Result<Vec<ContactEntry>, Refusal>
         ensures value { IfOk result (λ entries. entries.items ≡ contacts_in self.now) }
         ensures contacts { IfOk result (λ entries. AreContacts entries.items) }
@@ -275,7 +280,7 @@ impl SplitContacts {
         Ok(all)
     }
 
-    /// Makes the two lists one, in one pass. Refused 1 where memory is wanting. Changes no contact.
+    /// Makes the two lists one, in one pass. Changes no contact.
     ///
     /// The long list is made in the memory of an earlier one, and its own is kept for the next.
     pub fn flush(&mut self, alloc: Global) -> Result<(), Refusal>
@@ -305,8 +310,8 @@ impl SplitContacts {
         self.spare = long;
     }
 
-    /// The contacts of the long list get the points that were noted of them, those at the places `ends` are over, and the short list becomes this
-    /// one, if there is one. Takes no memory.
+    /// The contacts of the long list get the points that were noted of them, those at the places `ends` are over, and
+    /// the short list becomes this one, if there is one. Takes no memory.
     pub fn change_in_place(&mut self, notes: &[Renewal], ends: &[usize], short: Option<ShortList>)
         requires short { ForSome short (λ list. AreContacts (counted_in list)) }
         requires contacts { AreContacts (contacts_in (carried notes.now ends.now (option_map counted_in short) self.old)) }

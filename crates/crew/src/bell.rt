@@ -1,5 +1,5 @@
-//! Waiting: workers for the next map, and the caller for pieces that are in their hands. What a thread reads here is a hint, and costs time at
-//! most if it is wrong: only what comes out of a mailbox decides.
+//! Waiting: workers for the next map, and the caller for pieces that are in their hands. What a thread reads here is a
+//! hint, and costs time at most if it is wrong: only what comes out of a mailbox decides.
 
 use std::sync::Wait;
 use std::sync::atomic::{AtomicU64, Ordering};
@@ -11,8 +11,8 @@ pub(crate) const OVER: u64 = u64::MAX;
 /// How many rounds there are before they are counted from 1 again.
 const ROUNDS: u64 = 1 << 62;
 
-/// How often a thread looks before it sleeps, or lets others run. It takes some 100 microseconds, which is longer than the maps of a step are
-/// apart, so that workers sleep between steps alone.
+/// How often a thread looks before it sleeps, or lets others run. It takes some 100 microseconds, which is longer than
+/// the maps of a step are apart, so that workers sleep between steps alone.
 const LOOKS: u32 = 2_000;
 
 /// Counts the maps, and wakes the workers that sleep until the next one.
@@ -27,7 +27,8 @@ pub(crate) fn next_round(round: u64) -> u64 {
     round % ROUNDS + 1
 }
 
-/// Waits a moment after a look in vain, and answers how often there was one. A thread that has looked often lets others run.
+/// Waits a moment after a look in vain, and answers how often there was one. A thread that has looked often lets others
+/// run.
 pub(crate) fn pause(looks: u32) -> u32 {
     if looks < LOOKS {
         hint::spin_loop();

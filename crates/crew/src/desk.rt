@@ -14,7 +14,8 @@ use std::alloc::Global;
 use std::mem;
 use std::sync::{Arc, Wait};
 
-/// The mailbox of a piece with the caller's pass, the slip once it is back, and the two lists that go with a slip and come back.
+/// The mailbox of a piece with the caller's pass, the slip once it is back, and the two lists that go with a slip and
+/// come back.
 pub(crate) struct Desk<W: Work + Drop>
 where
     W::Item: Drop,
@@ -94,7 +95,8 @@ where
         self.asked = true;
     }
 
-    /// Fetches the slip if it lies in the mailbox, and works it if nobody has. Answers whether nothing is awaited any more.
+    /// Fetches the slip if it lies in the mailbox, and works it if nobody has. Answers whether nothing is awaited any
+    /// more.
     pub(crate) fn fetch<R: Wait, G: Gate>(&mut self, rt: &R, gate: &G) -> bool
         ensures promised { promised (view self.new.pass).ask (returned (λ s. owed W.answer (arc_value s.work) s.stack.items s.answers.items) self.new.back) ≡ promised (view self.old.pass).ask (returned (λ s. owed W.answer (arc_value s.work) s.stack.items s.answers.items) self.old.back) }
         ensures back { result ≡ true → returned (λ s. owed W.answer (arc_value s.work) s.stack.items s.answers.items) self.new.back ≡ promised (view self.old.pass).ask (returned (λ s. owed W.answer (arc_value s.work) s.stack.items s.answers.items) self.old.back) }

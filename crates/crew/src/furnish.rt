@@ -1,4 +1,5 @@
-//! What a crew has before its threads start: a mailbox for each piece, with the passes of the caller and of each worker.
+//! What a crew has before its threads start: a mailbox for each piece, with the passes of the caller and of each
+//! worker.
 
 ghost use Rattle.std.specs.Prelude.{◌≡◌, true, None};
 ghost use Rattle.std.specs.Arc.{arc_value};

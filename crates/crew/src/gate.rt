@@ -2,8 +2,8 @@
 
 use std::sync::Wait;
 
-/// What each piece of a map enters before it is worked, on the thread that works it. A test's gate may hold a piece back; a program's does
-/// nothing.
+/// What each piece of a map enters before it is worked, on the thread that works it. A test's gate may hold a piece
+/// back; a program's does nothing.
 pub trait Gate {
     /// Enters with the piece of that number, from 0, of so many.
     fn enter<R: Wait>(&self, rt: &R, piece: usize, of: usize);

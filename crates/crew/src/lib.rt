@@ -1,7 +1,7 @@
 //! Workers: a list is mapped in pieces, each by a thread, and the answers stand in the list's order.
 //!
-//! `map_pieces` starts its threads for one map and joins them. A `Crew` keeps its threads for any number of maps, as the task workers of
-//! a physics step are kept: once it has started, no map is refused.
+//! `map_pieces` starts its threads for one map and joins them. A `Crew` keeps its threads for any number of maps, as
+//! the task workers of a physics step are kept: once it has started, no map is refused.
 #![tactic(auto)]
 
 mod bell;

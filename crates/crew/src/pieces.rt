@@ -167,9 +167,9 @@ where
 
 /// The work's answers at the items, in their order.
 ///
-/// The items fall into consecutive pieces, as many as there are workers, but no more than there are items. Each is mapped by a thread of
-/// its own, which enters the gate first. Refused 1 where memory is wanting, and 11 where a thread can't be started; what runs is joined
-/// before, and what it answered is dropped.
+/// The items fall into consecutive pieces, as many as there are workers, but no more than there are items. Each is
+/// mapped by a thread of its own, which enters the gate first. Refused 1 where memory is wanting, and 11 where a thread
+/// can't be started; what runs is joined before, and what it answered is dropped.
 pub fn map_pieces<R: Threads + Wait + Sync, G: Gate + Sync, W: Work + Sync>(
     rt: &R,
     alloc: Global,

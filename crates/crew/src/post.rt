@@ -18,8 +18,8 @@ pub(crate) type Mailbox<W> = RuledArrayQueue<Slip<W>, Hand<Asked<W>>, OneSlip>;
 
 pub(crate) type MailboxPass<W> = Pass<Slip<W>, Hand<Asked<W>>>;
 
-/// A mailbox, and a word that is 1 while a slip lies there that nobody has begun, and else 0. The word is a hint, by which workers leave worked
-/// slips alone.
+/// A mailbox, and a word that is 1 while a slip lies there that nobody has begun, and else 0. The word is a hint, by
+/// which workers leave worked slips alone.
 pub(crate) struct Post<W: Work + Drop>
 where
     W::Item: Drop,
@@ -96,7 +96,8 @@ where
         unreachable!()
     }
 
-    /// The caller gets what it asked, worked or not, if it lies there. What nobody has begun is the caller's from then on.
+    /// The caller gets what it asked, worked or not, if it lies there. What nobody has begun is the caller's from then
+    /// on.
     pub(crate) fn get(&self, pass: &mut MailboxPass<W>) -> Option<Slip<W>>
         requires pass { IsPassOf self.now.mailbox pass.old × ((view pass.old).leads ≡ true) × (is_asked (view pass.old).ask ≡ true) }
         ensures pass { IsPassOf self.now.mailbox pass.new }

@@ -40,7 +40,8 @@ where
     }
 }
 
-/// Fetches each slip that lies in its mailbox, those first that were handed out first. Answers whether nothing is awaited any more.
+/// Fetches each slip that lies in its mailbox, those first that were handed out first. Answers whether nothing is
+/// awaited any more.
 fn fetch_all<R: Wait, G: Gate, W: Work + Drop>(rt: &R, gate: &G, desks: &mut [Desk<W>]) -> bool
 where
     W::Item: Drop,

@@ -72,8 +72,8 @@ where
         }
     }
 
-    /// Adds its answers to `out`, which has room for them, and works those items for whose answers the slip had none. Gives back its two empty
-    /// lists.
+    /// Adds its answers to `out`, which has room for them, and works those items for whose answers the slip had none.
+    /// Gives back its two empty lists.
     pub(crate) fn finish<R: Wait>(
         self,
         rt: &R,

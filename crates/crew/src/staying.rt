@@ -21,7 +21,8 @@ use std::thread::{JoinHandle, Scope, Threads};
 /// How many workers a crew has at most.
 const MOST_WORKERS: usize = 64;
 
-/// The caller and a number of threads that wait for its maps. Its type sees to it that it is ended: it can't be let go otherwise.
+/// The caller and a number of threads that wait for its maps. Its type sees to it that it is ended: it can't be let go
+/// otherwise.
 pub struct Crew<'s, G, W: Work + Drop>
 where
     W::Item: Drop,
@@ -56,13 +57,14 @@ where
     W::Item: Drop,
     W::Out: Drop,
 {
-    /// Takes the items out of their list, which keeps its memory, and adds the work's answers at them, in their order, to `out`, which has
-    /// room for them.
+    /// Takes the items out of their list, which keeps its memory, and adds the work's answers at them, in their order,
+    /// to `out`, which has room for them.
     ///
-    /// The items fall into consecutive pieces, one for the caller and for each worker, or fewer where there are too few items for so many.
-    /// Each is worked by whoever is free and enters the gate first; the caller works those that no worker has begun when it is done with its
-    /// own. A map of one piece stays on the calling thread. Lists that go with the pieces are kept from map to map, and grow where a piece has
-    /// more items than any before. Where memory is wanting for a piece, the caller works it: the map is never refused.
+    /// The items fall into consecutive pieces, one for the caller and for each worker, or fewer where there are too few
+    /// items for so many. Each is worked by whoever is free and enters the gate first; the caller works those that no
+    /// worker has begun when it is done with its own. A map of one piece stays on the calling thread. Lists that go
+    /// with the pieces are kept from map to map, and grow where a piece has more items than any before. Where memory is
+    /// wanting for a piece, the caller works it: the map is never refused.
     pub fn map_with<R: Wait>(
         &mut self,
         rt: &R,
@@ -159,9 +161,9 @@ where
     Ok(())
 }
 
-/// Starts a crew of the caller and `workers` - 1 threads in the scope. A piece of a map has `least` items or more, and there is room for
-/// pieces of `room` items. Refused 5 where `workers` isn't from 1 to 64, 1 where memory is wanting, both before any thread is started, and 11
-/// where a thread can't be started: those that run are then ended and joined.
+/// Starts a crew of the caller and `workers` - 1 threads in the scope. A piece of a map has `least` items or more, and
+/// there is room for pieces of `room` items. Refused 5 where `workers` isn't from 1 to 64, 1 where memory is wanting,
+/// both before any thread is started, and 11 where a thread can't be started: those that run are then ended and joined.
 pub fn start<'s, E, R: Threads + Wait + Sync, G: Gate + Sync, W: Work + Drop + Send + Sync + 's>(
     scope: &Scope<'s, E>,
     rt: &'s R,

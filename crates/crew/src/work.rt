@@ -6,8 +6,8 @@ use std::sync::Wait;
 
 /// Work whose answer is a function of the item.
 ///
-/// An item is given to the work, and what memory the answer needs comes with it. So work takes no memory of its own, and is never refused. It may
-/// wait; who lets items wait for one another sees to it that each is a piece of its own.
+/// An item is given to the work, and what memory the answer needs comes with it. So work takes no memory of its own,
+/// and is never refused. It may wait; who lets items wait for one another sees to it that each is a piece of its own.
 pub trait Work {
     type Item;
 

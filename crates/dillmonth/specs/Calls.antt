@@ -47,7 +47,8 @@ abbrev pub Joins : Result JointDef ℕ → Option Desk → ℕ → CHandle → C
 Joins (Err due) old status before after new = (status ≡ due) × (after ≡ before) × (new ≡ old)
 Joins (Ok def) old status before after new = Makes (CreateJoint def) old status before after new
 
--- a body is made of what was said; or it is said why there is none, or memory is wanting for its shapes, and nothing has changed
+-- a body is made of what was said; or it is said why there is none, or memory is wanting for its shapes, and nothing
+-- has changed
 abbrev pub Creates : Result BodyDef ℕ → Option Desk → ℕ → CHandle → CHandle → Option Desk → Type 0
 Creates (Err due) old status before after new = ((status ≡ due) ⊎ (status ≡ 1)) × (after ≡ before) × (new ≡ old)
 Creates (Ok def) old status before after new = Makes (CreateBody def) old status before after new ⊎ ((status ≡ 1) × (after ≡ before) × (new ≡ old))

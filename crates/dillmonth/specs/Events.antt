@@ -30,7 +30,8 @@ event_shown e = record {
 
 -- ---- all that are kept
 
--- the events that are kept are counted and written, as many as fit; or memory was wanting for those of the last step, and nothing is written. They stay
+-- the events that are kept are counted and written, as many as fit; or memory was wanting for those of the last step,
+-- and nothing is written. They stay
 abbrev pub AreTold : Desk → ℕ → ℕ → ℕ → List CEvent → List CEvent → Desk → Type 0
 AreTold old status before after out out_new new = IsLogged old new × (((status ≡ 0) × (after ≡ length (told old)) × (out_new ≡ written (map event_shown (told old)) out)) ⊎ ((status ≡ 1) × (after ≡ before) × (out_new ≡ out)))
 

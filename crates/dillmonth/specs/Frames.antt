@@ -39,14 +39,16 @@ abbrev pub IsPosed : CHandle → Option View → ℕ → CPose → CPose → Typ
 IsPosed h None status before after = (status ≡ NO_WORLD) × (after ≡ before)
 IsPosed h (Some frame) status before after = IsWritten (option_map (pose_framed h) (pose_in frame.bodies (handle_said h))) status before after
 
--- the ray's first hit on the shapes that the frame shows is written; or the ray is beyond its limits, and nothing is written
+-- the ray's first hit on the shapes that the frame shows is written; or the ray is beyond its limits, and nothing is
+-- written
 abbrev pub HitsFramed : Vec2 → Vec2 → Option View → ℕ → CHit → CHit → Type 0
 HitsFramed from along None status before after = (status ≡ NO_WORLD) × (after ≡ before)
 HitsFramed from along (Some frame) status before after =
     (IsBeam (beam_of from along) × (status ≡ 0) × (after ≡ hit_shown (first_hit (beam_of from along) (framed_shapes frame.bodies))))
     ⊎ ((¬ IsBeam (beam_of from along)) × (status ≡ 5) × (after ≡ before))
 
--- the shapes over the region are counted and written, as many as fit; or nothing is written, and the region is beyond its limits or memory was wanting
+-- the shapes over the region are counted and written, as many as fit; or nothing is written, and the region is beyond
+-- its limits or memory was wanting
 abbrev pub FindsFramed : Box2 → Option View → ℕ → ℕ → ℕ → List CShapeId → List CShapeId → Type 0
 FindsFramed bounds None status before after out new = (status ≡ NO_WORLD) × (after ≡ before) × (new ≡ out)
 FindsFramed bounds (Some frame) status before after out new =

@@ -28,7 +28,8 @@ abbrev pub IsOpened : Vec2 → Result Desk Refusal → Type 0
 IsOpened gravity (Ok desk) = (gravity_refusal gravity ≡ None) × (desk.world ≡ empty_world gravity) × (desk.tags.items ≡ []) × IsClear desk
 IsOpened gravity (Err e) = (gravity_refusal gravity ≡ Some e) ⊎ ((gravity_refusal gravity ≡ None) × (e ≡ NoMemory))
 
--- the caller holds a desk whose world is so, whose bodies have these tags and on which nothing lies yet, and 0 is answered
+-- the caller holds a desk whose world is so, whose bodies have these tags and on which nothing lies yet, and 0 is
+-- answered
 abbrev pub NowHolds : (World → Type 0) → List Tagged → ℕ → Option Desk → Type 0
 NowHolds is tags status None = ⊥
 NowHolds is tags status (Some desk) = (status ≡ 0) × is desk.world × (desk.tags.items ≡ tags) × IsClear desk
@@ -53,7 +54,8 @@ abbrev pub saved_in : Option Desk → List ℕ
 saved_in None = []
 saved_in (Some desk) = string_bytes desk.saved
 
--- the text that is printed of the world's value is kept, its bytes are counted, and all else is as it was; or memory was wanting, and nothing has changed
+-- the text that is printed of the world's value is kept, its bytes are counted, and all else is as it was; or memory
+-- was wanting, and nothing has changed
 abbrev pub SavesAt : Desk → ℕ → ℕ → ℕ → Desk → Type 0
 SavesAt old status before after new =
     ((status ≡ 0) × (new ≡ record old { saved = new.saved }) × (after ≡ length (string_bytes new.saved)) × IsTextOf (value_of old.world.plain (totals_of (book_of old.world))) (string_bytes new.saved))
@@ -68,8 +70,8 @@ Saves (Some old) status before after (Some new) = SavesAt old status before afte
 abbrev pub IsUnreadAs : List ℕ → ℕ → ℕ → Type 0
 IsUnreadAs text status clause = (why : Unread) × (status ≡ (unread_status why).status) × (clause ≡ (unread_status why).clause) × IsUnread text why
 
--- the world that the text saves; or what was held stays, and it is said why: memory was wanting for the desk, or there is no world in the text.
--- The clause is 0 where none is broken
+-- the world that the text saves; or what was held stays, and it is said why: memory was wanting for the desk, or there
+-- is no world in the text. The clause is 0 where none is broken
 abbrev pub Loads : List ℕ → Option Desk → ℕ → ℕ → Option Desk → Type 0
 Loads text old status clause new =
     (NowHolds (λ w. IsLoaded text w) [] status new × (clause ≡ 0))

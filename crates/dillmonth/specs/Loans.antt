@@ -12,7 +12,8 @@ pub record Loan : Type 0 where
   pub share : Share
   pub frame : Option View
 
--- none at null; else the share of the lifetime, and a shared borrow of the frame at the address, which may be compared with null
+-- none at null; else the share of the lifetime, and a shared borrow of the frame at the address, which may be compared
+-- with null
 abbrev pub lent_as : Lft → Share → Option View → Ptr → Fml
 lent_as κ q None p = feq Ptr p null_ptr
 lent_as κ q (Some x) p = fsep (flft κ q) (fsep (flt (count_of p) (2 ^ 63)) (lent_at the_row p x κ))

@@ -36,7 +36,8 @@ push_to (Some b) v = record { x = push_part (b.mass.mass *ℤ v.x -ℤ b.motion.
 abbrev pub no_way : Course
 no_way = record { velocity = record { x = pos (2 ^ 20 + 1); y = pos 0 }; spin = pos 0 }
 
--- the share of each of n ticks in the tangent of the angle between two directions; beyond the limit of a spin where that is a quarter of a turn or more
+-- the share of each of n ticks in the tangent of the angle between two directions; beyond the limit of a spin where
+-- that is a quarter of a turn or more
 abbrev pub spin_between : Vec2 → Vec2 → ℤ → ℤ
 spin_between from to n = cond (int_lt (pos 0) (dot from to)) (limited (2 ^ 28 + 1) (rdiv (rdiv (cross from to *ℤ unit_length) (dot from to)) n)) (pos (2 ^ 28 + 1))
 
@@ -64,7 +65,8 @@ corrected from to n w = made_up (limited (2 ^ 28) w) (missed from to n (limited 
 abbrev pub is_sharp : Rot → Rot → Bool
 is_sharp from to = int_lt (pos 0) (dot (direction from) (direction to))
 
--- the spin that turns one facing into another in n ticks: four steps from the share of a tick; beyond its limit for a quarter of a turn or more
+-- the spin that turns one facing into another in n ticks: four steps from the share of a tick; beyond its limit for a
+-- quarter of a turn or more
 abbrev pub spin_to : Rot → Rot → ℤ → ℤ
 spin_to from to n = cond (is_sharp from to) (limited (2 ^ 28 + 1) (corrected from to n (corrected from to n (corrected from to n (corrected from to n (spin_between (direction from) (direction to) n)))))) (pos (2 ^ 28 + 1))
 
@@ -100,7 +102,8 @@ lever by = cond (nat_le (unsigned_abs by) (2 ^ 40)) (pos 1) (pos (2 ^ 20))
 abbrev pub twist_push : ℤ → ℤ
 twist_push by = push_part (rdiv by (lever by))
 
--- the angular impulse that brings an angular momentum to that of a spin; one that is refused where no body may have the spin
+-- the angular impulse that brings an angular momentum to that of a spin; one that is refused where no body may have the
+-- spin
 abbrev pub twist_from : ℤ → ℤ → ℤ → ℤ
 twist_from inertia l s = cond (nat_le (unsigned_abs s) (2 ^ 28)) (limited (2 ^ 62) (rdiv (s *ℤ inertia) unit_length -ℤ l)) (pos (2 ^ 62))
 

@@ -42,7 +42,8 @@ abbrev pub HitsIn : Option Desk → Vec2 → Vec2 → ℕ → CHit → CHit → 
 HitsIn None from along status before after = (status ≡ NO_WORLD) × (after ≡ before)
 HitsIn (Some desk) from along status before after = Hits desk.world from along status before after
 
--- the shapes over the region are kept and counted, and all else is as it was; or nothing has changed, and the region is beyond its limits or memory was wanting
+-- the shapes over the region are kept and counted, and all else is as it was; or nothing has changed, and the region is
+-- beyond its limits or memory was wanting
 abbrev pub FindsAt : Box2 → Desk → ℕ → ℕ → ℕ → Desk → Type 0
 FindsAt bounds old status before after new =
     ((status ≡ 0) × (is_region bounds ≡ true) × (new ≡ record old { found = new.found }) × (new.found.items ≡ region bounds (posed_shapes old.world.plain.bodies)) × (after ≡ length new.found.items))
@@ -77,8 +78,8 @@ mask_said f = if f.by_mask == 0 then None else Some f.mask
 abbrev pub filter_said : CFilter → Option QueryFilter
 filter_said f = if f.unused == 0 then Some (record { without = without_said f.without; mask = mask_said f }) else None
 
--- the ray's first hit on the shapes that the filter lets through is written; or the ray is beyond its limits, or the filter leaves out a body that
--- doesn't live, and nothing is written
+-- the ray's first hit on the shapes that the filter lets through is written; or the ray is beyond its limits, or the
+-- filter leaves out a body that doesn't live, and nothing is written
 abbrev pub HitsThrough : World → Vec2 → Vec2 → QueryFilter → ℕ → CHit → CHit → Type 0
 HitsThrough w from along f status before after =
     (IsBeam (beam_of from along) × (filter_refusal w.plain f ≡ None) × (status ≡ 0) × (after ≡ hit_shown (first_hit (beam_of from along) (shapes_through f w.plain.bodies))))
@@ -90,7 +91,8 @@ HitsThroughIn None desk from along status before after = (status ≡ OUT_OF_RANG
 HitsThroughIn (Some f) None from along status before after = (status ≡ NO_WORLD) × (after ≡ before)
 HitsThroughIn (Some f) (Some desk) from along status before after = HitsThrough desk.world from along f status before after
 
--- the shapes over the region that the filter lets through are kept and counted, and all else is as it was; or nothing has changed, and it is said why
+-- the shapes over the region that the filter lets through are kept and counted, and all else is as it was; or nothing
+-- has changed, and it is said why
 abbrev pub FindsThroughAt : Box2 → QueryFilter → Desk → ℕ → ℕ → ℕ → Desk → Type 0
 FindsThroughAt bounds f old status before after new =
     ((status ≡ 0) × ((is_region bounds ≡ true) × (filter_refusal old.world.plain f ≡ None)) × (new ≡ record old { found = new.found }) × (new.found.items ≡ region bounds (shapes_through f old.world.plain.bodies)) × (after ≡ length new.found.items))
@@ -102,7 +104,8 @@ FindsThrough bounds (Some f) None status before after new = (status ≡ NO_WORLD
 FindsThrough bounds (Some f) (Some old) status before after None = ⊥
 FindsThrough bounds (Some f) (Some old) status before after (Some new) = FindsThroughAt bounds f old status before after new
 
--- all hits of the ray on the shapes that the filter lets through are kept in order and counted, and all else is as it was; or nothing has changed, and it is said why
+-- all hits of the ray on the shapes that the filter lets through are kept in order and counted, and all else is as it
+-- was; or nothing has changed, and it is said why
 abbrev pub HitsAllAt : Vec2 → Vec2 → QueryFilter → Desk → ℕ → ℕ → ℕ → Desk → Type 0
 HitsAllAt from along f old status before after new =
     ((status ≡ 0) × (IsBeam (beam_of from along) × (filter_refusal old.world.plain f ≡ None)) × (new ≡ record old { hits = new.hits }) × AreAllHits (beam_of from along) (shapes_through f old.world.plain.bodies) new.hits.items × (after ≡ length new.hits.items))

@@ -119,8 +119,8 @@ fn answer_all(
     }
 }
 
-/// Does commands one after another, as many as there is room for answers, and tells how many. A refused one changes nothing, and the
-/// next one follows.
+/// Does commands one after another, as many as there is room for answers, and tells how many. A refused one changes
+/// nothing, and the next one follows.
 #[unsafe(no_mangle)]
 pub extern "C" fn dm_apply_all(
     alloc: Global,

@@ -106,8 +106,8 @@ fn write_step(answer: &CAnswer, step: &mut u64)
     }
 }
 
-/// Makes a body at rest; `made` is written where it is done. Refused 5 where `unused` isn't 0, 33 for a kind or a form that is none, and as
-/// `Command::CreateBody`.
+/// Makes a body at rest; `made` is written where it is done. Refused 5 where `unused` isn't 0, 33 for a kind or a form
+/// that is none, and as `Command::CreateBody`.
 #[unsafe(no_mangle)]
 pub extern "C" fn dm_create_body(
     alloc: Global,
@@ -136,7 +136,8 @@ pub extern "C" fn dm_destroy_body(alloc: Global, world: &mut CWorld, body: CHand
     do_one(alloc, world, Command::DestroyBody(handle_of(body))).status
 }
 
-/// Joins two bodies; `made` is written where it is done. Refused 5 where `unused` isn't 0, and as `Command::CreateJoint`.
+/// Joins two bodies; `made` is written where it is done. Refused 5 where `unused` isn't 0, and as
+/// `Command::CreateJoint`.
 #[unsafe(no_mangle)]
 pub extern "C" fn dm_create_joint(
     alloc: Global,

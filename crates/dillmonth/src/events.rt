@@ -26,8 +26,9 @@ fn write_events(alloc: Global, desk: &mut Desk, out: &mut [CEvent], count: &mut 
     }
 }
 
-/// The events of all steps since `dm_events_clear`, step by step, as many as fit; `count` tells how many there are. They stay until they are
-/// cleared. Refused 1 where memory is wanting for those of the last step; nothing is written then.
+/// The events of all steps since `dm_events_clear`, step by step, as many as fit; `count` tells how many there are.
+/// They stay until they are cleared. Refused 1 where memory is wanting for those of the last step; nothing is written
+/// then.
 #[unsafe(no_mangle)]
 pub extern "C" fn dm_events(
     alloc: Global,
@@ -47,7 +48,8 @@ pub extern "C" fn dm_events(
     }
 }
 
-/// Drops the events that were kept. From now on those of each step are kept; none are where `keeps` is 0, as in a world that never had this call.
+/// Drops the events that were kept. From now on those of each step are kept; none are where `keeps` is 0, as in a world
+/// that never had this call.
 #[unsafe(no_mangle)]
 pub extern "C" fn dm_events_clear(alloc: Global, world: &mut CWorld, keeps: u32) -> u32
     ensures { Clears keeps world.old.desk result world.new.desk }
@@ -62,7 +64,8 @@ pub extern "C" fn dm_events_clear(alloc: Global, world: &mut CWorld, keeps: u32)
     }
 }
 
-/// The tag of a body: that which it was given, or 0. That of a body that is gone is told until another body in its slot is given one.
+/// The tag of a body: that which it was given, or 0. That of a body that is gone is told until another body in its slot
+/// is given one.
 #[unsafe(no_mangle)]
 pub extern "C" fn dm_tag(alloc: Global, world: &mut CWorld, body: CHandle) -> u64
     ensures kept { world.new.desk ≡ world.old.desk }
@@ -91,8 +94,8 @@ fn set_tag(alloc: Global, desk: &mut Desk, body: Handle, tag: u64) -> u32
     }
 }
 
-/// Gives a body a tag, which its view and its events from now on have. A tag is no part of the world: no save and no digest has it, and a copy
-/// has it too. Refused 2 where the id names no body, else 1 where memory is wanting.
+/// Gives a body a tag, which its view and its events from now on have. A tag is no part of the world: no save and no
+/// digest has it, and a copy has it too. Refused 2 where the id names no body, else 1 where memory is wanting.
 #[unsafe(no_mangle)]
 pub extern "C" fn dm_set_tag(alloc: Global, world: &mut CWorld, body: CHandle, tag: u64) -> u32
     ensures { Tags body tag world.old.desk result world.new.desk }

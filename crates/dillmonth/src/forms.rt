@@ -60,7 +60,8 @@ pub struct CBox {
     pub hi: CVector,
 }
 
-/// A shape. The form is 0 for a circle round `first`, 1 for a capsule, 2 for a segment; friction and restitution are in 256ths.
+/// A shape. The form is 0 for a circle round `first`, 1 for a capsule, 2 for a segment; friction and restitution are in
+/// 256ths.
 #[repr(C)]
 #[derive(Clone, Copy)]
 pub struct CShape {
@@ -75,7 +76,8 @@ pub struct CShape {
     pub mask: u64,
 }
 
-/// A body to be made. The kind is 0 for a static one, 1 for a kinematic one with this velocity and spin, 2 for a dynamic one.
+/// A body to be made. The kind is 0 for a static one, 1 for a kinematic one with this velocity and spin, 2 for a
+/// dynamic one.
 #[repr(C)]
 #[derive(Clone, Copy)]
 pub struct CBodyDef {
@@ -157,7 +159,8 @@ pub struct CContact {
     pub second: CContactPoint,
 }
 
-/// What a step told. The kind is 0 for shapes that began to touch, 1 for shapes that ceased to, 2 for a body that fell asleep, 3 for one that woke.
+/// What a step told. The kind is 0 for shapes that began to touch, 1 for shapes that ceased to, 2 for a body that fell
+/// asleep, 3 for one that woke.
 #[repr(C)]
 #[derive(Clone, Copy)]
 pub struct CEvent {
@@ -169,7 +172,8 @@ pub struct CEvent {
     pub second: CHandle,
     pub first_tag: u64,
     pub second_tag: u64,
-    /// The contact as the step left it; without points where the shapes ceased to touch, and all zeros where the event is of one body.
+    /// The contact as the step left it; without points where the shapes ceased to touch, and all zeros where the event
+    /// is of one body.
     pub contact: CContact,
 }
 
@@ -388,7 +392,8 @@ fn mass_of(def: &CBodyDef) -> MassData
     }
 }
 
-/// The body to be made, whatever its field without a meaning has; a status where a kind or a form is none, or where memory is wanting.
+/// The body to be made, whatever its field without a meaning has; a status where a kind or a form is none, or where
+/// memory is wanting.
 fn body_of(alloc: Global, def: &CBodyDef, shapes: &[CShape]) -> Result<BodyDef, u32>
     ensures made { IfOk result (λ made. body_said def.now (kind_said def.now) (shapes_said shapes.now) ≡ Some made) }
     ensures refused { IfErr result (λ status. IsUnmade (known (body_said def.now (kind_said def.now) (shapes_said shapes.now))) status) }
@@ -406,7 +411,8 @@ fn body_of(alloc: Global, def: &CBodyDef, shapes: &[CShape]) -> Result<BodyDef, 
     })
 }
 
-/// The body to be made; a status where the field without a meaning isn't 0, where a kind or a form is none, or where memory is wanting.
+/// The body to be made; a status where the field without a meaning isn't 0, where a kind or a form is none, or where
+/// memory is wanting.
 pub(crate) fn def_of(alloc: Global, def: &CBodyDef, shapes: &[CShape]) -> Result<BodyDef, u32>
     ensures made { IfOk result (λ made. def_said def.now shapes.now ≡ Ok made) }
     ensures refused { IfErr result (λ status. IsUnmade (def_said def.now shapes.now) status) }

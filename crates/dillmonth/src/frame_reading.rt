@@ -1,5 +1,5 @@
-//! What is read of a frame. Threads may read one at once, with no lock: each call is shown that the frame is lent for as long as it lasts, and a
-//! share of that lifetime, of which there are as many as are wanted.
+//! What is read of a frame. Threads may read one at once, with no lock: each call is shown that the frame is lent for
+//! as long as it lasts, and a share of that lifetime, of which there are as many as are wanted.
 
 ghost use Rattle.std.specs.Prelude.{◌≡◌, ◌^◌, Some, length, map, option_map};
 ghost use types.Logic.{sem};
@@ -104,7 +104,8 @@ fn calls_in(frame: &Frame) -> u64
     frame.calls()
 }
 
-/// Where a body was when the frame was taken. Refused 2 where the id names none that lived then and was enabled; `out` is then as it was.
+/// Where a body was when the frame was taken. Refused 2 where the id names none that lived then and was enabled; `out`
+/// is then as it was.
 #[unsafe(no_mangle)]
 pub unsafe extern "C" fn dm_frame_pose(frame: CFrameRef, body: CHandle, out: &mut CPose) -> u32
     ghost loan: { Loan }
@@ -118,7 +119,8 @@ pub unsafe extern "C" fn dm_frame_pose(frame: CFrameRef, body: CHandle, out: &mu
     write_pose_in(&*(frame.at as *const Frame), body, out)
 }
 
-/// The first shape that a ray would have hit, as `dm_ray` answers it. It looks at each shape. Refused 5 as that; `out` is then as it was.
+/// The first shape that a ray would have hit, as `dm_ray` answers it. It looks at each shape. Refused 5 as that; `out`
+/// is then as it was.
 #[unsafe(no_mangle)]
 pub unsafe extern "C" fn dm_frame_ray(
     frame: CFrameRef,
@@ -137,8 +139,8 @@ pub unsafe extern "C" fn dm_frame_ray(
     write_hit_in(&*(frame.at as *const Frame), from, along, out)
 }
 
-/// The shapes that lay over a region, as `dm_region` finds them: they are counted, and the first of them written, as many as fit. It looks at each shape.
-/// Refused 5 as that, else 1 where memory is wanting; nothing is written then.
+/// The shapes that lay over a region, as `dm_region` finds them: they are counted, and the first of them written, as
+/// many as fit. It looks at each shape. Refused 5 as that, else 1 where memory is wanting; nothing is written then.
 #[unsafe(no_mangle)]
 pub unsafe extern "C" fn dm_frame_region(
     alloc: Global,

@@ -84,8 +84,8 @@ fn hold_frame(alloc: Global, held: &mut CFrame, frame: Frame) -> u32
     }
 }
 
-/// Takes a frame of a world: a copy of the poses and the shapes of its enabled bodies, of the movers' momentum and of the number of calls. What was held
-/// before is dropped. Refused 1 where memory is wanting, and then it stays.
+/// Takes a frame of a world: a copy of the poses and the shapes of its enabled bodies, of the movers' momentum and of
+/// the number of calls. What was held before is dropped. Refused 1 where memory is wanting, and then it stays.
 #[unsafe(no_mangle)]
 pub extern "C" fn dm_frame_take(alloc: Global, world: &mut CWorld, frame: &mut CFrame) -> u32
     ensures kept { world.new.desk ≡ world.old.desk }

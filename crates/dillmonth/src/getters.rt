@@ -1,4 +1,5 @@
-//! What a body and a joint are, which joints and contacts a body has, and the colour of a contact. Nothing here changes a world.
+//! What a body and a joint are, which joints and contacts a body has, and the colour of a contact. Nothing here changes
+//! a world.
 
 ghost use Rattle.std.specs.Prelude.{◌≡◌, ◌≤◌, ◌^◌, IfSome, cond, length, option_map};
 ghost use Rattle.body_handles.specs.declared.slot_table.TheConstants.{MAX_SLOTS};
@@ -96,8 +97,8 @@ fn write_info(world: &WorldCore, body: CHandle, out: &mut CBodyInfo) -> u32
     }
 }
 
-/// What a body is: its kind, whether it takes part, its mass and its inertia, how many shapes it has, and its island. Refused 2 where the id names
-/// none; `out` is then as it was.
+/// What a body is: its kind, whether it takes part, its mass and its inertia, how many shapes it has, and its island.
+/// Refused 2 where the id names none; `out` is then as it was.
 #[unsafe(no_mangle)]
 pub extern "C" fn dm_info(
     alloc: Global,
@@ -131,7 +132,8 @@ fn write_shapes(world: &WorldCore, body: CHandle, out: &mut [CShape], count: &mu
     }
 }
 
-/// The shapes of a body, as many as fit; `count` tells how many there are. Refused 2 where the id names none; nothing is written then.
+/// The shapes of a body, as many as fit; `count` tells how many there are. Refused 2 where the id names none; nothing
+/// is written then.
 #[unsafe(no_mangle)]
 pub extern "C" fn dm_shapes(
     alloc: Global,
@@ -175,8 +177,8 @@ fn write_joints_of(
     }
 }
 
-/// The ids of the joints of a body, by slot, as many as fit; `count` tells how many there are. Refused 2 where the id names no body, else 1 where
-/// memory is wanting; nothing is written then.
+/// The ids of the joints of a body, by slot, as many as fit; `count` tells how many there are. Refused 2 where the id
+/// names no body, else 1 where memory is wanting; nothing is written then.
 #[unsafe(no_mangle)]
 pub extern "C" fn dm_joints_of(
     alloc: Global,
@@ -220,8 +222,8 @@ fn write_contacts_of(
     }
 }
 
-/// The contacts of a body, ascending by their shapes, as many as fit; `count` tells how many there are. Refused 2 where the id names no body, else 1
-/// where memory is wanting; nothing is written then.
+/// The contacts of a body, ascending by their shapes, as many as fit; `count` tells how many there are. Refused 2 where
+/// the id names no body, else 1 where memory is wanting; nothing is written then.
 #[unsafe(no_mangle)]
 pub extern "C" fn dm_contacts_of(
     alloc: Global,
@@ -292,8 +294,8 @@ fn colour_of(world: &WorldCore, key: Option<ContactKey>) -> Option<u8>
     }
 }
 
-/// The colour of the contact of two shapes, the lesser name first, while it acts: while they touch, and one of their bodies is a mover that is awake. It is 24
-/// in the overflow, and 2^32 - 1 where no contact of theirs acts.
+/// The colour of the contact of two shapes, the lesser name first, while it acts: while they touch, and one of their
+/// bodies is a mover that is awake. It is 24 in the overflow, and 2^32 - 1 where no contact of theirs acts.
 #[unsafe(no_mangle)]
 pub extern "C" fn dm_colour_of(
     alloc: Global,
@@ -415,8 +417,8 @@ fn write_joint(world: &WorldCore, handle: CHandle, out: &mut CJointView) -> u32
     }
 }
 
-/// What can be seen of a joint: its ends, its anchors, its length, the impulse that it keeps, and its colour. Refused 2 where the id names none;
-/// `out` is then as it was.
+/// What can be seen of a joint: its ends, its anchors, its length, the impulse that it keeps, and its colour. Refused 2
+/// where the id names none; `out` is then as it was.
 #[unsafe(no_mangle)]
 pub extern "C" fn dm_joint(
     alloc: Global,

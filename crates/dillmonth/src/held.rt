@@ -10,7 +10,8 @@ use std::alloc::Global;
 use std::marker::Model;
 use world_desk::Desk;
 
-/// A world with its desk, or none: a struct of one pointer for C, to which the allocator adds no bytes. All bytes 0 are none.
+/// A world with its desk, or none: a struct of one pointer for C, to which the allocator adds no bytes. All bytes 0 are
+/// none.
 #[repr(C)]
 pub struct CWorld {
     at: *mut u8,

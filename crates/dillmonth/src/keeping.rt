@@ -43,8 +43,8 @@ fn open(alloc: Global, gravity: CVector) -> Result<Desk, Refusal>
     Ok(Desk::with(alloc, world))
 }
 
-/// An empty world with this gravity, in u/tick². Refused 5 where a component is beyond 2^16 in size, else 1 where memory is wanting, and what
-/// was held before stays; else it is dropped, with all that was saved, found and listed.
+/// An empty world with this gravity, in u/tick². Refused 5 where a component is beyond 2^16 in size, else 1 where
+/// memory is wanting, and what was held before stays; else it is dropped, with all that was saved, found and listed.
 #[unsafe(no_mangle)]
 pub extern "C" fn dm_open(alloc: Global, world: &mut CWorld, gravity: CVector) -> u32
     ensures { Opens (vector_said gravity) world.old.desk result world.new.desk }
@@ -63,8 +63,8 @@ pub extern "C" fn dm_close(alloc: Global, world: &mut CWorld)
     *world = CWorld::none(alloc);
 }
 
-/// A world of its own that is as this one; nothing was saved, found or listed in it yet. Refused 1 where memory is wanting, and then `to` is as
-/// it was.
+/// A world of its own that is as this one; nothing was saved, found or listed in it yet. Refused 1 where memory is
+/// wanting, and then `to` is as it was.
 #[unsafe(no_mangle)]
 pub extern "C" fn dm_copy(alloc: Global, from: &mut CWorld, to: &mut CWorld) -> u32
     ensures kept { from.new.desk ≡ from.old.desk }
@@ -83,8 +83,8 @@ pub extern "C" fn dm_copy(alloc: Global, from: &mut CWorld, to: &mut CWorld) -> 
     }
 }
 
-/// Drops the entries of the ledger, which are added to its sums. No total changes, nor the digest, nor anything that a call answers, and no
-/// memory is taken. A program that never calls it keeps an entry for each impulse of each call.
+/// Drops the entries of the ledger, which are added to its sums. No total changes, nor the digest, nor anything that a
+/// call answers, and no memory is taken. A program that never calls it keeps an entry for each impulse of each call.
 #[unsafe(no_mangle)]
 pub extern "C" fn dm_settle(alloc: Global, world: &mut CWorld) -> u32
     ensures { Settles world.old.desk result world.new.desk }
@@ -112,8 +112,8 @@ fn save(alloc: Global, desk: &mut Desk, bytes: &mut usize) -> u32
     }
 }
 
-/// Saves the world, and keeps the text, whose bytes are counted, in place of the one before. What was found and listed stays. Refused 1 where
-/// memory is wanting.
+/// Saves the world, and keeps the text, whose bytes are counted, in place of the one before. What was found and listed
+/// stays. Refused 1 where memory is wanting.
 #[unsafe(no_mangle)]
 pub extern "C" fn dm_save(alloc: Global, world: &mut CWorld, bytes: &mut usize) -> u32
     ensures { Saves world.old.desk result bytes.old bytes.new world.new.desk }
@@ -153,9 +153,9 @@ pub extern "C" fn dm_saved(alloc: Global, world: &mut CWorld, out: &mut [u8]) ->
     }
 }
 
-/// The world of a saved text; nothing was saved, found or listed in it yet. Refused 35 where there is no JSON in the bytes, 12 where a clause of
-/// the format is broken, 1 where memory is wanting; what was held before then stays. `clause` is written always: where 12 is answered the number
-/// of the clause, else 0.
+/// The world of a saved text; nothing was saved, found or listed in it yet. Refused 35 where there is no JSON in the
+/// bytes, 12 where a clause of the format is broken, 1 where memory is wanting; what was held before then stays.
+/// `clause` is written always: where 12 is answered the number of the clause, else 0.
 #[unsafe(no_mangle)]
 pub extern "C" fn dm_load(alloc: Global, world: &mut CWorld, text: &[u8], clause: &mut u32) -> u32
     ensures { Loads text.now world.old.desk result clause.new world.new.desk }

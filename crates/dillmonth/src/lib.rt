@@ -1,8 +1,8 @@
 //! Worlds for programs in C, and in whatever calls C: the header is `bindings/c/dillmonth.h`.
 //!
-//! A caller holds a world as a struct of one pointer (`CWorld`). Each call takes the desk out of it, works on it and puts it back. A call answers
-//! a status: 0 where it did what it says, the number of a refusal, or one of this boundary's own. Nothing is printed, no thread is started,
-//! and no call ends the process.
+//! A caller holds a world as a struct of one pointer (`CWorld`). Each call takes the desk out of it, works on it and
+//! puts it back. A call answers a status: 0 where it did what it says, the number of a refusal, or one of this
+//! boundary's own. Nothing is printed, no thread is started, and no call ends the process.
 #![tactic(auto)]
 
 mod batch;

@@ -254,8 +254,8 @@ fn much_corrected(from: Rot, to: Rot, ticks: i64, spin: i128) -> i128
     corrected(from, to, ticks, corrected(from, to, ticks, twice))
 }
 
-/// The spin that turns one facing into another in so many ticks: the share of a tick in the tangent of the angle, corrected four times. Tests find none that
-/// comes nearer, but for those next to it.
+/// The spin that turns one facing into another in so many ticks: the share of a tick in the tangent of the angle,
+/// corrected four times. Tests find none that comes nearer, but for those next to it.
 fn spin_to(from: Rot, to: Rot, ticks: i64) -> i64
     requires from { IsFacing from }
     requires to { IsFacing to }
@@ -382,7 +382,8 @@ fn lacking_spin(inertia: i64, spin: i64, momentum: i128) -> i128
     i128::from(scaled(spin, inertia)) - momentum
 }
 
-/// The angular impulse that brings an angular momentum to that of a spin; one that is refused where no body may have the spin.
+/// The angular impulse that brings an angular momentum to that of a spin; one that is refused where no body may have
+/// the spin.
 fn twist_from(mass: MassData, motion: &Motion, spin: i64) -> i64
     requires mass { unsigned_abs mass.inertia ≤ 2 ^ 60 }
     requires motion { unsigned_abs motion.now.l ≤ 2 ^ 90 }

@@ -64,8 +64,9 @@ fn write_motion(world: &WorldCore, body: Handle, out: &mut CMotion) -> u32
     }
 }
 
-/// The velocity and the spin of a body: a dynamic one's are its momenta by its mass and its inertia, to the nearest, the spin within 2^28; a kinematic one's
-/// are its own; a static one has none. Refused 2 where the id names none; `out` is then as it was.
+/// The velocity and the spin of a body: a dynamic one's are its momenta by its mass and its inertia, to the nearest,
+/// the spin within 2^28; a kinematic one's are its own; a static one has none. Refused 2 where the id names none; `out`
+/// is then as it was.
 #[unsafe(no_mangle)]
 pub extern "C" fn dm_motion(
     alloc: Global,
@@ -94,8 +95,8 @@ fn push_body_to(alloc: Global, desk: &mut Desk, body: Handle, velocity: Vec2) ->
     answer_to(alloc, desk, Command::Push(body, by)).status
 }
 
-/// Gives a mover the velocity, in u/tick, by one push of `mass * velocity - p`, which is booked as each push is. Refused as `dm_push` is of that push: 5 where a
-/// part of it is beyond 2^40.
+/// Gives a mover the velocity, in u/tick, by one push of `mass * velocity - p`, which is booked as each push is.
+/// Refused as `dm_push` is of that push: 5 where a part of it is beyond 2^40.
 #[unsafe(no_mangle)]
 pub extern "C" fn dm_push_to(
     alloc: Global,
@@ -123,10 +124,11 @@ fn steer_body_to(alloc: Global, desk: &mut Desk, body: Handle, to: Pose, ticks: 
     answer_to(alloc, desk, Command::SetVelocity(body, course)).status
 }
 
-/// Gives a kinematic body the velocity and the spin that lead it to a pose in a step of so many ticks: the way by the ticks, to the nearest, and the spin whose
-/// turn of so many ticks ends at the facing, as near as a whole number comes to it. It keeps that course after the step. An impulse is booked for no body.
-/// Refused as `dm_set_velocity`: 5 where no body may have the pose, the ticks aren't 1 to 8, the angle is a quarter of a turn or more, or the course is beyond
-/// its limits.
+/// Gives a kinematic body the velocity and the spin that lead it to a pose in a step of so many ticks: the way by the
+/// ticks, to the nearest, and the spin whose turn of so many ticks ends at the facing, as near as a whole number comes
+/// to it. It keeps that course after the step. An impulse is booked for no body. Refused as `dm_set_velocity`: 5 where
+/// no body may have the pose, the ticks aren't 1 to 8, the angle is a quarter of a turn or more, or the course is
+/// beyond its limits.
 #[unsafe(no_mangle)]
 pub extern "C" fn dm_set_target(
     alloc: Global,
@@ -199,9 +201,10 @@ fn twist(alloc: Global, desk: &mut Desk, body: Handle, by: &i64) -> u32
     end_twist(alloc, desk, body, by, first)
 }
 
-/// Gives a mover an angular impulse, in mass·u²/tick: a push beside its centre, and the opposite one at it. So its momentum stays, and two entries that add up to
-/// nothing are booked. Up to 2^40 the impulse is met, up to 2^60 to the nearest 2^20, and beyond that it is refused. Refused as `dm_push_at`; 1 and 10 may also be
-/// answered between the two pushes, and the first one then stays.
+/// Gives a mover an angular impulse, in mass·u²/tick: a push beside its centre, and the opposite one at it. So its
+/// momentum stays, and two entries that add up to nothing are booked. Up to 2^40 the impulse is met, up to 2^60 to the
+/// nearest 2^20, and beyond that it is refused. Refused as `dm_push_at`; 1 and 10 may also be answered between the two
+/// pushes, and the first one then stays.
 #[unsafe(no_mangle)]
 pub extern "C" fn dm_twist(alloc: Global, world: &mut CWorld, body: CHandle, by: i64) -> u32
     ensures { TwistsIn (handle_said body) (λ w. by) world.old.desk result world.new.desk }
@@ -224,8 +227,8 @@ fn twist_body_to(alloc: Global, desk: &mut Desk, body: Handle, spin: i64) -> u32
     twist(alloc, desk, body, &by)
 }
 
-/// Gives a mover the spin, the tangent of the turn of a tick times 2^30, by a `dm_twist` of `inertia * spin / 2^30 - l`, and is refused as that. A body of
-/// inertia 0 doesn't turn.
+/// Gives a mover the spin, the tangent of the turn of a tick times 2^30, by a `dm_twist` of
+/// `inertia * spin / 2^30 - l`, and is refused as that. A body of inertia 0 doesn't turn.
 #[unsafe(no_mangle)]
 pub extern "C" fn dm_twist_to(alloc: Global, world: &mut CWorld, body: CHandle, spin: i64) -> u32
     ensures { TwistsIn (handle_said body) (λ w. twist_to (body_named w.plain (handle_said body)) spin) world.old.desk result world.new.desk }

@@ -100,8 +100,9 @@ fn write_shape_hit(
     }
 }
 
-/// What the ray along a way from a point, in u, hits of the shape of this name, as the shape lies now: the point and the normal of a hit of `dm_ray` and its
-/// like are those of its shape. Refused 5 as `dm_ray`, else 2 where the name is of no shape of an enabled body; `out` is then as it was.
+/// What the ray along a way from a point, in u, hits of the shape of this name, as the shape lies now: the point and
+/// the normal of a hit of `dm_ray` and its like are those of its shape. Refused 5 as `dm_ray`, else 2 where the name is
+/// of no shape of an enabled body; `out` is then as it was.
 #[unsafe(no_mangle)]
 pub extern "C" fn dm_ray_on_shape(
     alloc: Global,

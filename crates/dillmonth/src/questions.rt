@@ -117,8 +117,8 @@ fn write_hit(world: &WorldCore, from: CVector, along: CVector, out: &mut CHit) -
     DONE
 }
 
-/// The first shape on the way `along` from a point, in u. Refused 5 where the start is beyond 2^36 in a coordinate or the way beyond
-/// 2^28; `out` is then as it was.
+/// The first shape on the way `along` from a point, in u. Refused 5 where the start is beyond 2^36 in a coordinate or
+/// the way beyond 2^28; `out` is then as it was.
 #[unsafe(no_mangle)]
 pub extern "C" fn dm_ray(
     alloc: Global,
@@ -140,7 +140,8 @@ pub extern "C" fn dm_ray(
     }
 }
 
-/// Writes what a ray hits of the shapes that a filter lets through; 5 where it is beyond its limits, and else the number of the filter's refusal.
+/// Writes what a ray hits of the shapes that a filter lets through; 5 where it is beyond its limits, and else the
+/// number of the filter's refusal.
 fn write_hit_through(
     world: &WorldCore,
     from: Vec2,
@@ -162,8 +163,8 @@ fn write_hit_through(
     }
 }
 
-/// The first shape on the way `along` from a point, in u, of those that a filter lets through. Refused 5 as `dm_ray`, else 2 where the filter leaves out a
-/// body that doesn't live; `out` is then as it was.
+/// The first shape on the way `along` from a point, in u, of those that a filter lets through. Refused 5 as `dm_ray`,
+/// else 2 where the filter leaves out a body that doesn't live; `out` is then as it was.
 #[unsafe(no_mangle)]
 pub extern "C" fn dm_ray_through(
     alloc: Global,
@@ -215,9 +216,10 @@ fn find_hits(
     }
 }
 
-/// Finds all hits of a ray on the shapes that a filter lets through, one for each shape, keeps them in place of those before, the nearest first, and counts
-/// them. The text, the shapes and the contacts that are kept stay. A ray whose way is zero hits the shapes that its start lies in. Refused 5 as `dm_ray`,
-/// else 2 where the filter leaves out a body that doesn't live, else 1 where memory is wanting.
+/// Finds all hits of a ray on the shapes that a filter lets through, one for each shape, keeps them in place of those
+/// before, the nearest first, and counts them. The text, the shapes and the contacts that are kept stay. A ray whose
+/// way is zero hits the shapes that its start lies in. Refused 5 as `dm_ray`, else 2 where the filter leaves out a body
+/// that doesn't live, else 1 where memory is wanting.
 #[unsafe(no_mangle)]
 pub extern "C" fn dm_ray_all(
     alloc: Global,
@@ -286,8 +288,9 @@ fn find_through(
     }
 }
 
-/// Finds the shapes over a region that a filter lets through, keeps them as `dm_region` does, and counts them. Refused 5 where the region is beyond its
-/// limits, else 2 where the filter leaves out a body that doesn't live, else 1 where memory is wanting.
+/// Finds the shapes over a region that a filter lets through, keeps them as `dm_region` does, and counts them. Refused
+/// 5 where the region is beyond its limits, else 2 where the filter leaves out a body that doesn't live, else 1 where
+/// memory is wanting.
 #[unsafe(no_mangle)]
 pub extern "C" fn dm_region_through(
     alloc: Global,
@@ -324,8 +327,8 @@ fn find(alloc: Global, desk: &mut Desk, bounds: &CBox, count: &mut usize) -> u32
     }
 }
 
-/// Finds the shapes over a region, keeps them in place of those before, and counts them. The text and the contacts that are kept stay. Refused 5
-/// where the region is beyond its limits, else 1 where memory is wanting.
+/// Finds the shapes over a region, keeps them in place of those before, and counts them. The text and the contacts that
+/// are kept stay. Refused 5 where the region is beyond its limits, else 1 where memory is wanting.
 #[unsafe(no_mangle)]
 pub extern "C" fn dm_region(
     alloc: Global,
@@ -375,8 +378,8 @@ fn list(alloc: Global, desk: &mut Desk, count: &mut usize) -> u32
     }
 }
 
-/// Lists the contacts of near shapes, keeps the list in place of the one before, and counts them. The text and the shapes that are kept stay.
-/// Refused 1 where memory is wanting.
+/// Lists the contacts of near shapes, keeps the list in place of the one before, and counts them. The text and the
+/// shapes that are kept stay. Refused 1 where memory is wanting.
 #[unsafe(no_mangle)]
 pub extern "C" fn dm_contacts(alloc: Global, world: &mut CWorld, count: &mut usize) -> u32
     ensures { Lists world.old.desk result count.old count.new world.new.desk }

@@ -25,7 +25,8 @@ pub(crate) const BAD_SPAN: u32 = 34;
 /// The bytes are no text in UTF-8, or no JSON.
 pub(crate) const BAD_TEXT: u32 = 35;
 
-/// The law of the statuses: the numbers that definitions take from the code, in digits. The function does nothing; its contract is the law.
+/// The law of the statuses: the numbers that definitions take from the code, in digits. The function does nothing; its
+/// contract is the law.
 pub fn statuses_in_digits()
     ensures done { DONE ≡ 0 }
     ensures out_of_range { OUT_OF_RANGE ≡ 5 }

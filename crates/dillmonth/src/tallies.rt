@@ -49,7 +49,8 @@ fn write_counts(alloc: Global, world: &WorldCore, out: &mut CCounts) -> u32
     }
 }
 
-/// How much there is of a world. It looks at all that there is. Refused 1 where memory is wanting; `out` is then as it was.
+/// How much there is of a world. It looks at all that there is. Refused 1 where memory is wanting; `out` is then as it
+/// was.
 #[unsafe(no_mangle)]
 pub extern "C" fn dm_count(alloc: Global, world: &mut CWorld, out: &mut CCounts) -> u32
     ensures kept { world.new.desk ≡ world.old.desk }
@@ -104,8 +105,9 @@ fn write_sum(world: &WorldCore, cause: Option<Cause>, out: &mut CSum) -> u32
     }
 }
 
-/// What a cause has given the movers since the world was opened, in mass·u/tick: 0 commands, 1 gravity, 2 bodies that no impulse moves, 3 the clamp of
-/// momenta, 4 rest, 5 bodies that departed. Refused 33 where there is no such cause; `out` is then as it was.
+/// What a cause has given the movers since the world was opened, in mass·u/tick: 0 commands, 1 gravity, 2 bodies that
+/// no impulse moves, 3 the clamp of momenta, 4 rest, 5 bodies that departed. Refused 33 where there is no such cause;
+/// `out` is then as it was.
 #[unsafe(no_mangle)]
 pub extern "C" fn dm_total_of(alloc: Global, world: &mut CWorld, cause: u32, out: &mut CSum) -> u32
     ensures kept { world.new.desk ≡ world.old.desk }

@@ -106,8 +106,9 @@ impl Events {
         }
     }
 
-    /// Makes these lists the events in place of those that there are, each made ascending as by [`Events::from_lists`]. The lists of bodies go over
-    /// with their memory, and what is left in their place is the memory of the lists before. It takes no memory.
+    /// Makes these lists the events in place of those that there are, each made ascending as by [`Events::from_lists`].
+    /// The lists of bodies go over with their memory, and what is left in their place is the memory of the lists
+    /// before. It takes no memory.
     pub fn renew(
         &mut self,
         begin: Vec<ContactKey>,
@@ -172,7 +173,7 @@ impl Events {
         self.woke.clear();
     }
 
-    /// A copy of its own. Refused 1 where memory is wanting.
+    /// A copy of its own.
     pub fn try_copy(&self) -> Result<Events, Refusal>
         ensures copy { IfOk result (λ copied. copied ≡ self.now) }
         ensures memory_only { IsOkUnless result Refusal.NoMemory }

@@ -1,5 +1,5 @@
-//! The world's calls that the game makes, in functions that promise nothing: so no proof of the game has to read what a world
-//! promises.
+//! The world's calls that the game makes, in functions that promise nothing: so no proof of the game has to read what a
+//! world promises.
 
 use std::alloc::Global;
 use world_core::{BodyView, Command, ContactKey, Handle, Refusal, Reply, Vec2, WorldCore};

@@ -27,8 +27,8 @@ const KICK: Vec2 = Vec2 {
 /// A hundredth of a metre, in u.
 const CENTIMETRE: i64 = METRE / 100;
 
-/// What the player wants in this frame: a kick of the coin, which may be gone by then. Its id names no other body, and the refusal
-/// says so.
+/// What the player wants in this frame: a kick of the coin, which may be gone by then. Its id names no other body, and
+/// the refusal says so.
 fn control<R: Print>(rt: &R, world: &mut WorldCore, cast: &Cast, frame: u32) -> Result<(), Stop> {
     if !KICKS.contains(&frame) {
         return Ok(());

@@ -1,8 +1,9 @@
-//! A game's loop over a world, with `world_core` and nothing beside it: it makes the bodies of a scene, and then, a frame at a
-//! time, does what the player wants, lets ticks pass, hears which shapes met, and looks where the bodies are.
+//! A game's loop over a world, with `world_core` and nothing beside it: it makes the bodies of a scene, and then, a
+//! frame at a time, does what the player wants, lets ticks pass, hears which shapes met, and looks where the bodies
+//! are.
 //!
-//! Nothing that the world refuses is passed over: a refusal that the game reckons with is told and the game goes on, and
-//! any other ends it with a line on standard error and status 1. `docs/EMBEDDING.md` walks through it.
+//! Nothing that the world refuses is passed over: a refusal that the game reckons with is told and the game goes on,
+//! and any other ends it with a line on standard error and status 1. `docs/EMBEDDING.md` walks through it.
 #![tactic(auto)]
 
 mod calls;

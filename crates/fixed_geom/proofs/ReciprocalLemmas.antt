@@ -243,8 +243,8 @@ clear_is p z q rest m sum upper lower low high = at (fdiv z (pos (2 ^ 64))) uppe
 left_below : (a q u v c t : ℤ) (k m : ℕ) → unsigned_abs u + m ≤ 2 ^ 63 * k → unsigned_abs v < m → u ≡ c -ℤ pos (2 ^ 64) *ℤ q → v ≡ t -ℤ c → pos (2 ^ 64) *ℤ a ≡ t → unsigned_abs (pos 2 *ℤ a -ℤ pos 2 *ℤ q) < k
 left_below a q u v c t k m far near is error whole = omega (arith, ints, far, near, is, error, whole)
 
--- r is a reciprocal of k, nearly s / k: the product with x tells the nearest whole number to a / k, if what it is beside q times 2^64
--- leaves a margin to the half, and the error leads no further than that
+-- r is a reciprocal of k, nearly s / k: the product with x tells the nearest whole number to a / k, if what it is
+-- beside q times 2^64 leaves a margin to the half, and the error leads no further than that
 pub sure_is : (a x q : ℤ) (s r k m : ℕ) → 0 < k → pos (2 ^ 64) *ℤ a ≡ x *ℤ pos s → unsigned_abs x * unsigned_abs (pos s -ℤ pos (r * k)) < m * k → unsigned_abs (x *ℤ pos r -ℤ q *ℤ pos (2 ^ 64)) + m ≤ 2 ^ 63 → q ≡ rdiv a (pos k)
 sure_is a x q s r k m p whole error clear = rdiv_near a (pos k) q (omega (arith, ints, p)) left
   where

@@ -1,4 +1,5 @@
--- Where an order is strict and its negation is transitive, the first that none beats is the best of those seen one after another.
+-- Where an order is strict and its negation is transitive, the first that none beats is the best of those seen one
+-- after another.
 use Rattle.std.proofs.Common.{◌≡◌, Bool, true, false, cond, not, ◌||◌, List, [], ◌∷◌, All, Option, Some, None, IfSome, inl, inr, refl, sym, ◌∙◌, ap}
 use Rattle.std.specs.List.{find, list_any}
 use Rattle.std.proofs.lemmas.Bool.{cases_Bool, false≢true}

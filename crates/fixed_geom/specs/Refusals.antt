@@ -1,4 +1,5 @@
--- Trusted: The numbers of the refusals, as a script's answer gives them, and tests in the order of their rule: the first that fails refuses.
+-- Trusted: The numbers of the refusals, as a script's answer gives them, and tests in the order of their rule: the
+-- first that fails refuses.
 use Rattle.std.specs.Prelude.{ℕ, Bool, cond, Option, Some, Result, Err}
 use Rattle.fixed_geom.specs.declared.refusal.Refusal.{Refusal}
 use Rattle.fixed_geom.specs.declared.refusal.Refusal.TheVariants.{NoMemory, StaleHandle, TooMany, BadShape, OutOfRange, NotAMover, SameBody, BodyDisabled, TooFast, WornOut, NoThread, BadFile, WrongSeats, WentBack, NotKinematic}

@@ -6,8 +6,8 @@ ghost use Rattle.fixed_geom.specs.Numbers.{nearest, rdiv};
 use crate::quotients::{nearest_quotient, nearest_quotient_64};
 use crate::roots::{joined_float, low_52_bits, mostly_joined_float};
 
-/// A guess at `n·2^40 / d` to the nearest, by a quotient of floats. Nothing else is promised of it, since what follows puts
-/// any guess right.
+/// A guess at `n·2^40 / d` to the nearest, by a quotient of floats. Nothing else is promised of it, since what follows
+/// puts any guess right.
 #[inline(always)]
 fn guess_40(n: u64, d: u64) -> u64
     ensures small { result < 2 ^ 52 }
@@ -48,8 +48,8 @@ fn divided_40_64(n: u64, d: u64) -> u64
     nearest_quotient_64(n << 40, d)
 }
 
-/// The nearest natural number to `n·2^40 / d`, the greater where two are as near: the guess if that is it, as it nearly always
-/// is of a `d` below 2^52, which spares a division.
+/// The nearest natural number to `n·2^40 / d`, the greater where two are as near: the guess if that is it, as it nearly
+/// always is of a `d` below 2^52, which spares a division.
 #[inline(always)]
 fn over_size(n: u64, d: u64) -> u64
     requires n { n < 2 ^ 22 }
@@ -69,7 +69,8 @@ fn over_size(n: u64, d: u64) -> u64
     divided_40_64(n, d)
 }
 
-/// `x·2^40 / inverse` to the nearest, ties away from zero: what is multiplied by a number whose inverse, times 2^40, is given.
+/// `x·2^40 / inverse` to the nearest, ties away from zero: what is multiplied by a number whose inverse, times 2^40, is
+/// given.
 #[inline(always)]
 pub(crate) fn over_inverse(x: i64, inverse: i64) -> i64
     requires x { unsigned_abs x < 2 ^ 22 }

@@ -6,10 +6,10 @@
 //!
 //! # Forms in 64 bits
 //!
-//! A function's name says what is computed, of numbers of any size that its conditions allow. Where a form of it in 64 bits
-//! is worth its proof, that has the suffix `_64` and the same definition for its result: it spares the carries between two
-//! registers, and a division of 128 bits is a call. Where a function tests which of two forms will do, the other has the
-//! suffix `_128`. The crates above keep to the same rule.
+//! A function's name says what is computed, of numbers of any size that its conditions allow. Where a form of it in 64
+//! bits is worth its proof, that has the suffix `_64` and the same definition for its result: it spares the carries
+//! between two registers, and a division of 128 bits is a call. Where a function tests which of two forms will do, the
+//! other has the suffix `_128`. The crates above keep to the same rule.
 //!
 //! | Function | Its form in 64 bits | Of what |
 //! |---|---|---|

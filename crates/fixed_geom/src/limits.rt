@@ -10,7 +10,8 @@ pub const MAX_POSITION: i64 = 1 << 36;
 /// The greatest size of a coordinate of a corner of a fat box, and of a region that is asked about, in u.
 pub const MAX_CORNER: i64 = 1 << 37;
 
-/// The greatest size of a coordinate of a contact point, given from the centre of one of its bodies, and of its separation, in u.
+/// The greatest size of a coordinate of a contact point, given from the centre of one of its bodies, and of its
+/// separation, in u.
 pub const MAX_OFFSET: i64 = 1 << 27;
 
 /// The greatest size of a spin, which is 2^30 times the tangent of the turn of a tick: a tangent of a quarter.
@@ -19,11 +20,12 @@ pub const MAX_SPIN: i64 = 1 << 28;
 /// The greatest accumulated normal impulse of a contact point, in mass·u/tick.
 pub const MAX_NORMAL_IMPULSE: i64 = 1 << 42;
 
-/// The greatest size of the accumulated impulse along any line, in mass·u/tick: that of friction is up to twice the normal one.
+/// The greatest size of the accumulated impulse along any line, in mass·u/tick: that of friction is up to twice the
+/// normal one.
 pub const MAX_LINE_IMPULSE: i64 = 1 << 43;
 
-/// The law of the limits: the numbers that definitions take from the code, in digits. The function does nothing; its contract is
-/// the law.
+/// The law of the limits: the numbers that definitions take from the code, in digits. The function does nothing; its
+/// contract is the law.
 pub fn limits_in_digits()
     ensures position { MAX_POSITION ≡ pos 68719476736 }
     ensures corner { MAX_CORNER ≡ pos 137438953472 }

@@ -1,5 +1,5 @@
-//! Quotients by a number that is divided by often: a product with its reciprocal, which spares a division (as for divisors that
-//! don't change, Granlund and Montgomery, 'Division by invariant integers using multiplication', 1994).
+//! Quotients by a number that is divided by often: a product with its reciprocal, which spares a division (as for
+//! divisors that don't change, Granlund and Montgomery, 'Division by invariant integers using multiplication', 1994).
 
 ghost use Rattle.std.specs.Prelude.{◌≡◌, ◌*◌, ◌/◌, ◌+◌, ◌^◌, ◌<◌, ◌≤◌, pos, ◌+ℤ◌, ◌*ℤ◌, ◌≤ℤ◌, ◌<ℤ◌, unsigned_abs, IfSome, true};
 ghost use Rattle.fixed_geom.specs.Numbers.{nearest, rdiv};
@@ -35,8 +35,8 @@ const QUOTIENT_MARGIN: u64 = 1 << 57;
 /// How far the error of a reciprocal may lead an impulse, times 2^64.
 const IMPULSE_MARGIN: u64 = 1 << 43;
 
-/// The reciprocal of `d` that `rdiv_by` and `inverse_by` take: the least whole number above 2^62 / d, and 0 where `d` isn't
-/// positive.
+/// The reciprocal of `d` that `rdiv_by` and `inverse_by` take: the least whole number above 2^62 / d, and 0 where `d`
+/// isn't positive.
 #[tactic(auto, unfolding(crate::specs::Reciprocals::rdiv_reciprocal))]
 pub fn rdiv_reciprocal(d: i64) -> i64
     ensures value { result ≡ rdiv_reciprocal d }
@@ -69,8 +69,8 @@ fn share_reciprocal_of_size(k: u64) -> i64
     quotient_40_of_sizes(1 << 54, k) as i64
 }
 
-/// The reciprocal of `k` that `share_by` and `quotient_40_by` take: the nearest whole number to 2^94 / k, and 0 where `k` is below
-/// 2^32 or above 2^57.
+/// The reciprocal of `k` that `share_by` and `quotient_40_by` take: the nearest whole number to 2^94 / k, and 0 where
+/// `k` is below 2^32 or above 2^57.
 #[tactic(auto, unfolding(crate::specs::Reciprocals::share_reciprocal))]
 pub fn share_reciprocal(k: i64) -> i64
     ensures { result ≡ share_reciprocal k }
@@ -96,8 +96,8 @@ fn over_inverse_reciprocal_of_size(k: u64) -> i64
     quotient_40_of_sizes(1 << 42, k) as i64
 }
 
-/// The reciprocal of an inverse that `over_inverse_by` takes: the nearest whole number to 2^82 / inverse, and 0 where the inverse is
-/// below 2^20 or above 2^54.
+/// The reciprocal of an inverse that `over_inverse_by` takes: the nearest whole number to 2^82 / inverse, and 0 where
+/// the inverse is below 2^20 or above 2^54.
 #[tactic(auto, unfolding(crate::specs::Reciprocals::over_inverse_reciprocal))]
 pub fn over_inverse_reciprocal(inverse: i64) -> i64
     ensures { result ≡ over_inverse_reciprocal inverse }
@@ -113,7 +113,8 @@ pub fn over_inverse_reciprocal(inverse: i64) -> i64
     }
 }
 
-/// Four times `a`, and half of `4b`: an even number, in which `4b` is as often as the nearest whole number to `a / b`, ties upwards.
+/// Four times `a`, and half of `4b`: an even number, in which `4b` is as often as the nearest whole number to `a / b`,
+/// ties upwards.
 #[inline(always)]
 fn lifted(a: i64, b: i64) -> i64
     requires a { unsigned_abs a ≤ 3 * 2 ^ 39 }
@@ -124,9 +125,10 @@ fn lifted(a: i64, b: i64) -> i64
     2 * (2 * a + b)
 }
 
-/// The nearest whole number to `a / b`, ties away from zero, with the reciprocal of `b`: of an `a` up to 3·2^39 in size and a `b` up
-/// to 2^20. Only of a tie is `lifted` a multiple of `4b`. The reciprocal is a little too great: that leads the product of a tie away
-/// from zero, and no other past a multiple of 2^64. The 1 that is taken off leads the product 0 below zero, which is of the tie at -1/2.
+/// The nearest whole number to `a / b`, ties away from zero, with the reciprocal of `b`: of an `a` up to 3·2^39 in size
+/// and a `b` up to 2^20. Only of a tie is `lifted` a multiple of `4b`. The reciprocal is a little too great: that leads
+/// the product of a tie away from zero, and no other past a multiple of 2^64. The 1 that is taken off leads the product
+/// 0 below zero, which is of the tie at -1/2.
 #[inline(always)]
 pub fn rdiv_by(a: i64, b: i64, reciprocal: i64) -> i64
     requires a { unsigned_abs a ≤ 3 * 2 ^ 39 }
@@ -138,7 +140,8 @@ pub fn rdiv_by(a: i64, b: i64, reciprocal: i64) -> i64
     halves_of(product(lifted(a, b), reciprocal) - 1).upper
 }
 
-/// The nearest natural number to 2^40 / d: the guess by a reciprocal if that is it, as it nearly always is by that of `d`.
+/// The nearest natural number to 2^40 / d: the guess by a reciprocal if that is it, as it nearly always is by that of
+/// `d`.
 #[inline(always)]
 fn inverse_of_size_by(d: u64, reciprocal: u64) -> u64
     requires positive { 0 < d }
@@ -177,8 +180,8 @@ fn is_small_share(q: i64) -> bool
     -MAX_SHARE <= q && q <= MAX_SHARE
 }
 
-/// `x·2^30 / k` to the nearest, with the `share_reciprocal` of `k`: which part of the whole `k` an `x` is, times 2^30. `None` where
-/// the product with the reciprocal doesn't tell, or where it is more than a quarter.
+/// `x·2^30 / k` to the nearest, with the `share_reciprocal` of `k`: which part of the whole `k` an `x` is, times 2^30.
+/// `None` where the product with the reciprocal doesn't tell, or where it is more than a quarter.
 #[inline(always)]
 pub fn share_by(x: i64, k: i64, reciprocal: i64) -> Option<i64>
     requires reciprocal { reciprocal ≡ share_reciprocal k }

@@ -8,6 +8,10 @@ use std::alloc::{AllocError, AllocFailed};
 use thiserror::Error;
 
 /// Why a call was refused. After any refusal the state is as it was.
+///
+/// A call that answers a `Result` with a `Refusal` is refused 1, [`Refusal::NoMemory`], where it asks for memory that
+/// is not given. That holds of all such calls, so their comments tell only what else they refuse, and whether they take
+/// no memory. A clause `memory_only` says that a call is refused for nothing else.
 #[derive(Clone, Copy, Debug, PartialEq, Eq, Error)]
 pub enum Refusal {
     /// A growth, or one more owner of a shared frame, was refused.

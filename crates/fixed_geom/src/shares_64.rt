@@ -21,7 +21,8 @@ fn guess_by_inverse(n: u64, inverse: f64) -> u64
     low_bits(joined_float(n) * inverse) & 0x7fff_ffff
 }
 
-/// The nearest natural number to `n·2^30 / d`, the greater where two are as near: the guess if that is it, as it nearly always is.
+/// The nearest natural number to `n·2^30 / d`, the greater where two are as near: the guess if that is it, as it nearly
+/// always is.
 #[inline(always)]
 fn share_of_sizes_64(n: u64, d: u64, inverse: f64) -> u64
     requires positive { 0 < d }

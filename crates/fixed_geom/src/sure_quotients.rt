@@ -36,8 +36,8 @@ fn is_clear(rest: u64, margin: u64) -> bool
     rest.wrapping_add(margin) >= 2 * margin
 }
 
-/// The nearest whole number to `x·r / 2^64`, if no number within `margin / 2^64` of that has another. The `r` is a reciprocal times
-/// a power of two, and the margin is how far its error may lead.
+/// The nearest whole number to `x·r / 2^64`, if no number within `margin / 2^64` of that has another. The `r` is a
+/// reciprocal times a power of two, and the margin is how far its error may lead.
 #[inline(always)]
 pub(crate) fn sure_quotient(x: i64, r: i64, margin: u64) -> Option<i64>
     requires r { unsigned_abs r ≤ 2 ^ 62 }

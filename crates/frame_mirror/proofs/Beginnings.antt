@@ -22,7 +22,8 @@ whole_beginning (x ∷ xs) [] p le = absurd (cc (p.1))
 whole_beginning (x ∷ xs) (z ∷ all) p le =
     let rest = whole_beginning xs all (p.0, cc (p.1)) (omega arith) in cc (p.1, rest)
 
--- of two beginnings of a list, the one whose last place is no earlier covers the other; else the other is longer and covers it
+-- of two beginnings of a list, the one whose last place is no earlier covers the other; else the other is longer and
+-- covers it
 pub covering : {A : Type 0} (xs ys all : List A) (a b : ℕ) → IsPrefix xs all → IsPrefix ys all → length xs ≡ a + 1 → length ys ≡ b + 1
     → (t : Bool) → leb b a ≡ t → MatchBool t (IsPrefix ys xs) (IsPrefix xs ys × (length xs < length ys))
 covering xs ys all a b p q long_x long_y true is = let le : b ≤ a = grind (arith, nat_tests) in shorter_begins ys xs all q p (omega arith)

@@ -4,8 +4,8 @@ use logbook::{Gain, Plain, Play, Rule};
 use std::marker::Brand;
 use world_core::Frame;
 
-/// Names one mirror. It has no calls: whoever opens a mirror is generic in its name, and is called at `Brand`. The name of a
-/// shared world can be the name of its mirror too.
+/// Names one mirror. It has no calls: whoever opens a mirror is generic in its name, and is called at `Brand`. The name
+/// of a shared world can be the name of its mirror too.
 pub trait Mirrored {
     ghost use Rattle.logbook.specs.Pages.{Book};
 

@@ -55,7 +55,7 @@ impl<J: Mirrored> Mark<J> {
         &*self.frame
     }
 
-    /// A mark of the same frames. Refused 1 where memory is wanting.
+    /// A mark of the same frames.
     pub fn try_copy(&self) -> Result<Mark<J>, Refusal>
         ensures same { IfOk result (λ m. m ≡ self.now) }
         ensures memory_only { IsOkUnless result Refusal.NoMemory }
@@ -68,8 +68,8 @@ impl<J: Mirrored> Mark<J> {
         })
     }
 
-    /// Whether it covers the other mark of this mirror. Both are beginnings of one list, so where it doesn't, the other is longer and
-    /// covers it.
+    /// Whether it covers the other mark of this mirror. Both are beginnings of one list, so where it doesn't, the other
+    /// is longer and covers it.
     pub fn covers(&self, other: &Mark<J>) -> bool
         ensures { MatchBool result (IsPrefix other.now self.now) (IsPrefix self.now other.now × (length self.now < length other.now)) }
     {
@@ -86,8 +86,8 @@ impl<J: Mirrored> Mark<J> {
         self.place + 1
     }
 
-    /// Adds a frame to the list, and gives two marks of the whole: `None` where the list is longer than this mark. `again` is a
-    /// second owner of the frame.
+    /// Adds a frame to the list, and gives two marks of the whole: `None` where the list is longer than this mark.
+    /// `again` is a second owner of the frame.
     pub(crate) fn and(
         &self,
         list: &ListLength<J>,

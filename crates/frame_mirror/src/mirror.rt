@@ -77,8 +77,8 @@ impl Mirror {
         Some((list, mark))
     }
 
-    /// Opens the mirror to so many readers, 1 to 32. The list is this frame alone, which the mark of the publisher and of each
-    /// reader covers. Refused 5 for any other number of readers, else 1 where memory is wanting.
+    /// Opens the mirror to so many readers, 1 to 32. The list is this frame alone, which the mark of the publisher and
+    /// of each reader covers. Refused 5 for any other number of readers, else 1 where memory is wanting.
     pub fn open<J: Mirrored>(
         self,
         alloc: Global,
@@ -116,7 +116,7 @@ impl Mirror {
     }
 }
 
-/// So many copies of a mark. Refused 1 where memory is wanting.
+/// So many copies of a mark.
 fn copies<J: Mirrored>(alloc: Global, mark: &Mark<J>, count: usize) -> Result<Vec<Mark<J>>, Refusal>
     ensures copies { IfOk result (λ v. (vec_len v ≡ count) × All (λ m. m ≡ mark.now) v.items) }
     ensures memory_only { IsOkUnless result Refusal.NoMemory }

@@ -93,8 +93,8 @@ where
         if appended { published } else { Err(AllocError) }
     }
 
-    /// Adds a frame that isn't older than the last one. All that may be refused comes before the frame enters the list: readers
-    /// are shown an empty slot first, which then gets the mark. Refused 1 where memory is wanting.
+    /// Adds a frame that isn't older than the last one. All that may be refused comes before the frame enters the list:
+    /// readers are shown an empty slot first, which then gets the mark.
     fn add<R: Wait>(&mut self, rt: &R, frame: Arc<Frame>) -> Result<(), Refusal>
         requires room { length self.old < 2 ^ 40 }
         requires later { (last : View) × EndsWith self.old last × (last.calls ≤ (arc_value frame).calls) }
@@ -120,8 +120,8 @@ where
         self.kept.len() >= MOST_FRAMES
     }
 
-    /// Publishes a frame, and gives its call number. Refused 10 where the list has 2^40 frames, 14 where the frame is older than
-    /// the last one, else 1 where memory is wanting.
+    /// Publishes a frame, and gives its call number. Refused 10 where the list has 2^40 frames, 14 where the frame is
+    /// older than the last one, else 1 where memory is wanting.
     fn publish_frame<R: Wait>(&mut self, rt: &R, frame: Arc<Frame>) -> Result<u64, Refusal>
         ensures added { IfOk result (λ n. (last : View) × EndsWith self.old last × (last.calls ≤ n) × ((arc_value frame).calls ≡ n) × (self.new ≡ self.old ++ arc_value frame ∷ [])) }
         ensures room { OnOk result (length self.old < 2 ^ 40) }
@@ -139,10 +139,10 @@ where
         Ok(calls)
     }
 
-    /// Publishes a frame that the source gives for this seat, and gives its call number, which isn't lower than that of the
-    /// frame before. Refused 10 just where the list has 2^40 frames, as the source refuses, 14 where the frame's call number is
-    /// lower than that of the last one, or 1 where memory is wanting, in this order; then the list is as it was. Whatever is
-    /// answered, the seat has then seen one past of it.
+    /// Publishes a frame that the source gives for this seat, and gives its call number, which isn't lower than that of
+    /// the frame before. Refused 10 just where the list has 2^40 frames, as the source refuses, 14 where the frame's
+    /// call number is lower than that of the last one, or 1 where memory is wanting, in this order; then the list is as
+    /// it was. Whatever is answered, the seat has then seen one past of it.
     pub fn publish<N: Opened, R: Wait, S: FrameSource<N>>(
         &mut self,
         rt: &R,
@@ -166,7 +166,7 @@ where
         }
     }
 
-    /// A mark of all published frames. Refused 1 where memory is wanting.
+    /// A mark of all published frames.
     pub fn seen(&self) -> Result<Mark<J>, Refusal>
         ensures same { IfOk result (λ m. m ≡ self.now) }
         ensures memory_only { IsOkUnless result Refusal.NoMemory }
@@ -174,8 +174,8 @@ where
         self.kept.try_copy()
     }
 
-    /// Ends the publisher: it waits until no reader looks at what is shown. The readers then answer from the frames that they
-    /// keep.
+    /// Ends the publisher: it waits until no reader looks at what is shown. The readers then answer from the frames
+    /// that they keep.
     pub fn close<R: Wait>(self, rt: &R) {
         let Publisher {
             alloc: _,

@@ -76,8 +76,8 @@ impl<J: Mirrored> Reader<J> {
         }
     }
 
-    /// Where an enabled body is, in a published frame that isn't before the reader's mark; `None` where the handle names none
-    /// that lived then and was enabled. Afterwards the mark ends with that frame.
+    /// Where an enabled body is, in a published frame that isn't before the reader's mark; `None` where the handle
+    /// names none that lived then and was enabled. Afterwards the mark ends with that frame.
     pub fn pose(&mut self, handle: Handle) -> Option<Pose>
         ensures covers { IsPrefix self.old self.new }
         ensures answer { (f : View) × EndsWith self.new f × (result ≡ pose_in f.bodies handle) }
@@ -86,8 +86,8 @@ impl<J: Mirrored> Reader<J> {
         self.kept.frame().pose(handle)
     }
 
-    /// The ledger's total, in mass·u/tick, in a published frame that isn't before the reader's mark. Afterwards the mark ends
-    /// with that frame.
+    /// The ledger's total, in mass·u/tick, in a published frame that isn't before the reader's mark. Afterwards the
+    /// mark ends with that frame.
     pub fn total(&mut self) -> Total
         ensures covers { IsPrefix self.old self.new }
         ensures answer { (f : View) × EndsWith self.new f × (result ≡ f.booked) }
@@ -96,8 +96,8 @@ impl<J: Mirrored> Reader<J> {
         self.kept.frame().booked()
     }
 
-    /// The ray's first hit, in a published frame that isn't before the reader's mark. The start, in u, is within 2^36 in each
-    /// coordinate, the way within 2^28. Afterwards the mark ends with that frame.
+    /// The ray's first hit, in a published frame that isn't before the reader's mark. The start, in u, is within 2^36
+    /// in each coordinate, the way within 2^28. Afterwards the mark ends with that frame.
     pub fn ray(&mut self, from: Vec2, along: Vec2) -> Option<Hit>
         requires { IsBeam (beam_of from along) }
         ensures covers { IsPrefix self.old self.new }
@@ -107,8 +107,9 @@ impl<J: Mirrored> Reader<J> {
         frame_ray(self.kept.frame(), from, along)
     }
 
-    /// The shapes whose tight boxes overlap a region, ascending, in a published frame that isn't before the reader's mark.
-    /// Afterwards the mark ends with that frame. Refused 1 where memory is wanting, and then the mark is as it was.
+    /// The shapes whose tight boxes overlap a region, ascending, in a published frame that isn't before the reader's
+    /// mark. Afterwards the mark ends with that frame. Refused 1 where memory is wanting, and then the mark is as it
+    /// was.
     pub fn region(&mut self, alloc: Global, bounds: &Box2) -> Result<Vec<ShapeId>, Refusal>
         ensures covers { OnOk result (IsPrefix self.old self.new) }
         ensures answer { IfOk result (λ found. (f : View) × EndsWith self.new f × (found.items ≡ region bounds.now (framed_shapes f.bodies))) }
@@ -125,7 +126,7 @@ impl<J: Mirrored> Reader<J> {
         }
     }
 
-    /// A mark of all frames up to the one that this reader keeps. Refused 1 where memory is wanting.
+    /// A mark of all frames up to the one that this reader keeps.
     pub fn seen(&self) -> Result<Mark<J>, Refusal>
         ensures same { IfOk result (λ m. m ≡ self.now) }
         ensures memory_only { IsOkUnless result Refusal.NoMemory }

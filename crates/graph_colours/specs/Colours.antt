@@ -1,4 +1,5 @@
--- Trusted: The colours of the active constraints: a list for each, in none of which two share a mover, and after them the overflow.
+-- Trusted: The colours of the active constraints: a list for each, in none of which two share a mover, and after them
+-- the overflow.
 use Rattle.std.specs.Prelude.{◌≡◌, ℕ, ◌≤◌, ◌+◌, ◌==◌, List, [], length, map, take, slice_index_or, slice_set, All}
 use Rattle.std.specs.List.{flat_map, count_by, position_or_len}
 use Rattle.graph_colours.specs.declared.limits.TheConstants.{COLOURS}
@@ -6,8 +7,8 @@ use Rattle.graph_colours.specs.declared.member.Movers.{Movers}
 use Rattle.graph_colours.specs.declared.member.Member.{Member}
 use Rattle.graph_colours.specs.Members.{AreRising, AreApart, is_free, inserted, without_member}
 
--- what contracts see: the members of each colour once all edits are made, how many more constraints may be placed with no memory, the bound
--- below which their movers' slots must be, and whether edits are put off: if it is 0, none
+-- what contracts see: the members of each colour once all edits are made, how many more constraints may be placed with
+-- no memory, the bound below which their movers' slots must be, and whether edits are put off: if it is 0, none
 pub record Coloured (C : Type 0) : Type 0 where
   pub lists : List (List (Member C))
   pub room : ℕ
@@ -37,7 +38,8 @@ with_placed number m lists = let colour = least_colour lists m.movers in slice_s
 unfoldable pub released : {C : Type 0} → (C → ℕ) → C → List (List (Member C)) → List (List (Member C))
 released number id lists = map (without_member number id) lists
 
--- what every colouring keeps: a list for each colour and one for the overflow; each ascends, no two of one colour share a mover, and no id stands twice
+-- what every colouring keeps: a list for each colour and one for the overflow; each ascends, no two of one colour share
+-- a mover, and no id stands twice
 pub record IsColouring {C : Type 0} (number : C → ℕ) (lists : List (List (Member C))) : Type 0 where
   pub count : length lists ≡ COLOURS + 1
   pub rising : All (AreRising number) lists

@@ -44,8 +44,8 @@ abbrev pub noted : {C : Type 0} → (C → ℕ) → Edit C → List (Edit C) →
 noted number e [] = e ∷ []
 noted number e (x ∷ xs) = cond (nat_lt (edit_number number x) (edit_number number e)) (x ∷ noted number e xs) (cond (edit_number number x == edit_number number e) (e ∷ xs) (e ∷ x ∷ xs))
 
--- what contracts see of a list of which edits are put off: its members once they are made, for how many in all it has room, and how many edits
--- are put off
+-- what contracts see of a list of which edits are put off: its members once they are made, for how many in all it has
+-- room, and how many edits are put off
 pub record Pended (C : Type 0) : Type 0 where
   pub items : List (Member C)
   pub capacity : ℕ

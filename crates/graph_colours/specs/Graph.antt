@@ -18,7 +18,8 @@ HaveRoom room kept = All (λ l. room ≤ l.capacity) kept
 abbrev pub AreAtRest : {C : Type 0} → List (Pended C) → Type 0
 AreAtRest kept = All (λ l. l.pending ≡ 0) kept
 
--- what is kept: a colouring of as many members as are counted, with room for all of them and more in each list, and the bits of their movers
+-- what is kept: a colouring of as many members as are counted, with room for all of them and more in each list, and the
+-- bits of their movers
 pub record IsGraph {C : Type 0} (number : C → ℕ) (kept : List (Pended C)) (words : List ℕ) (size : Size) : Type 0 where
   pub colouring : IsColouring number (lists_of kept)
   pub bits : AreTakenColours (lists_of kept) words

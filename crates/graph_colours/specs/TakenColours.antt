@@ -1,4 +1,5 @@
--- The colours that each mover has: a word for each slot, and in it a bit for each colour, which is set where a member of the colour has the mover there.
+-- The colours that each mover has: a word for each slot, and in it a bit for each colour, which is set where a member
+-- of the colour has the mover there.
 use Rattle.std.specs.Prelude.{◌≡◌, ◌≢◌, ℕ, ◌<◌, ◌≤◌, ◌-◌, ◌^◌, Bool, cond, List, length, slice_index_or, bit_and, bit_or, Option, Some, None}
 use Rattle.std.specs.List.{list_any}
 use Rattle.std.specs.Int.{bit_at}
@@ -46,8 +47,8 @@ taken words movers = or_second words (word_at words movers.first) movers.second
 abbrev pub common : List ℕ → Movers → ℕ
 common words movers = and_second words (word_at words movers.first) movers.second
 
--- the lists in which a constraint of these movers may be, as far as the bits tell: the colours that all its movers have, and the overflow; each,
--- where its movers aren't told
+-- the lists in which a constraint of these movers may be, as far as the bits tell: the colours that all its movers
+-- have, and the overflow; each, where its movers aren't told
 abbrev pub candidates : List ℕ → Option Movers → ℕ
 candidates words None = 2 ^ 32 - 1
 candidates words (Some movers) = bit_or (common words movers) (2 ^ COLOURS)

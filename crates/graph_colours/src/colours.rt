@@ -22,10 +22,11 @@ use fixed_geom::Refusal;
 use std::alloc::Global;
 use std::marker::Model;
 
-/// The active constraints by colour. A constraint that takes its colour, or gives it up, may be put off in the list of its colour until
-/// [`Colours::flush`], so that it doesn't cost by how many others there are. Contracts see the members of each colour, ascending by id
-/// (`lists`), how many more constraints may be placed with no memory (`room`), the bound below which their movers' slots must be (`slots`),
-/// and whether edits may be put off (`pending`): if it is 0, none is.
+/// The active constraints by colour. A constraint that takes its colour, or gives it up, may be put off in the list of
+/// its colour until [`Colours::flush`], so that it doesn't cost by how many others there are. Contracts see the members
+/// of each colour, ascending by id (`lists`), how many more constraints may be placed with no memory (`room`), the
+/// bound below which their movers' slots must be (`slots`), and whether edits may be put off (`pending`): if it is 0,
+/// none is.
 #[derive(Drop)]
 pub struct Colours<C: ConstraintId> {
     // The members of each colour and, last, those in the overflow.
@@ -39,7 +40,8 @@ pub struct Colours<C: ConstraintId> {
     flushed: bool,
 }
 
-/// How many constraints there are, for how many in all each list has room, and the bound below which their movers' slots are.
+/// How many constraints there are, for how many in all each list has room, and the bound below which their movers'
+/// slots are.
 #[derive(Clone, Copy)]
 struct Size {
     count: usize,
@@ -106,7 +108,7 @@ fn release_in<C: ConstraintId>(
 }
 
 impl<C: ConstraintId> Colours<C> {
-    /// No constraints. Refused 1 where memory is wanting.
+    /// No constraints.
     pub fn new(alloc: Global) -> Result<Colours<C>, Refusal>
         ensures lists { IfOk result (λ made. made.lists ≡ replicate (COLOURS + 1) []) }
         ensures room { IfOk result (λ made. made.room ≡ 0) }
@@ -127,7 +129,7 @@ impl<C: ConstraintId> Colours<C> {
         })
     }
 
-    /// A copy of its own, with no room. Refused 1 where memory is wanting.
+    /// A copy of its own, with no room.
     pub fn try_copy(&self) -> Result<Colours<C>, Refusal>
         ensures lists { IfOk result (λ copied. copied.lists ≡ self.now.lists) }
         ensures room { IfOk result (λ copied. copied.room ≡ 0) }
@@ -159,8 +161,7 @@ impl<C: ConstraintId> Colours<C> {
         self.size.count
     }
 
-    /// Makes room for that many more constraints, whose movers' slots are below `slots`. Refused 1
-    /// where memory is wanting. Changes no list.
+    /// Makes room for that many more constraints, whose movers' slots are below `slots`. Changes no list.
     pub fn reserve(&mut self, constraints: usize, slots: usize) -> Result<(), Refusal>
         ensures room_made { OnOk result (constraints ≤ self.new.room) }
         ensures slots_made { OnOk result (slots ≤ self.new.slots) }
@@ -234,7 +235,8 @@ impl<C: ConstraintId> Colours<C> {
         );
     }
 
-    /// The constraint, whose movers are told, gives up its colour, if it has one. Only colours that have all its movers are looked at.
+    /// The constraint, whose movers are told, gives up its colour, if it has one. Only colours that have all its movers
+    /// are looked at.
     pub fn release_member(&mut self, member: Member<C>)
         requires own { AreOwn C.number member.id (Some member.movers) (all_members self.old.lists) }
         ensures lists { self.new.lists ≡ released C.number member.id self.old.lists }
@@ -285,7 +287,7 @@ impl<C: ConstraintId> Colours<C> {
         }
     }
 
-    /// The members of a colour, 0 to `OVERFLOW`, ascending by id. Refused 1 where memory is wanting.
+    /// The members of a colour, 0 to `OVERFLOW`, ascending by id.
     pub fn to_members(&self, colour: u8) -> Result<Vec<Member<C>>, Refusal>
         requires { colour ≤ OVERFLOW }
         ensures value { IfOk result (λ members. members.items ≡ list_at self.now.lists colour) }

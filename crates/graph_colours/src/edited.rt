@@ -19,8 +19,9 @@ const EDITS: usize = 64;
 
 const MEMBERS_PER_EDIT: usize = 16;
 
-/// Members that ascend by id, with edits that are put off and made together, in one pass. Contracts see the members once all edits are made
-/// (`items`), for how many there is room (`capacity`), and how many edits are put off (`pending`).
+/// Members that ascend by id, with edits that are put off and made together, in one pass. Contracts see the members
+/// once all edits are made (`items`), for how many there is room (`capacity`), and how many edits are put off
+/// (`pending`).
 #[derive(Drop)]
 pub struct EditedList<C: ConstraintId> {
     list: Vec<Member<C>>,
@@ -164,7 +165,7 @@ impl<C: ConstraintId> EditedList<C> {
         }
     }
 
-    /// A list of these members, with no promise on room. Refused 1 where memory is wanting.
+    /// A list of these members, with no promise on room.
     pub fn from_members(alloc: Global, members: &[Member<C>]) -> Result<EditedList<C>, Refusal>
         requires { AreRising C.number members.now }
         ensures items { IfOk result (λ made. made.items ≡ members.now) }
@@ -178,7 +179,7 @@ impl<C: ConstraintId> EditedList<C> {
         })
     }
 
-    /// A copy of its own, with no promise on room. Refused 1 where memory is wanting.
+    /// A copy of its own, with no promise on room.
     pub fn try_copy(&self, alloc: Global) -> Result<EditedList<C>, Refusal>
         ensures items { IfOk result (λ copied. copied.items ≡ self.now.items) }
         ensures pending { IfOk result (λ copied. copied.pending ≡ 0) }
@@ -191,7 +192,7 @@ impl<C: ConstraintId> EditedList<C> {
         })
     }
 
-    /// The members, ascending by id, in the memory of `room`, whatever is in it. Refused 1 where memory is wanting.
+    /// The members, ascending by id, in the memory of `room`, whatever is in it.
     pub fn to_members(&self, room: Vec<Member<C>>) -> Result<Vec<Member<C>>, Refusal>
         ensures items { IfOk result (λ members. members.items ≡ self.now.items) }
         ensures rising { IfOk result (λ members. AreRising C.number members.items) }
@@ -204,7 +205,7 @@ impl<C: ConstraintId> EditedList<C> {
         Ok(members)
     }
 
-    /// Makes room for that many members in all. Refused 1 where memory is wanting. Changes no member.
+    /// Makes room for that many members in all. Changes no member.
     pub fn reserve(&mut self, members: usize) -> Result<(), Refusal>
         ensures made { OnOk result (members ≤ self.new.capacity) }
         ensures items { self.new.items ≡ self.old.items }
@@ -248,7 +249,8 @@ impl<C: ConstraintId> EditedList<C> {
         self.with_number(id.number()).is_some()
     }
 
-    /// Adds a member, for which there is room. `spare` is where members lie while the edits are made, if they have to be.
+    /// Adds a member, for which there is room. `spare` is where members lie while the edits are made, if they have to
+    /// be.
     pub fn insert(&mut self, member: Member<C>, spare: &mut Vec<Member<C>>)
         requires absent { has_id C.number member.id self.old.items ≡ false }
         requires room { length self.old.items < self.old.capacity }

@@ -39,7 +39,8 @@ fn push_added<C: ConstraintId>(list: &mut Vec<Member<C>>, edit: Edit<C>)
     }
 }
 
-/// Adds the members below an edit's to the list, and makes the edit there. Answers how many of the members are done then.
+/// Adds the members below an edit's to the list, and makes the edit there. Answers how many of the members are done
+/// then.
 fn pass_edit<C: ConstraintId>(
     list: &mut Vec<Member<C>>,
     members: &[Member<C>],
@@ -107,8 +108,8 @@ fn edit_each<C: ConstraintId>(list: &mut Vec<Member<C>>, edits: &[Edit<C>])
     }
 }
 
-/// Makes all edits of a list, which ascend, in one pass over the members from the place `start` on, below which there is no edit. These lie in
-/// `spare` meanwhile, which has room for them.
+/// Makes all edits of a list, which ascend, in one pass over the members from the place `start` on, below which there
+/// is no edit. These lie in `spare` meanwhile, which has room for them.
 fn edit_from<C: ConstraintId>(
     list: &mut Vec<Member<C>>,
     start: usize,
@@ -128,8 +129,8 @@ fn edit_from<C: ConstraintId>(
     pass(list, spare, edits);
 }
 
-/// Makes all edits of a list, which ascend, in one pass over the members that stand after the first edit's place. These lie in `spare`
-/// meanwhile; where it has no room for them the edits are made one after the other.
+/// Makes all edits of a list, which ascend, in one pass over the members that stand after the first edit's place. These
+/// lie in `spare` meanwhile; where it has no room for them the edits are made one after the other.
 pub(crate) fn edit_all<C: ConstraintId>(
     list: &mut Vec<Member<C>>,
     edits: &[Edit<C>],

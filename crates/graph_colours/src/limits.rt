@@ -11,8 +11,8 @@ pub const OVERFLOW: u8 = COLOURS as u8;
 /// How many lists there are: one for each colour, and the overflow's.
 pub(crate) const LISTS: usize = COLOURS + 1;
 
-/// The law of the limits: the numbers that definitions take from the code, in digits. The function does nothing; its contract is
-/// the law.
+/// The law of the limits: the numbers that definitions take from the code, in digits. The function does nothing; its
+/// contract is the law.
 pub fn limits_in_digits()
     ensures colours { COLOURS ≡ 24 }
     ensures overflow { OVERFLOW ≡ 24 }

@@ -18,7 +18,7 @@ use crate::{ConstraintId, Member, Movers};
 use fixed_geom::Refusal;
 use std::alloc::Global;
 
-/// As many lists as there are, with no members. Refused 1 where memory is wanting.
+/// As many lists as there are, with no members.
 pub(crate) fn no_lists<C: ConstraintId>(alloc: Global) -> Result<Vec<EditedList<C>>, Refusal>
     ensures lists { IfOk result (λ lists. lists_of lists.items ≡ replicate (COLOURS + 1) []) }
     ensures rest { IfOk result (λ lists. AreAtRest lists.items) }
@@ -31,7 +31,7 @@ pub(crate) fn no_lists<C: ConstraintId>(alloc: Global) -> Result<Vec<EditedList<
     Ok(lists)
 }
 
-/// Copies of the lists. Refused 1 where memory is wanting.
+/// Copies of the lists.
 pub(crate) fn copies<C: ConstraintId>(
     alloc: Global,
     lists: &[EditedList<C>],
@@ -47,7 +47,7 @@ pub(crate) fn copies<C: ConstraintId>(
     Ok(copied)
 }
 
-/// Makes room in each list for that many members in all. Refused 1 where memory is wanting.
+/// Makes room in each list for that many members in all.
 pub(crate) fn reserve_all<C: ConstraintId>(
     lists: &mut Vec<EditedList<C>>,
     constraints: usize,
@@ -111,8 +111,9 @@ fn remove_at<C: ConstraintId>(
     true
 }
 
-/// Takes the id, and the bits of its movers, out of the first list that has it, and touches no other: an id stands in one at most. Where its
-/// movers are told, only the overflow and the colours that all of them have are looked at. Answers how many members went.
+/// Takes the id, and the bits of its movers, out of the first list that has it, and touches no other: an id stands in
+/// one at most. Where its movers are told, only the overflow and the colours that all of them have are looked at.
+/// Answers how many members went.
 pub(crate) fn remove_from_first<C: ConstraintId>(
     lists: &mut Vec<EditedList<C>>,
     words: &mut Vec<u32>,

@@ -11,7 +11,8 @@ use crate::edits::{Edit, is_at};
 use crate::member::place_from;
 use crate::{ConstraintId, Member};
 
-/// The places from `start` up to `end`, which members have left: those before them are final, and those after them are still to be passed.
+/// The places from `start` up to `end`, which members have left: those before them are final, and those after them are
+/// still to be passed.
 #[derive(Clone, Copy)]
 struct Gap {
     start: usize,
@@ -42,7 +43,8 @@ fn move_down<C: ConstraintId>(list: &mut Vec<Member<C>>, gap: Gap, count: usize)
     list.copy_within(gap.end..gap.end + count, gap.start);
 }
 
-/// Moves the members below an edit's down, and leaves out the one that it takes away. Answers the gap that is behind them then.
+/// Moves the members below an edit's down, and leaves out the one that it takes away. Answers the gap that is behind
+/// them then.
 fn pass_removal<C: ConstraintId>(list: &mut Vec<Member<C>>, gap: Gap, edit: Edit<C>) -> Gap
     requires rising { AreRising C.number (drop gap.end list.old.items) }
     requires gap { IsGap gap (length list.old.items) }
@@ -81,7 +83,8 @@ fn close<C: ConstraintId>(list: &mut Vec<Member<C>>, gap: Gap)
     list.truncate(gap.start + count);
 }
 
-/// Makes the edits, none of which adds a member, in one pass over the members from the place `start` on, below which there is no edit.
+/// Makes the edits, none of which adds a member, in one pass over the members from the place `start` on, below which
+/// there is no edit.
 fn remove_from<C: ConstraintId>(list: &mut Vec<Member<C>>, start: usize, edits: &[Edit<C>])
     requires rising { AreRising C.number list.old.items }
     requires in_order { AreInOrder C.number edits.now }
@@ -98,8 +101,8 @@ fn remove_from<C: ConstraintId>(list: &mut Vec<Member<C>>, start: usize, edits: 
     close(list, gap);
 }
 
-/// Makes all edits of a list, which ascend and none of which adds a member, in one pass over the members that stand after the first edit's place. It
-/// takes no memory.
+/// Makes all edits of a list, which ascend and none of which adds a member, in one pass over the members that stand
+/// after the first edit's place. It takes no memory.
 pub(crate) fn remove_all<C: ConstraintId>(list: &mut Vec<Member<C>>, edits: &[Edit<C>])
     requires rising { AreRising C.number list.old.items }
     requires in_order { AreInOrder C.number edits.now }

@@ -1,5 +1,5 @@
-//! The colours that each mover has: for each slot a word, and in it a bit for each colour, which is set where a member of the colour has the mover
-//! there. So the colours that are free are found with one load for each mover.
+//! The colours that each mover has: for each slot a word, and in it a bit for each colour, which is set where a member
+//! of the colour has the mover there. So the colours that are free are found with one load for each mover.
 
 ghost use Rattle.std.specs.Prelude.{◌≡◌, ◌≢◌, ◌<◌, ◌≤◌, ◌==◌, ℕ, length, OnOk};
 ghost use Rattle.std.specs.Int.{bit_at};
@@ -15,7 +15,7 @@ use fixed_geom::Refusal;
 /// The bit of the overflow, which no word has.
 const OVERFLOW_BIT: u32 = 1 << COLOURS;
 
-/// Makes a word, with no bit set, for each slot below a number. Refused 1 where memory is wanting.
+/// Makes a word, with no bit set, for each slot below a number.
 pub(crate) fn grow(words: &mut Vec<u32>, slots: usize) -> Result<(), Refusal>
     ensures made { OnOk result (slots ≤ length words.new.items) }
     ensures more { length words.old.items ≤ length words.new.items }
@@ -69,8 +69,8 @@ fn common(words: &[u32], movers: Movers) -> u32
     }
 }
 
-/// The lists in which a constraint of these movers may be, as far as the bits tell: the colours that all its movers have, and the overflow;
-/// each, where its movers aren't told.
+/// The lists in which a constraint of these movers may be, as far as the bits tell: the colours that all its movers
+/// have, and the overflow; each, where its movers aren't told.
 pub(crate) fn candidates(words: &[u32], movers: Option<Movers>) -> u32
     ensures { result ≡ candidates words.now movers }
 {

@@ -17,7 +17,8 @@ use std::marker::Model;
 /// The book of impulses. Contracts see its entries, oldest first (`entries`), the sums of entries that were settled and
 /// dropped (`settled`), and how many more entries may be added with no memory (`room`).
 ///
-/// A component of a sum by cause is at most `MAX_TOTAL_OF_CAUSE` in size, and one of the sum of all at most `MAX_TOTAL`.
+/// A component of a sum by cause is at most `MAX_TOTAL_OF_CAUSE` in size, and one of the sum of all at most
+/// `MAX_TOTAL`.
 #[derive(Drop)]
 pub struct Ledger {
     entries: Vec<Entry>,
@@ -96,8 +97,8 @@ impl Ledger {
         let _ = self.entries.push(entry);
     }
 
-    /// Adds the entries to the settled sums, each to that of its cause, and drops them. No sum changes, and no memory is
-    /// taken.
+    /// Adds the entries to the settled sums, each to that of its cause, and drops them. No sum changes, and no memory
+    /// is taken.
     pub fn settle(&mut self)
         ensures entries { self.new.entries ≡ [] }
         ensures settled { self.new.settled ≡ totals_of self.old }

@@ -13,8 +13,8 @@ pub const MAX_TOTAL: u128 = 1 << 126;
 /// another takes back.
 pub const MAX_TOTAL_OF_CAUSE: u128 = MAX_TOTAL + (1 << 124);
 
-/// The law of the limits: the numbers that definitions take from the code, in digits. The function does nothing; its contract is
-/// the law.
+/// The law of the limits: the numbers that definitions take from the code, in digits. The function does nothing; its
+/// contract is the law.
 pub fn limits_in_digits()
     ensures impulse { MAX_ENTRY ≡ 9671406556917033397649408 }
     ensures total { MAX_TOTAL ≡ 85070591730234615865843651857942052864 }

@@ -1,4 +1,5 @@
--- What is left of the labels, and of the names of parts, once a mover has left its part: it has changed places with the one at the front, and the front has left the thread.
+-- What is left of the labels, and of the names of parts, once a mover has left its part: it has changed places with the
+-- one at the front, and the front has left the thread.
 use Rattle.std.proofs.Common.{◌≡◌, ◌≢◌, ℕ, ◌+◌, ◌<◌, length, Option, Some, None, false, ◌||◌, inl, inr, arith, refl, sym, ap, ◌∙◌, slice_set, get_or-set_same, get_or-set_other, eq-eqb}
 use Rattle.std.specs.Prelude.{cond}
 use Rattle.std.proofs.lemmas.Bool.{cases_eq, false≢true, lt-ltb, le-ltb}

@@ -1,4 +1,5 @@
--- Parts as the slots see them: what holds of the notes by node holds of those by slot, where each part is named by its lowest slot.
+-- Parts as the slots see them: what holds of the notes by node holds of those by slot, where each part is named by its
+-- lowest slot.
 use Rattle.std.proofs.Common.{◌≡◌, ◌≢◌, ℕ, ◌<◌, length, Some, inl, inr, arith, sym, ap, ◌∙◌, slice_set}
 use Rattle.std.proofs.lemmas.Bool.{cases_eq}
 use Rattle.islands.specs.declared.threads.Head.{Head}

@@ -18,8 +18,8 @@ Leads R a (c ∷ path) b = R a c × Leads R c path b
 abbrev pub Joined : (ℕ → ℕ → Type 0) → ℕ → ℕ → Type 0
 Joined R a b = (path : List ℕ) × Leads R a path b
 
--- Whether a is joined to b, found link by link. With no links each is joined to itself alone. With one link more those that
--- were joined stay so, and whoever was joined to an end of that link is joined to all others that were.
+-- Whether a is joined to b, found link by link. With no links each is joined to itself alone. With one link more those
+-- that were joined stay so, and whoever was joined to an end of that link is joined to all others that were.
 abbrev pub reaches : Edges → ℕ → ℕ → Bool
 reaches [] a b = a == b
 reaches (e ∷ edges) a b = reaches edges a b || ((reaches edges a e.0 || reaches edges a e.1) && (reaches edges b e.0 || reaches edges b e.1))

@@ -1,4 +1,5 @@
--- Islands as threads through the nodes of their movers: what is kept by node, which labels that means by slot, and what holds of it.
+-- Islands as threads through the nodes of their movers: what is kept by node, which labels that means by slot, and what
+-- holds of it.
 use Rattle.std.specs.Prelude.{◌≡◌, ◌≢◌, ◌↔◌, ◌++◌, replicate, nat_eq, Contains, ℕ, suc, ◌-◌, ◌+◌, ◌<◌, ◌≤◌, List, length, Some, None, Option, map, ◌==◌, ◌&&◌, ◌^◌, Bool, true, false, count_by, nat_le, slice_set}
 use Rattle.std.specs.List.{slice_index_or, IsDistinct}
 use Rattle.islands.specs.declared.threads.Note.{Note}
@@ -91,8 +92,8 @@ abbrev pub ahead : Notes → Option ℕ → ℕ
 ahead notes None = 0
 ahead notes (Some slot) = suc (rank_at notes slot)
 
--- A part is led from the node where its thread ends. Its thread begins at its node of the highest rank, and goes on from each
--- to the one of the next lower rank. No two of its nodes have one rank, and ranks are below the count.
+-- A part is led from the node where its thread ends. Its thread begins at its node of the highest rank, and goes on
+-- from each to the one of the next lower rank. No two of its nodes have one rank, and ranks are below the count.
 pub record IsPart (notes : Notes) (heads : Heads) (part : ℕ) : Type 0 where
   pub led : InPart notes part part
   pub end : rank_at notes part ≡ 0
@@ -155,7 +156,8 @@ abbrev pub or_first : Option ℕ → ℕ → ℕ
 or_first None first = first
 or_first (Some slot) first = slot
 
--- the note of a mover once its part has come before the part `to` of `count` members, of which the thread began at `first`
+-- the note of a mover once its part has come before the part `to` of `count` members, of which the thread began at
+-- `first`
 abbrev pub moved_note : ℕ → ℕ → ℕ → Note → Note
 moved_note to count first n = record { part = to; rank = n.rank + count; next = Some (or_first n.next first) }
 

@@ -13,8 +13,8 @@ pub record IsPartition (labels : Labels) : Type 0 where
 abbrev pub AreTogether : Labels → ℕ → ℕ → Type 0
 AreTogether labels a b = (l : Label) × (label_at labels a ≡ Some l) × (label_at labels b ≡ Some l)
 
--- Linked movers are in one island, so both are awake or both asleep; and an island that isn't loose is one component: each
--- of its movers is joined to each other, and by the first clause to none outside.
+-- Linked movers are in one island, so both are awake or both asleep; and an island that isn't loose is one component:
+-- each of its movers is joined to each other, and by the first clause to none outside.
 pub record AreIslands (R : ℕ → ℕ → Type 0) (labels : Labels) : Type 0 where
   pub partition : IsPartition labels
   pub together : (a b : ℕ) → R a b → AreTogether labels a b

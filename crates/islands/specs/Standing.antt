@@ -1,4 +1,5 @@
--- Where the slots stand: each at a node of its own. Nodes are numbered as slots are, and past the end each slot stands at the node of its own number.
+-- Where the slots stand: each at a node of its own. Nodes are numbered as slots are, and past the end each slot stands
+-- at the node of its own number.
 use Rattle.std.specs.Prelude.{◌≡◌, ◌≢◌, ℕ, ◌+◌, ◌-◌, List, length}
 use Rattle.std.specs.List.{slice_index_or}
 use Rattle.islands.specs.declared.thread_nodes.NodeEntry.{NodeEntry}

@@ -61,7 +61,7 @@ impl Islands {
         }
     }
 
-    /// A copy of its own, with no room. Refused 1 where memory is wanting.
+    /// A copy of its own, with no room.
     pub fn try_copy(&self) -> Result<Islands, Refusal>
         ensures labels { IfOk result (λ copied. copied.labels ≡ self.now.labels) }
         ensures room { IfOk result (λ copied. copied.room ≡ 0) }
@@ -76,7 +76,7 @@ impl Islands {
         })
     }
 
-    /// Makes room for movers in slots below `slots`. Refused 1 where memory is wanting.
+    /// Makes room for movers in slots below `slots`.
     pub fn reserve(&mut self, slots: usize) -> Result<(), Refusal>
         ensures made { OnOk result (slots ≤ self.new.room) }
         ensures room { self.old.room ≤ self.new.room }
@@ -141,8 +141,8 @@ impl Islands {
         set_state(&self.notes, &mut self.heads, part, IslandState::Loose);
     }
 
-    /// Takes a mover out of its island. Those that it leaves behind are loose, under their lowest slot. That is looked for
-    /// only where the mover named the island: otherwise it costs the same whatever the size of the island.
+    /// Takes a mover out of its island. Those that it leaves behind are loose, under their lowest slot. That is looked
+    /// for only where the mover named the island: otherwise it costs the same whatever the size of the island.
     pub fn take_out(&mut self, slot: u32)
         requires mover { IsSome (label_at self.old.labels slot) }
         ensures labels { self.new.labels ≡ taken_out self.old.labels slot }
@@ -242,7 +242,7 @@ impl Islands {
         self.label_of(slot).unwrap().state.is_asleep()
     }
 
-    /// The movers of an island, ascending. Refused 1 where memory is wanting.
+    /// The movers of an island, ascending.
     pub fn members(&self, name: u32) -> Result<Vec<u32>, Refusal>
         ensures ascending { IfOk result (λ v. IsStrictlyIncreasing v.items) }
         ensures members { IfOk result (λ v. (slot : ℕ) → Contains v.items slot ↔ IsIn self.now.labels name slot) }
@@ -252,8 +252,8 @@ impl Islands {
         members_of(alloc, &self.node_entries, &self.notes, &self.heads, name)
     }
 
-    /// Lists the movers of an island, in no order that is promised; none where there is no such island. There is room for
-    /// as many as there are slots. Takes no memory.
+    /// Lists the movers of an island, in no order that is promised; none where there is no such island. There is room
+    /// for as many as there are slots. Takes no memory.
     pub fn fill_members(&self, name: u32, members: &mut Vec<u32>)
         requires room { length self.now.labels ≤ vec_capacity members.old }
         ensures members { (slot : ℕ) → Contains members.new.items slot ↔ IsIn self.now.labels name slot }
@@ -263,7 +263,7 @@ impl Islands {
         fill_members(&self.node_entries, &self.notes, &self.heads, name, members);
     }
 
-    /// By slot the label of the mover's island. Refused 1 where memory is wanting.
+    /// By slot the label of the mover's island.
     pub fn list_labels(&self) -> Result<Vec<Option<Label>>, Refusal>
         ensures labels { IfOk result (λ v. v.items ≡ self.now.labels) }
         ensures memory_only { IsOkUnless result Refusal.NoMemory }

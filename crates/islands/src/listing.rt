@@ -35,7 +35,7 @@ pub(crate) fn list_members(
     }
 }
 
-/// The members of a part, ascending. Refused 1 where memory is wanting.
+/// The members of a part, ascending.
 fn sorted_members(
     alloc: Global,
     node_entries: &[NodeEntry],
@@ -56,8 +56,7 @@ fn sorted_members(
     Ok(members)
 }
 
-/// The movers of an island, ascending; none where there is no such island. Refused 1 where memory is
-/// wanting.
+/// The movers of an island, ascending; none where there is no such island.
 pub(crate) fn members_of(
     alloc: Global,
     node_entries: &[NodeEntry],
@@ -76,8 +75,8 @@ pub(crate) fn members_of(
     }
 }
 
-/// Lists the movers of an island, in no order that is promised; none where there is no such island. There is room for as many as
-/// there are slots.
+/// Lists the movers of an island, in no order that is promised; none where there is no such island. There is room for
+/// as many as there are slots.
 pub(crate) fn fill_members(
     node_entries: &[NodeEntry],
     notes: &[Option<Note>],

@@ -6,7 +6,7 @@ ghost use Rattle.islands.specs.Packed.{filled};
 
 use fixed_geom::Refusal;
 
-/// Makes room for n items in all. Refused 1 where memory is wanting.
+/// Makes room for n items in all.
 pub(crate) fn reserve_in_all<T: Copy>(list: &mut Vec<T>, n: usize) -> Result<(), Refusal>
     ensures made { OnOk result (n ≤ vec_capacity list.new) }
     ensures items { list.new.items ≡ list.old.items }

@@ -49,8 +49,7 @@ impl SplitScratch {
         }
     }
 
-    /// Makes room for the split of an island with that many links, where there are that many slots in
-    /// all. Refused 1 where memory is wanting.
+    /// Makes room for the split of an island with that many links, where there are that many slots in all.
     pub fn reserve(&mut self, slots: usize, links: usize) -> Result<(), Refusal>
         ensures slots_made { OnOk result (slots ≤ self.new.slots) }
         ensures links_made { OnOk result (links ≤ self.new.links) }

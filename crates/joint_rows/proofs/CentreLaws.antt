@@ -1,4 +1,5 @@
--- An impulse between the centres of two bodies turns neither: whatever their angular momenta, it makes the same of all else, and leaves them.
+-- An impulse between the centres of two bodies turns neither: whatever their angular momenta, it makes the same of all
+-- else, and leaves them.
 use Rattle.std.proofs.Common.{◌≡◌, zero, suc, ◌^◌, ◌≤◌, Bool, ◌&&◌, true, false, cond, Option, Some, None, ℤ, pos, negsuc, neg_ℤ, ◌+ℤ◌, ◌-ℤ◌, unsigned_abs, arith, refl, sym, ap, ap₂, ◌∙◌}
 use Rattle.std.proofs.lemmas.Bool.{le-leb}
 use Rattle.std.proofs.lemmas.Bool.Decides.{Decides-int_eq}

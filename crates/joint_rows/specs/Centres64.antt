@@ -29,7 +29,8 @@ with_own_turning a b n = record { a = record { p = n.a; l = a.motion.l }; b = re
 abbrev pub all_pushed : BodyState → BodyState → Pushed64 → Exerted64
 all_pushed a b n = record { now = with_own_turning a b n.now; total = n.total }
 
--- what stands in n is t, which a pass has left of the row r and of the bodies a and b, whose angular momenta are as they were
+-- what stands in n is t, which a pass has left of the row r and of the bodies a and b, whose angular momenta are as
+-- they were
 abbrev pub IsPushedAfter64 : JointAfter → JointRow → BodyState → BodyState → Pushed64 → Type 0
 IsPushedAfter64 t r a b n = IsRowAfter64 t r a b (all_pushed a b n)
 

@@ -1,5 +1,6 @@
--- Trusted: One joint in a step: what stays for the step, and what its impulses do to it and to its two bodies. `start` is the two bodies as
--- they stand when the step begins, `e` as they stand now. All that the solver computes once a step is computed here where it is used.
+-- Trusted: One joint in a step: what stays for the step, and what its impulses do to it and to its two bodies. `start`
+-- is the two bodies as they stand when the step begins, `e` as they stand now. All that the solver computes once a step
+-- is computed here where it is used.
 use Rattle.std.specs.Prelude.{Bool, ◌&&◌, ◌≤◌, cond, ℤ, pos, neg_ℤ, ◌+ℤ◌, ◌-ℤ◌, ◌≤ℤ◌, unsigned_abs}
 use Rattle.std.specs.Ordering.{int_eq}
 use Rattle.fixed_geom.specs.Numbers.{rdiv}

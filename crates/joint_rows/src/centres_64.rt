@@ -1,5 +1,5 @@
-//! The impulses of a joint between the centres of its bodies, in 64 bits. They turn neither body, and so need and change the momenta
-//! of the two alone: angular momenta are neither read nor written.
+//! The impulses of a joint between the centres of its bodies, in 64 bits. They turn neither body, and so need and
+//! change the momenta of the two alone: angular momenta are neither read nor written.
 
 ghost use Rattle.std.specs.Prelude.{◌≡◌, ◌^◌, ◌<◌, ◌≤◌, true, unsigned_abs, IfSome, is_some};
 ghost use Rattle.fixed_geom.specs.Vectors.{zero_vector};
@@ -105,8 +105,8 @@ fn pushed(after: Exerted64) -> Pushed64
     }
 }
 
-/// A joint between the centres in a solver pass, as `solve_joint` has it: `None` where it isn't one, or where something is too
-/// large for 64 bits.
+/// A joint between the centres in a solver pass, as `solve_joint` has it: `None` where it isn't one, or where something
+/// is too large for 64 bits.
 #[inline(always)]
 pub fn solve_centres_64(row: &JointRow, a: &BodyState, b: &BodyState) -> Option<Pushed64>
     requires row { IsJointRow row.now }
@@ -128,8 +128,8 @@ pub fn solve_centres_64(row: &JointRow, a: &BodyState, b: &BodyState) -> Option<
     }
 }
 
-/// The warm start of a joint between the centres, as `warm_joint` has it: `None` where it isn't one, or where something is too
-/// large for 64 bits.
+/// The warm start of a joint between the centres, as `warm_joint` has it: `None` where it isn't one, or where something
+/// is too large for 64 bits.
 #[inline(always)]
 pub fn warm_centres_64(row: &JointRow, a: &BodyState, b: &BodyState) -> Option<Pushed64>
     requires row { IsJointRow row.now }

@@ -1,9 +1,9 @@
 //! One joint in a step: what stays for the whole step, computed once (`JointRow`), and the impulses that its two bodies
 //! give one another in a warm start and in a solver pass.
 //!
-//! A joint holds a point of one body at a fixed distance from a point of another, as Box2D's distance joint does without
-//! spring, limits and motor. It is solved as its contacts are, by Erin Catto's sequential impulses (GDC 2006): one accumulated
-//! and clamped impulse with a warm start, and a bias velocity that takes the error away.
+//! A joint holds a point of one body at a fixed distance from a point of another, as Box2D's distance joint does
+//! without spring, limits and motor. It is solved as its contacts are, by Erin Catto's sequential impulses (GDC 2006):
+//! one accumulated and clamped impulse with a warm start, and a bias velocity that takes the error away.
 #![tactic(auto)]
 
 mod centres_64;

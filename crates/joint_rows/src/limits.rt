@@ -17,8 +17,8 @@ pub const MAX_JOINT_BIAS: i64 = 16_384;
 /// No joint's anchors are farther apart, or nearer, than its length by more than this when a step begins, in u.
 pub const MAX_STRETCH: i64 = 1 << 39;
 
-/// The law of the limits: the numbers that definitions take from the code, in digits. The function does nothing; its contract is
-/// the law.
+/// The law of the limits: the numbers that definitions take from the code, in digits. The function does nothing; its
+/// contract is the law.
 pub fn limits_in_digits()
     ensures anchor { MAX_ANCHOR ≡ pos 16777216 }
     ensures length { MAX_JOINT_LENGTH ≡ pos 33554432 }

@@ -1,4 +1,5 @@
-//! What stays of a joint for a whole step: offsets, direction, inverse mass, and how far it is stretched when the step begins.
+//! What stays of a joint for a whole step: offsets, direction, inverse mass, and how far it is stretched when the step
+//! begins.
 
 ghost use Rattle.std.specs.Prelude.{◌≡◌, ◌^◌, ◌≤◌, ◌+◌, ◌⊎◌, true, pos, ◌≤ℤ◌, unsigned_abs};
 ghost use Rattle.fixed_geom.specs.Facings.{IsFacing};
@@ -20,8 +21,8 @@ pub struct JointBodies {
     pub b: u32,
 }
 
-/// A joint in a step: the line from the first body's anchor to the second's, by how much the distance of the two exceeded the
-/// joint's length when the step began (u), and the accumulated impulse (mass·u/tick).
+/// A joint in a step: the line from the first body's anchor to the second's, by how much the distance of the two
+/// exceeded the joint's length when the step began (u), and the accumulated impulse (mass·u/tick).
 #[derive(Clone, Copy, Debug, PartialEq, Eq)]
 pub struct JointRow {
     pub bodies: JointBodies,

@@ -42,8 +42,8 @@ pub(crate) fn solve_with_64(
     solve_line_64(&row.line, apart, goal, a, b, now)
 }
 
-/// A joint in a solver pass, as `solve_joint` has it: the accumulated impulse and the two bodies' momenta after it, or `None`
-/// where something is too large for 64 bits.
+/// A joint in a solver pass, as `solve_joint` has it: the accumulated impulse and the two bodies' momenta after it, or
+/// `None` where something is too large for 64 bits.
 #[inline(always)]
 pub fn solve_joint_64(row: &JointRow, a: &BodyState, b: &BodyState) -> Option<Exerted64>
     requires row { IsJointRow row.now }

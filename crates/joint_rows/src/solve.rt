@@ -20,8 +20,8 @@ pub struct JointAfter {
     pub ends: Ends,
 }
 
-/// By how much the anchors' distance exceeds the joint's length now, in u: what it was when the step began, and how far the
-/// centres have parted along the line since.
+/// By how much the anchors' distance exceeds the joint's length now, in u: what it was when the step began, and how far
+/// the centres have parted along the line since.
 #[tactic(auto, unfolding(crate::specs::Rows::stretch_now))]
 #[inline(always)]
 pub(crate) fn stretch_between(row: &JointRow, a: &BodyState, b: &BodyState) -> i64
@@ -71,8 +71,8 @@ pub fn has_no_impulse(row: &JointRow) -> bool
     row.impulse == 0
 }
 
-/// The warm start of a joint: the impulse that it has kept, given once more. Where a momentum would leave its limits, neither
-/// body gets anything.
+/// The warm start of a joint: the impulse that it has kept, given once more. Where a momentum would leave its limits,
+/// neither body gets anything.
 #[tactic(auto, unfolding(crate::specs::Rows::joint_warmed))]
 #[inline(always)]
 pub fn warm_joint(row: &JointRow, ends: &mut Ends)

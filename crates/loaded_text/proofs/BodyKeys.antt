@@ -1,4 +1,5 @@
--- What stands under the keys of a body that is read, and what its kind, its mass, its motion and its island are read as.
+-- What stands under the keys of a body that is read, and what its kind, its mass, its motion and its island are read
+-- as.
 use Rattle.std.proofs.Common.{◌≡◌, ℕ, ◌^◌, ◌<◌, ◌++◌, ◌∷◌, [], true, List, Option, Some, codes, ℤ, pos, unsigned_abs, int_eq, refl, ap, ◌∙◌, arith}
 use Rattle.fixed_geom.specs.Facings.{IsFacing, is_facing}
 use Rattle.fixed_geom.specs.Vectors.{IsWithin}

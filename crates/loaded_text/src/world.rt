@@ -89,9 +89,10 @@ fn saved_of(alloc: Global, text: &[u8]) -> Option<Saved>
     Some(saved)
 }
 
-/// The world that a text saves, and the totals of its ledger, if the text is one that is written of a world: compact, in version 2, the keys of each
-/// object ascending, its numbers within their limits. The first of the clauses is answered that its parts break together. Nothing is answered of
-/// another text, nor where memory was wanting before the text's end.
+/// The world that a text saves, and the totals of its ledger, if the text is one that is written of a world: compact,
+/// in version 2, the keys of each object ascending, its numbers within their limits. The first of the clauses is
+/// answered that its parts break together. Nothing is answered of another text, nor where memory was wanting before the
+/// text's end.
 pub fn read_text(alloc: Global, text: &[u8]) -> Option<Result<(Plain, Totals), Broken>>
     ensures { IfSome result (λ answer. MatchResult answer (IsReadOf text.now) (IsRefusedOf text.now)) }
 {

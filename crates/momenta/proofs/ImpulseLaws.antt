@@ -1,4 +1,5 @@
--- Laws of an impulse: which states it leaves, what it leaves alone, and that two movers' momenta have the same sum after it.
+-- Laws of an impulse: which states it leaves, what it leaves alone, and that two movers' momenta have the same sum
+-- after it.
 use Rattle.std.proofs.Common.{◌≡◌, ◌^◌, ◌≤◌, Bool, true, false, cond, Option, Some, None, is_some, ℤ, pos, neg_ℤ, ◌+ℤ◌, unsigned_abs, arith, refl}
 use Rattle.std.proofs.lemmas.Bool.Decides.{nat_tests}
 use Rattle.std.proofs.lemmas.Int.{ints}

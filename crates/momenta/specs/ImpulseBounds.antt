@@ -14,8 +14,8 @@ use Rattle.momenta.specs.Reciprocals.{reciprocals_of}
 
 -- ---- what must hold of a body and of a line
 
--- what is kept of it: its mass is one, its numbers are within their limits, and the reciprocals are those of the mass. Of a body that no
--- impulse moves, mass and momenta only say how it is carried along: with which velocity and spin.
+-- what is kept of it: its mass is one, its numbers are within their limits, and the reciprocals are those of the mass.
+-- Of a body that no impulse moves, mass and momenta only say how it is carried along: with which velocity and spin.
 pub record IsState (s : BodyState) : Type 0 where
   pub mass : IsMass s.mass
   pub reciprocals : s.reciprocals ≡ reciprocals_of s.mass

@@ -1,4 +1,5 @@
--- Trusted: Impulses: what a body gets of one, what two bodies give one another, and one impulse of the sequential solver along a line.
+-- Trusted: Impulses: what a body gets of one, what two bodies give one another, and one impulse of the sequential
+-- solver along a line.
 use Rattle.std.specs.Prelude.{zero, ◌^◌, Bool, false, cond, nat_le, Option, Some, None, ℤ, pos, neg_ℤ, ◌+ℤ◌, ◌-ℤ◌, ◌*ℤ◌, unsigned_abs, int_lt, unwrap_or}
 use Rattle.std.specs.Option.{option_map_or}
 use Rattle.fixed_geom.specs.Numbers.{rdiv}

@@ -19,7 +19,8 @@ use fixed_geom::{
     rdiv_unit_64,
 };
 
-/// What turning adds to a body's share of the inverse mass: nothing at inertia 0, or where the line goes through the centre.
+/// What turning adds to a body's share of the inverse mass: nothing at inertia 0, or where the line goes through the
+/// centre.
 #[inline(always)]
 fn turning_share(inertia: i64, reciprocal: i64, lever: i64) -> i128
     requires inertia { pos 0 ≤ℤ inertia }
@@ -108,8 +109,8 @@ fn inverse_share(direction: Vec2, r: Vec2, body: &BodyState) -> i128
     }
 }
 
-/// The inverse of the mass that two bodies show along `direction` (times 2^30) at these offsets (u), times 2^40: for each
-/// mover `1/m + (r × n)²/I`, as in Erin Catto's sequential impulses.
+/// The inverse of the mass that two bodies show along `direction` (times 2^30) at these offsets (u), times 2^40: for
+/// each mover `1/m + (r × n)²/I`, as in Erin Catto's sequential impulses.
 #[tactic(auto, unfolding(crate::specs::Impulses::inverse_mass))]
 #[inline(always)]
 pub fn inverse_mass(direction: Vec2, ra: Vec2, rb: Vec2, ends: &Ends) -> i128
@@ -125,7 +126,8 @@ pub fn inverse_mass(direction: Vec2, ra: Vec2, rb: Vec2, ends: &Ends) -> i128
     inverse_share(direction, ra, &ends.a) + inverse_share(direction, rb, &ends.b)
 }
 
-/// The reciprocal of an inverse mass that a `Line` has its impulses taken with: 0 where the inverse is too great to have one.
+/// The reciprocal of an inverse mass that a `Line` has its impulses taken with: 0 where the inverse is too great to
+/// have one.
 #[inline(always)]
 pub fn inverse_reciprocal(inverse: i128) -> i64
     requires { pos 0 ≤ℤ inverse }

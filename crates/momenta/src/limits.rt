@@ -26,8 +26,8 @@ pub const MIN_INVERSE_MASS: i128 = 1 << 20;
 /// The greatest inverse mass along a line, times 2^40: that of two bodies of mass and inertia 1, and some more.
 pub const MAX_INVERSE_MASS: i128 = 1 << 98;
 
-/// The law of the limits: the numbers that definitions take from the code, in digits. The function does nothing; its contract is
-/// the law.
+/// The law of the limits: the numbers that definitions take from the code, in digits. The function does nothing; its
+/// contract is the law.
 pub fn limits_in_digits()
     ensures mass { MAX_MASS ≡ pos 1048576 }
     ensures inertia { MAX_INERTIA ≡ pos 1152921504606846976 }

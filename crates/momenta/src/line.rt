@@ -1,5 +1,5 @@
-//! One impulse along a line between two bodies: the accumulated and clamped impulses of Erin Catto's sequential impulses
-//! (GDC 2006), in whole numbers.
+//! One impulse along a line between two bodies: the accumulated and clamped impulses of Erin Catto's sequential
+//! impulses (GDC 2006), in whole numbers.
 
 ghost use Rattle.std.specs.Prelude.{◌≡◌, ℕ, ◌^◌, ◌<◌, ◌≤◌, ◌+◌, ◌⊎◌, true, false, pos, neg_ℤ, ◌+ℤ◌, ◌-ℤ◌, ◌*ℤ◌, ◌≤ℤ◌, ◌<ℤ◌, unsigned_abs};
 ghost use Rattle.fixed_geom.specs.Numbers.{rdiv};
@@ -30,9 +30,9 @@ const SIZE_LIMIT_64: i64 = 1 << 32;
 /// An inverse mass is times 2^40.
 const INVERSE_UNIT: i128 = 1 << 40;
 
-/// A line along which impulses pass between two bodies: its direction (times 2^30), the offsets from the two centres at which
-/// it meets them (u), the inverse of the mass that they show along it, times 2^40, and the reciprocal of that inverse, with which
-/// impulses are taken.
+/// A line along which impulses pass between two bodies: its direction (times 2^30), the offsets from the two centres at
+/// which it meets them (u), the inverse of the mass that they show along it, times 2^40, and the reciprocal of that
+/// inverse, with which impulses are taken.
 #[derive(Clone, Copy, Debug, PartialEq, Eq)]
 pub struct Line {
     pub direction: Vec2,
@@ -242,8 +242,8 @@ fn exert(line: &Line, old: i64, new: i64, ends: &mut Ends) -> i64
     }
 }
 
-/// Gives the difference of two accumulated impulses, and answers the one that is reached; where the difference is dropped,
-/// all stays.
+/// Gives the difference of two accumulated impulses, and answers the one that is reached; where the difference is
+/// dropped, all stays.
 #[tactic(auto, unfolding(crate::specs::Impulses::exerted))]
 #[inline(always)]
 fn exert_difference(line: &Line, old: i64, new: i64, ends: &mut Ends) -> i64
@@ -284,8 +284,8 @@ fn between_64(low: i64, high: i64, value: i64) -> i64
     }
 }
 
-/// The accumulated impulse with what is wanted, within its range, for a small change and an inverse mass that have room in
-/// 64 bits.
+/// The accumulated impulse with what is wanted, within its range, for a small change and an inverse mass that have room
+/// in 64 bits.
 #[tactic(auto, unfolding(crate::specs::Impulses::wanted))]
 #[inline(always)]
 pub(crate) fn next_total_64(speed: i64, inverse: i64, reciprocal: i64, goal: Goal) -> i64
@@ -385,8 +385,8 @@ pub fn solve_line(line: &Line, apart: Vec2, goal: Goal, ends: &mut Ends) -> i64
     exert(line, goal.total, next, ends)
 }
 
-/// The warm start of a tick: the accumulated impulse `total` (mass·u/tick) given once more; dropped where a momentum would
-/// leave its limits.
+/// The warm start of a tick: the accumulated impulse `total` (mass·u/tick) given once more; dropped where a momentum
+/// would leave its limits.
 #[inline(always)]
 pub fn warm_line(line: &Line, total: i64, ends: &mut Ends)
     requires line { IsLine line.now }
@@ -418,9 +418,9 @@ fn warm(line: &Line, total: i64, ends: &mut Ends)
     let _ = impulse_pair(ends, j, line.ra, line.rb);
 }
 
-/// `warm_line` along two lines through the same points, of the accumulated impulses `one` and `other` (mass·u/tick), one
-/// after the other, if no momentum is near its limit: both are then given as one impulse. Answers whether they were; if
-/// not, nothing has changed.
+/// `warm_line` along two lines through the same points, of the accumulated impulses `one` and `other` (mass·u/tick),
+/// one after the other, if no momentum is near its limit: both are then given as one impulse. Answers whether they
+/// were; if not, nothing has changed.
 #[inline(always)]
 pub fn warm_at_once(first: &Line, one: i64, second: &Line, other: i64, ends: &mut Ends) -> bool
     requires first { IsLine first.now }

@@ -1,5 +1,5 @@
-//! Impulses between two bodies whose momenta are so small that all is done in 64 bits: what `line` and `state` define, on
-//! copies of the momenta alone. Where there is no room, the answer is `None`, and the wide forms are to be used.
+//! Impulses between two bodies whose momenta are so small that all is done in 64 bits: what `line` and `state` define,
+//! on copies of the momenta alone. Where there is no room, the answer is `None`, and the wide forms are to be used.
 
 ghost use Rattle.std.specs.Prelude.{◌≡◌, ℕ, ◌^◌, ◌<◌, ◌≤◌, ◌+◌, ◌*◌, Some, true, pos, ◌+ℤ◌, ◌-ℤ◌, ◌≤ℤ◌, ◌<ℤ◌, unsigned_abs, IfSome, is_some};
 ghost use Rattle.fixed_geom.specs.Reciprocals.{over_inverse_reciprocal, rdiv_reciprocal, share_reciprocal};
@@ -199,7 +199,8 @@ fn velocity_at_64(body: &BodyState, now: Momenta64, r: Vec2) -> Vec2
     }
 }
 
-/// The velocity at which the second body's point at the offset `rb` leaves the first's at `ra` (u), in u/tick, with these momenta.
+/// The velocity at which the second body's point at the offset `rb` leaves the first's at `ra` (u), in u/tick, with
+/// these momenta.
 #[tactic(auto, unfolding(crate::specs::Impulses::parting))]
 #[inline(always)]
 pub fn parting_64(a: &BodyState, b: &BodyState, now: MomentaPair64, ra: Vec2, rb: Vec2) -> Vec2
@@ -329,8 +330,8 @@ fn checked_total_64(speed: i64, inverse: i128, reciprocal: i64, goal: Goal) -> O
     }
 }
 
-/// One impulse of the solver, as `solve_line` gives it to the two bodies with the momenta `now`: `None` where something is too
-/// large for 64 bits.
+/// One impulse of the solver, as `solve_line` gives it to the two bodies with the momenta `now`: `None` where something
+/// is too large for 64 bits.
 #[tactic(auto, unfolding(crate::specs::Impulses::solved_impulse, crate::specs::Impulses::speed_along))]
 #[inline(always)]
 pub fn solve_line_64(
@@ -366,8 +367,8 @@ pub fn solve_line_64(
     }
 }
 
-/// The accumulated impulses `one` and `other` (mass·u/tick) given once more along two lines through the same points, one after
-/// the other, to the two bodies with the momenta `now`: `None` where something is too large for 64 bits.
+/// The accumulated impulses `one` and `other` (mass·u/tick) given once more along two lines through the same points,
+/// one after the other, to the two bodies with the momenta `now`: `None` where something is too large for 64 bits.
 #[inline(always)]
 pub fn warm_at_once_64(
     first: &Line,

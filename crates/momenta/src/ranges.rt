@@ -2,7 +2,8 @@
 
 ghost use Rattle.std.specs.Prelude.{◌≡◌, ◌^◌, ◌<◌, ◌≤◌, ◌<ℤ◌, pos, true, unsigned_abs};
 
-/// Whether `x` is from `-limit` to below `limit`: no size is taken, and where the limit is a power of two one comparison does.
+/// Whether `x` is from `-limit` to below `limit`: no size is taken, and where the limit is a power of two one
+/// comparison does.
 #[inline(always)]
 pub(crate) fn is_in(x: i64, limit: i64) -> bool
     requires { unsigned_abs limit < 2 ^ 63 }

@@ -94,8 +94,8 @@ impl BodyState {
         minus(self.motion.x, self.start)
     }
 
-    /// Its momenta with the impulse `j` (mass·u/tick) given at the offset `r` (u): the momentum grows by `j`, and the angular
-    /// momentum, if the body turns, by `r × j`. Those of an immovable body stay as they are.
+    /// Its momenta with the impulse `j` (mass·u/tick) given at the offset `r` (u): the momentum grows by `j`, and the
+    /// angular momentum, if the body turns, by `r × j`. Those of an immovable body stay as they are.
     #[tactic(auto, unfolding(crate::specs::Impulses::given))]
     #[inline(always)]
     fn momenta_with(&self, j: Vec2, r: Vec2) -> Momenta
@@ -199,9 +199,9 @@ fn fits(momenta: Momenta) -> bool
     }
 }
 
-/// The impulse `j` (mass·u/tick) given to the second body at its offset `rb` and taken from the first at `ra` (u): whether
-/// it was. Where a momentum would leave ±2^60 or an angular momentum ±2^90, neither gets anything. The sum of two movers'
-/// momenta is as before.
+/// The impulse `j` (mass·u/tick) given to the second body at its offset `rb` and taken from the first at `ra` (u):
+/// whether it was. Where a momentum would leave ±2^60 or an angular momentum ±2^90, neither gets anything. The sum of
+/// two movers' momenta is as before.
 #[tactic(auto, unfolding(crate::specs::Impulses::impulse_pair))]
 #[inline(always)]
 pub fn impulse_pair(ends: &mut Ends, j: Vec2, ra: Vec2, rb: Vec2) -> bool

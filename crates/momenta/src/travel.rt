@@ -48,7 +48,8 @@ pub fn advance(motion: Motion, mass: MassData, reciprocals: Reciprocals) -> (Mot
     )
 }
 
-/// The same of a centre that stays inside the edge of the world, so that the momentum is as it was: `None` where it may not.
+/// The same of a centre that stays inside the edge of the world, so that the momentum is as it was: `None` where it may
+/// not.
 #[inline(always)]
 pub fn advance_inside(motion: Motion, mass: MassData, reciprocals: Reciprocals) -> Option<Motion>
     requires mass { IsMass mass }

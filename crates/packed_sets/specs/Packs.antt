@@ -3,8 +3,8 @@ use Rattle.std.specs.Prelude.{◌≡◌, ◌≢◌, ◌≤◌, ℕ, List, [], �
 use Rattle.std.specs.List.{slice_index_or}
 use Rattle.std.specs.List.Sorted.{IsPermutation}
 
--- by number the ids of each set, in no order that is promised; below which number those of ids have to be; and for how many ids in all each set has
--- room with no memory
+-- by number the ids of each set, in no order that is promised; below which number those of ids have to be; and for how
+-- many ids in all each set has room with no memory
 pub record Packs (X : Type 0) : Type 0 where
   pub sets : List (List X)
   pub ids : ℕ

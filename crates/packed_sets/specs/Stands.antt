@@ -6,8 +6,8 @@ use Rattle.packed_sets.specs.declared.stands.Stand.TheVariants.{Static, Disabled
 use Rattle.packed_sets.specs.declared.stands.ListedSet.{ListedSet}
 use Rattle.packed_sets.specs.declared.stands.ListedSet.TheVariants as listed
 
--- by number where each item stands, if it does; below which number the names of sleeping sets have to be; and by name the items of each sleeping set, in the
--- order in which they are told
+-- by number where each item stands, if it does; below which number the names of sleeping sets have to be; and by name
+-- the items of each sleeping set, in the order in which they are told
 pub record Standings : Type 0 where
   pub stands : List (Option Stand)
   pub names : ℕ

@@ -7,7 +7,7 @@ use crate::ItemId;
 use fixed_geom::Refusal;
 use std::alloc::Global;
 
-/// A copy of each list, in their order. Refused 1 where memory is wanting.
+/// A copy of each list, in their order.
 pub(crate) fn copies<I: ItemId>(alloc: Global, lists: &[Vec<I>]) -> Result<Vec<Vec<I>>, Refusal>
     ensures lists { IfOk result (λ copied. map (λ v. v.items) copied.items ≡ map (λ v. v.items) lists.now) }
     ensures memory_only { IsOkUnless result Refusal.NoMemory }

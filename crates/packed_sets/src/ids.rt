@@ -2,7 +2,8 @@
 
 ghost use Rattle.std.specs.Prelude.{◌≡◌, ℕ};
 
-/// The name of what is in a set. It is known by its number, by which the place where it stands is noted: so numbers are best small.
+/// The name of what is in a set. It is known by its number, by which the place where it stands is noted: so numbers are
+/// best small.
 pub trait ItemId: Copy {
     ghost number: { Self → ℕ };
 

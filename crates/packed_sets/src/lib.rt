@@ -1,9 +1,9 @@
-//! Numbered sets of ids, each id in one set at most, packed as the solver sets of Box2D are (`solver_set.c`). An id is any type with
-//! small numbers ([`ItemId`]).
+//! Numbered sets of ids, each id in one set at most, packed as the solver sets of Box2D are (`solver_set.c`). An id is
+//! any type with small numbers ([`ItemId`]).
 //!
 //! The ids of a set stand side by side in a list of its own, so that what goes over one set costs by that set's size,
-//! whatever else there is. A removal moves the last id of the list to the place that gets free. By an id's number a note
-//! tells the set and the place where it stands, so that [`PackedSets::set_of`], [`PackedSets::insert`],
+//! whatever else there is. A removal moves the last id of the list to the place that gets free. By an id's number a
+//! note tells the set and the place where it stands, so that [`PackedSets::set_of`], [`PackedSets::insert`],
 //! [`PackedSets::remove`] and [`PackedSets::shift`] take a constant time. A set that is dropped, too, leaves its number
 //! to the last one.
 //!
@@ -20,16 +20,17 @@
 //!
 //! # Solver sets
 //!
-//! [`SolverSets`] keep in which solver set each item of one kind stands: a body by its slot, say. What stands in the static, the disabled or
-//! the awake set is in a list, where the item notes its place, and a removal moves the last item in. A sleeping set is a thread: its first
-//! item stands at the set's name, and each item tells the next one. So an island falls asleep with no memory for a list. A sleeping
-//! set takes items and is emptied as a whole by [`SolverSets::wake`]: no item is taken out of it alone, since whatever changes a sleeping
-//! set wakes it first. Each list has room for all items that there are, so that only [`SolverSets::reserve`] and a copy take memory.
+//! [`SolverSets`] keep in which solver set each item of one kind stands: a body by its slot, say. What stands in the
+//! static, the disabled or the awake set is in a list, where the item notes its place, and a removal moves the last
+//! item in. A sleeping set is a thread: its first item stands at the set's name, and each item tells the next one. So
+//! an island falls asleep with no memory for a list. A sleeping set takes items and is emptied as a whole by
+//! [`SolverSets::wake`]: no item is taken out of it alone, since whatever changes a sleeping set wakes it first. Each
+//! list has room for all items that there are, so that only [`SolverSets::reserve`] and a copy take memory.
 //!
 //! # Linked sets
 //!
-//! [`LinkedSets`] are sets into which ids come, and out of which they go, in constant time and in any order. No set needs room of its own. A set is a
-//! thread: each id tells the one before it and the one behind it.
+//! [`LinkedSets`] are sets into which ids come, and out of which they go, in constant time and in any order. No set
+//! needs room of its own. A set is a thread: each id tells the one before it and the one behind it.
 //!
 //! # Marks
 //!

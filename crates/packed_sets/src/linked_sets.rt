@@ -27,11 +27,11 @@ const NO_LINK: Link = Link {
     behind: NO_ITEM,
 };
 
-/// Numbered sets of ids, which are numbers, each in one set at most. Contracts see the ids of each set (`sets`) in the order in which they are told, and
-/// below which number ids have to be (`ids`).
+/// Numbered sets of ids, which are numbers, each in one set at most. Contracts see the ids of each set (`sets`) in the
+/// order in which they are told, and below which number ids have to be (`ids`).
 ///
-/// A set is a thread: its first id stands at its number, and each id tells which one is before it and which is behind it. So an id comes and goes in
-/// constant time, and room for an id is room in whatever set it comes to.
+/// A set is a thread: its first id stands at its number, and each id tells which one is before it and which is behind
+/// it. So an id comes and goes in constant time, and room for an id is room in whatever set it comes to.
 #[derive(Drop)]
 pub struct LinkedSets {
     // By id.
@@ -150,8 +150,8 @@ impl LinkedSets {
         }
     }
 
-    /// Makes sets of all numbers below `sets`, and lets ids below `ids` be put in. Refused 1 where memory is wanting, or there would be more than
-    /// [`MAX_ITEMS`] ids. No set has other ids than before.
+    /// Makes sets of all numbers below `sets`, and lets ids below `ids` be put in. Refused 1 where memory is wanting,
+    /// or there would be more than [`MAX_ITEMS`] ids. No set has other ids than before.
     pub fn reserve(&mut self, sets: usize, ids: usize) -> Result<(), Refusal>
         ensures made { OnOk result (sets ≤ length self.new.sets) }
         ensures noted { OnOk result (ids ≤ self.new.ids) }
@@ -178,8 +178,8 @@ impl LinkedSets {
         self.heads.len()
     }
 
-    /// What is known of the ids: none is twice in a set, none is in two sets, and each is below what ids have to be below. The function does nothing; its
-    /// contract is the law.
+    /// What is known of the ids: none is twice in a set, none is in two sets, and each is below what ids have to be
+    /// below. The function does nothing; its contract is the law.
     #[inline(always)]
     pub fn know_once(&self)
         ensures once { (set : ℕ) → AreOnce (list_at self.now.sets set) }

@@ -1,5 +1,5 @@
-//! Marks by slot: which slots are marked, and a list of those that are, so that what looks at the marked ones alone, and what takes
-//! all marks away, costs by their number.
+//! Marks by slot: which slots are marked, and a list of those that are, so that what looks at the marked ones alone,
+//! and what takes all marks away, costs by their number.
 
 ghost use Rattle.std.specs.Prelude.{◌≡◌, ◌∷◌, ◌++◌, ◌<◌, ◌≤◌, [], false, true, cond, length, replicate, slice_index_or, slice_set, vec_capacity, vec_len, IfOk, OnErr, OnOk};
 ghost use Rattle.std.specs.Result.{IsOkUnless};
@@ -95,7 +95,7 @@ impl Marks {
         }
     }
 
-    /// So many slots, each marked. Refused 1 where memory is wanting.
+    /// So many slots, each marked.
     pub fn all_marked(alloc: Global, count: usize) -> Result<Marks, Refusal>
         ensures marked { IfOk result (λ marks. marks ≡ replicate count true) }
         ensures memory_only { IsOkUnless result Refusal.NoMemory }
@@ -175,7 +175,7 @@ impl Marks {
         self.slots.clear();
     }
 
-    /// A copy. Refused 1 where memory is wanting.
+    /// A copy.
     pub fn try_copy(&self) -> Result<Marks, Refusal>
         ensures copy { IfOk result (λ copied. copied ≡ self.now) }
         ensures memory_only { IsOkUnless result Refusal.NoMemory }
@@ -188,8 +188,8 @@ impl Marks {
     }
 }
 
-/// The law of the limits: the numbers that definitions take from the code, in digits. The function does nothing; its contract is
-/// the law.
+/// The law of the limits: the numbers that definitions take from the code, in digits. The function does nothing; its
+/// contract is the law.
 pub fn limits_in_digits()
     ensures marks { MAX_MARKS ≡ 4294967296 }
     ensures sets { MAX_SETS ≡ 4294967296 }

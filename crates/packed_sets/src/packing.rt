@@ -38,7 +38,8 @@ pub(crate) fn push_lists<I: ItemId>(lists: &mut Vec<Vec<I>>, alloc: Global, sets
     }
 }
 
-/// Adds a list, with no ids, and answers the number of its set. Refused 1 where memory is wanting, or there are [`MAX_SETS`].
+/// Adds a list, with no ids, and answers the number of its set. Refused 1 where memory is wanting, or there are
+/// [`MAX_SETS`].
 pub(crate) fn add_list<I: ItemId>(lists: &mut Vec<Vec<I>>) -> Result<u32, Refusal>
     ensures number { IfOk result (λ set. set ≡ length lists.old.items) }
     ensures lists { OnOk result (map (λ v. v.items) lists.new.items ≡ map (λ v. v.items) lists.old.items ++ [] ∷ []) }
@@ -57,7 +58,7 @@ pub(crate) fn add_list<I: ItemId>(lists: &mut Vec<Vec<I>>) -> Result<u32, Refusa
     Ok(set as u32)
 }
 
-/// Makes room for that many more ids in a list. Refused 1 where memory is wanting.
+/// Makes room for that many more ids in a list.
 pub(crate) fn reserve_list<I: ItemId>(
     lists: &mut Vec<Vec<I>>,
     set: usize,

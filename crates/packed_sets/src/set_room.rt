@@ -11,7 +11,7 @@ use crate::stands::{LISTS, NO_ITEM, Stand};
 use fixed_geom::Refusal;
 use std::alloc::Global;
 
-/// Makes room for so many in all. Refused 1 where memory is wanting.
+/// Makes room for so many in all.
 pub(crate) fn reserve_in_all<T: Copy>(list: &mut Vec<T>, count: usize) -> Result<(), Refusal>
     ensures made { OnOk result (count ≤ vec_capacity list.new) }
     ensures items { list.new.items ≡ list.old.items }
@@ -33,7 +33,7 @@ pub(crate) fn fill<T: Copy>(list: &mut Vec<T>, count: usize, item: T)
     }
 }
 
-/// Makes room in a list for so many in all. Refused 1 where memory is wanting.
+/// Makes room in a list for so many in all.
 fn reserve_list_in_all(lists: &mut Vec<Vec<u32>>, set: usize, count: usize) -> Result<(), Refusal>
     requires { set < length lists.old.items }
     ensures made { OnOk result (count ≤ capacity_at (map vec_capacity lists.new.items) set) }
@@ -45,7 +45,7 @@ fn reserve_list_in_all(lists: &mut Vec<Vec<u32>>, set: usize, count: usize) -> R
     reserve_list(lists, set, count.max(len) - len)
 }
 
-/// Makes the lists, and room in each for so many items. Refused 1 where memory is wanting.
+/// Makes the lists, and room in each for so many items.
 pub(crate) fn reserve_lists(lists: &mut Vec<Vec<u32>>, items: usize) -> Result<(), Refusal>
     ensures made { OnOk result ((set : ℕ) → set < LISTS → items ≤ capacity_at (map vec_capacity lists.new.items) set) }
     ensures same { (set : ℕ) → list_at (map (λ v. v.items) lists.new.items) set ≡ list_at (map (λ v. v.items) lists.old.items) set }
@@ -61,7 +61,7 @@ pub(crate) fn reserve_lists(lists: &mut Vec<Vec<u32>>, items: usize) -> Result<(
     Ok(())
 }
 
-/// Makes room for so many items, if there are fewer. Refused 1 where memory is wanting.
+/// Makes room for so many items, if there are fewer.
 pub(crate) fn reserve_all(
     lists: &mut Vec<Vec<u32>>,
     stands: &mut Vec<Option<Stand>>,
@@ -87,7 +87,7 @@ pub(crate) fn reserve_all(
     reserve_in_all(places, items)
 }
 
-/// Makes room for so many names, if there are fewer. Refused 1 where memory is wanting.
+/// Makes room for so many names, if there are fewer.
 pub(crate) fn reserve_names(heads: &mut Vec<u32>, names: usize) -> Result<(), Refusal>
     ensures made { OnOk result (names ≤ vec_capacity heads.new) }
     ensures heads { heads.new.items ≡ heads.old.items }
@@ -99,7 +99,8 @@ pub(crate) fn reserve_names(heads: &mut Vec<u32>, names: usize) -> Result<(), Re
     reserve_in_all(heads, names)
 }
 
-/// Makes as many names as there is room for, if there are fewer than so many. So the next names take no call of memory and no pass.
+/// Makes as many names as there is room for, if there are fewer than so many. So the next names take no call of memory
+/// and no pass.
 pub(crate) fn fill_names(heads: &mut Vec<u32>, names: usize)
     requires { names ≤ vec_capacity heads.old }
     ensures made { names ≤ length heads.new.items }
@@ -111,7 +112,7 @@ pub(crate) fn fill_names(heads: &mut Vec<u32>, names: usize)
     }
 }
 
-/// A copy of each list, with room for so many items. Refused 1 where memory is wanting.
+/// A copy of each list, with room for so many items.
 pub(crate) fn copies_with_room(
     alloc: Global,
     lists: &[Vec<u32>],

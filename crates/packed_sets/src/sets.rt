@@ -16,8 +16,8 @@ use std::marker::Model;
 /// How many sets there can be that [`PackedSets::add_set`] adds.
 pub const MAX_SETS: usize = 4_294_967_296;
 
-/// Numbered sets of ids. Contracts see the ids of each set (`sets`), below which number those of ids must be (`ids`), and for how many ids in
-/// all each set has room (`capacities`). In what order the ids of a set stand isn't promised.
+/// Numbered sets of ids. Contracts see the ids of each set (`sets`), below which number those of ids must be (`ids`),
+/// and for how many ids in all each set has room (`capacities`). In what order the ids of a set stand isn't promised.
 #[derive(Drop)]
 pub struct PackedSets<I: ItemId> {
     lists: Vec<Vec<I>>,
@@ -49,8 +49,8 @@ impl<I: ItemId> PackedSets<I> {
         }
     }
 
-    /// Makes sets of all numbers below `sets`, and lets ids whose numbers are below `ids` be put in. Refused 1 where memory is wanting. No set has
-    /// other ids than before.
+    /// Makes sets of all numbers below `sets`, and lets ids whose numbers are below `ids` be put in. No set has other
+    /// ids than before.
     pub fn reserve(&mut self, sets: usize, ids: usize) -> Result<(), Refusal>
         ensures made { OnOk result (sets ≤ length self.new.sets) }
         ensures noted { OnOk result (ids ≤ self.new.ids) }
@@ -69,7 +69,7 @@ impl<I: ItemId> PackedSets<I> {
         Ok(())
     }
 
-    /// Makes room for that many more ids in a set. Refused 1 where memory is wanting. No set has other ids than before.
+    /// Makes room for that many more ids in a set. No set has other ids than before.
     pub fn reserve_in(&mut self, set: u32, more: usize) -> Result<(), Refusal>
         requires there { set < length self.old.sets }
         ensures made { OnOk result (length (list_at self.old.sets set) + more ≤ capacity_at self.new.capacities set) }
@@ -81,7 +81,8 @@ impl<I: ItemId> PackedSets<I> {
         reserve_list(&mut self.lists, set as usize, more)
     }
 
-    /// Adds a set with no ids, and answers its number, which is the next one. Refused 1 where memory is wanting, or there are [`MAX_SETS`] sets.
+    /// Adds a set with no ids, and answers its number, which is the next one. Refused 1 where memory is wanting, or
+    /// there are [`MAX_SETS`] sets.
     pub fn add_set(&mut self) -> Result<u32, Refusal>
         ensures number { IfOk result (λ set. set ≡ length self.old.sets) }
         ensures sets { OnOk result (self.new.sets ≡ self.old.sets ++ [] ∷ []) }
@@ -93,8 +94,8 @@ impl<I: ItemId> PackedSets<I> {
         add_list(&mut self.lists)
     }
 
-    /// Takes away a set, which has no ids. The last set takes its number, with its ids and its room. Takes no memory, and a time that goes by
-    /// the ids of the last set.
+    /// Takes away a set, which has no ids. The last set takes its number, with its ids and its room. Takes no memory,
+    /// and a time that goes by the ids of the last set.
     pub fn drop_set(&mut self, set: u32)
         requires there { set < length self.old.sets }
         requires empty { list_at self.old.sets set ≡ [] }
@@ -171,7 +172,7 @@ impl<I: ItemId> PackedSets<I> {
         }
     }
 
-    /// A copy. Its sets have room for the ids that they have. Refused 1 where memory is wanting.
+    /// A copy. Its sets have room for the ids that they have.
     pub fn try_copy(&self) -> Result<PackedSets<I>, Refusal>
         ensures sets { IfOk result (λ copied. copied.sets ≡ self.now.sets) }
         ensures ids { IfOk result (λ copied. copied.ids ≡ self.now.ids) }

@@ -15,8 +15,9 @@ use fixed_geom::Refusal;
 use std::alloc::Global;
 use std::marker::Model;
 
-/// The solver sets of one kind of item. An item is known by its number. Contracts see where each item stands (`stands`), below which number the
-/// names of sleeping sets have to be (`names`), and by name the items of each sleeping set in the order in which they are told (`sleepers`).
+/// The solver sets of one kind of item. An item is known by its number. Contracts see where each item stands
+/// (`stands`), below which number the names of sleeping sets have to be (`names`), and by name the items of each
+/// sleeping set in the order in which they are told (`sleepers`).
 #[derive(Drop)]
 pub struct SolverSets {
     // The sets that aren't sleeping ones, each with room for all items.
@@ -55,9 +56,9 @@ impl SolverSets {
         }
     }
 
-    /// Lets items whose numbers are below `items` be put in, and sleeping sets have names below `names`, or more. Each list gets room for all
-    /// items that there can be then, so that nothing else takes memory. Where there is room for all that it takes next to no time. Refused 1 where
-    /// memory is wanting, or there would be more than [`MAX_ITEMS`].
+    /// Lets items whose numbers are below `items` be put in, and sleeping sets have names below `names`, or more. Each
+    /// list gets room for all items that there can be then, so that nothing else takes memory. Where there is room for
+    /// all that it takes next to no time. Refused 1 where memory is wanting, or there would be more than [`MAX_ITEMS`].
     pub fn reserve(&mut self, items: usize, names: usize) -> Result<(), Refusal>
         ensures stands { OnOk result (self.new.stands ≡ with_items items self.old.stands) }
         ensures named { OnOk result (names ≤ self.new.names) }
@@ -118,7 +119,8 @@ impl SolverSets {
         some_item(&self.stands, first_of(&self.heads, name))
     }
 
-    /// The item that follows this one, which is asleep, in its sleeping set, if one does. Of an item that isn't asleep nothing is promised.
+    /// The item that follows this one, which is asleep, in its sleeping set, if one does. Of an item that isn't asleep
+    /// nothing is promised.
     pub fn asleep_behind(&self, id: u32) -> Option<u32>
         ensures { (name : ℕ) (front back : List ℕ) → list_at self.now.sleepers name ≡ front ++ id ∷ back → result ≡ slice_get back 0 }
     {
@@ -177,7 +179,7 @@ impl SolverSets {
         );
     }
 
-    /// A copy, whose lists have room for all items, too. Refused 1 where memory is wanting.
+    /// A copy, whose lists have room for all items, too.
     pub fn try_copy(&self) -> Result<SolverSets, Refusal>
         ensures copy { IfOk result (λ copied. copied ≡ self.now) }
         ensures memory_only { IsOkUnless result Refusal.NoMemory }

@@ -24,7 +24,7 @@ pub(crate) fn spot_of(spots: &[Option<Spot>], id: u32) -> Option<Spot>
     }
 }
 
-/// Makes a note for each id whose number is below a bound. Refused 1 where memory is wanting.
+/// Makes a note for each id whose number is below a bound.
 pub(crate) fn grow_spots(spots: &mut Vec<Option<Spot>>, ids: usize) -> Result<(), Refusal>
     ensures made { OnOk result (ids ≤ length spots.new.items) }
     ensures more { length spots.old.items ≤ length spots.new.items }

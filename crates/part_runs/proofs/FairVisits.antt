@@ -1,4 +1,5 @@
--- What visits leave alone of two bodies, and that two movers' momenta keep their sum, whatever the row and the bodies are.
+-- What visits leave alone of two bodies, and that two movers' momenta keep their sum, whatever the row and the bodies
+-- are.
 use Rattle.std.proofs.Common.{◌≡◌, Bool, true, false, cond, Option, Some, None, ℤ, ◌+ℤ◌, neg_ℤ, arith, refl, ◌∙◌}
 use Rattle.std.proofs.lemmas.Int.{ints}
 use Rattle.std.specs.Prelude.{unwrap_or}

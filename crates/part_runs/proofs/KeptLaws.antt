@@ -1,4 +1,5 @@
--- What visits leave alone of all bodies, wherever their rows stand: what an impulse never changes, and all of what no impulse moves.
+-- What visits leave alone of all bodies, wherever their rows stand: what an impulse never changes, and all of what no
+-- impulse moves.
 use Rattle.std.proofs.Common.{◌≡◌, ℕ, zero, suc, Bool, true, false, cond, List, [], ◌∷◌, get_or, set, refl, sym, ap, ◌∙◌}
 use Rattle.momenta.specs.declared.mass.MassData.{MassData}
 use Rattle.momenta.specs.declared.motion.Motion.{Motion}

@@ -1,4 +1,5 @@
--- The parts of all rows in one list: what a part has are the rows that have its number there, and so it is with joints and with contacts.
+-- The parts of all rows in one list: what a part has are the rows that have its number there, and so it is with joints
+-- and with contacts.
 use Rattle.std.proofs.Common.{◌≡◌, ℕ, suc, ◌+◌, Bool, true, false, cond, not, List, [], ◌∷◌, ◌++◌, length, map, arith, refl, sym, ap, ap₂, ◌∙◌}
 use Rattle.std.specs.Prelude.{nat_eq}
 use Rattle.std.proofs.lemmas.List.{append-nil, append_assoc, length-append, map-append}

@@ -1,4 +1,5 @@
--- Whatever a step does to its bodies and rows, the same slots have movers, and rows are where they were, each of its kind.
+-- Whatever a step does to its bodies and rows, the same slots have movers, and rows are where they were, each of its
+-- kind.
 use Rattle.std.proofs.Common.{zero, suc, map, refl, ◌∙◌}
 use Rattle.fixed_geom.specs.declared.vectors.Vec2.{Vec2}
 use Rattle.momenta.specs.Motions.{advanced, pulled, speed_clamped}

@@ -1,5 +1,5 @@
--- Trusted: Bodies by parts: each slot is of one part, and a part has the movers of its slots. What no impulse moves is in each part. No slot gets another number:
--- where a mover of another part is, a part sees nobody.
+-- Trusted: Bodies by parts: each slot is of one part, and a part has the movers of its slots. What no impulse moves is
+-- in each part. No slot gets another number: where a mover of another part is, a part sees nobody.
 use Rattle.std.specs.Prelude.{◌≡◌, ℕ, zero, suc, ◌<◌, true, cond, nat_eq, List, [], ◌∷◌, All, filter, slice_index_or}
 use Rattle.fixed_geom.specs.Vectors.{plus, zero_vector}
 use Rattle.fixed_geom.specs.declared.vectors.Vec2.{Vec2}

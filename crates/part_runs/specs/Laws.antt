@@ -1,5 +1,5 @@
--- Trusted: The laws of runs by parts: what a part may be given, that bodies are handed on rightly, that a stage's visits are those of the parts, that all parts together
--- make the whole run, and that the whole is read back from them.
+-- Trusted: The laws of runs by parts: what a part may be given, that bodies are handed on rightly, that a stage's
+-- visits are those of the parts, that all parts together make the whole run, and that the whole is read back from them.
 use Rattle.std.specs.Prelude.{◌≡◌, ℕ, ◌+◌, ◌<◌, cond, nat_eq, List, [], ◌∷◌, ◌++◌, drop, filter, length, map, All, slice_get, slice_index_or}
 use Rattle.std.specs.List.{flat_map}
 use Rattle.momenta.specs.Motions.{advanced, pulled, speed_clamped}

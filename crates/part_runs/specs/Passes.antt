@@ -1,4 +1,5 @@
--- Trusted: A pass over the constraints by stages: what all bodies and rows become, and of it what a part has, sends and is sent.
+-- Trusted: A pass over the constraints by stages: what all bodies and rows become, and of it what a part has, sends and
+-- is sent.
 use Rattle.std.specs.Prelude.{◌≡◌, ℕ, List, [], ◌∷◌, ◌++◌}
 use Rattle.fixed_geom.specs.Vectors.{plus, zero_vector}
 use Rattle.fixed_geom.specs.declared.vectors.Vec2.{Vec2}
@@ -26,7 +27,8 @@ pub record IsFairVisit (f : ConstraintRow → Ends → RowAfter ConstraintRow) :
   pub slots : (r : ConstraintRow) (e : Ends) → constraint_slots (f r e).row ≡ constraint_slots r
   pub kind : (r : ConstraintRow) (e : Ends) → is_joint (f r e).row ≡ is_joint r
 
--- the visits of some rows, each of the part `to`, are those of the parts below n, the bodies being with the parts as g says
+-- the visits of some rows, each of the part `to`, are those of the parts below n, the bodies being with the parts as g
+-- says
 pub record AreVisited (n : ℕ) (f : ConstraintRow → Ends → RowAfter ConstraintRow) (g : ℕ → ℕ) (to : ConstraintRow → ℕ) (states : List BodyState) (rows : List ConstraintRow) : Type 0 where
   pub bodies : (k : ℕ) → hidden g k (passed constraint_slots f states rows) ≡ passed constraint_slots f (hidden g k states) (owned to k rows)
   pub rows_are : (k : ℕ) → owned to k (rows_passed constraint_slots f states rows) ≡ rows_passed constraint_slots f (hidden g k states) (owned to k rows)

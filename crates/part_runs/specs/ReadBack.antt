@@ -1,4 +1,5 @@
--- The bodies and rows of all parts read back into one list: of each slot and of each row, from which part, and which of its rows.
+-- The bodies and rows of all parts read back into one list: of each slot and of each row, from which part, and which of
+-- its rows.
 use Rattle.std.specs.Prelude.{◌≡◌, ℕ, ◌<◌, cond, nat_eq, List, ◌++◌, filter, length, map, take, slice_index_or}
 use Rattle.momenta.specs.declared.state.BodyState.{BodyState}
 use Rattle.colour_solver.specs.declared.row_visits.Slots.{Slots}

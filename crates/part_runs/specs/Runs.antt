@@ -1,4 +1,5 @@
--- Trusted: A step's ticks and its restitution by stages, and of it the run of a part: its bodies at home, its rows, and what was added to its movers' momentum.
+-- Trusted: A step's ticks and its restitution by stages, and of it the run of a part: its bodies at home, its rows, and
+-- what was added to its movers' momentum.
 use Rattle.std.specs.Prelude.{◌≡◌, ℕ, zero, suc, List, [], ◌∷◌, ◌++◌, length, map, slice_index_or}
 use Rattle.std.specs.List.{flat_map}
 use Rattle.fixed_geom.specs.Vectors.{plus, zero_vector}
@@ -70,7 +71,8 @@ ticks_stand (suc n) g s = tick_stand g (ticks_stand n g s)
 abbrev pub ran_stand : ℕ → Vec2 → Stand → Stand
 ran_stand n g s = visited constraint_bounced (ticks_stand n g s)
 
--- the bodies and rows that a run of the step has at some time: the same movers, masses and courses, the rows where they were, each of its kind
+-- the bodies and rows that a run of the step has at some time: the same movers, masses and courses, the rows where they
+-- were, each of its kind
 pub record IsReached (t : Step) (s : Stand) : Type 0 where
   pub movers : SameMovers t.states s.states
   pub long : length s.states ≡ length t.states

@@ -56,7 +56,8 @@ bodies_in t k f s i = hidden (part_at (walk_at (walks_of t) i).at) k (states_at 
 abbrev pub given_from : Step → ℕ → (ConstraintRow → Ends → RowAfter ConstraintRow) → Stand → ℕ → Vec2
 given_from t k f s i = given_to f k (drop i (walks_of t)) (states_at f s i) (drop i s.rows) (drop i (own_stages t.home k t.states s.rows))
 
--- the stage i for the part k: its visits, from the bodies that it has during the stage, leave those with which it goes on, and its rows
+-- the stage i for the part k: its visits, from the bodies that it has during the stage, leave those with which it goes
+-- on, and its rows
 pub record IsOwnStage (t : Step) (k : ℕ) (f : ConstraintRow → Ends → RowAfter ConstraintRow) (s : Stand) (i : ℕ) : Type 0 where
   pub bodies : bodies_before t k f s (i + 1) ≡ passed constraint_slots f (bodies_in t k f s i) (own_at t k s i)
   pub rows : own_at t k (visited f s) i ≡ rows_passed constraint_slots f (bodies_in t k f s i) (own_at t k s i)

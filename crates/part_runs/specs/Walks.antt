@@ -1,5 +1,6 @@
--- Trusted: Who has a body while a colour is solved. Each mover has a home, its part. A row is of the part where its first mover is at home; what has no colour is of the
--- part 0. A body that a row needs from elsewhere moves there before the colour, and goes home after the last. All parts make this walk alike.
+-- Trusted: Who has a body while a colour is solved. Each mover has a home, its part. A row is of the part where its
+-- first mover is at home; what has no colour is of the part 0. A body that a row needs from elsewhere moves there
+-- before the colour, and goes home after the last. All parts make this walk alike.
 use Rattle.std.specs.Prelude.{◌≡◌, ◌≢◌, ◌<◌, ℕ, Bool, true, ◌&&◌, ◌||◌, cond, nat_eq, List, [], ◌∷◌, ◌++◌, All, AllPairs, filter, length, map, slice_set}
 use Rattle.momenta.specs.declared.state.BodyState.{BodyState}
 use Rattle.colour_solver.specs.declared.constraint_row.ConstraintRow.{ConstraintRow}

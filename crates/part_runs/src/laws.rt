@@ -17,8 +17,8 @@ pub fn parts_can_run()
     ensures { PartsCanRun }
 {}
 
-/// At any time of a run the part has the same movers at home and the same bodies that are carried along, and what a tick does to all bodies
-/// it does to these.
+/// At any time of a run the part has the same movers at home and the same bodies that are carried along, and what a
+/// tick does to all bodies it does to these.
 pub fn parts_at_home()
     ensures { PartsAtHome }
 {}
@@ -53,8 +53,8 @@ pub fn ticks_are_reached()
     ensures { TicksAreReached }
 {}
 
-/// Before each stage of a pass bodies are handed on, so that each part has those of its rows; its visits are then those of all rows. After the last
-/// stage all bodies go home.
+/// Before each stage of a pass bodies are handed on, so that each part has those of its rows; its visits are then those
+/// of all rows. After the last stage all bodies go home.
 pub fn passes_by_parts()
     ensures { PassesByParts }
 {}
@@ -79,7 +79,8 @@ pub fn letters_follow()
     ensures { LettersFollow }
 {}
 
-/// A mover is read back from its own part, and any other body from the first. A row is read back as the next one of its part.
+/// A mover is read back from its own part, and any other body from the first. A row is read back as the next one of its
+/// part.
 pub fn runs_are_read_back()
     ensures { RunsAreReadBack }
 {}

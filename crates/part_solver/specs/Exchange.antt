@@ -1,4 +1,5 @@
--- What a part does with its moves before a stage: the bodies that it lets go are written into letters, those that come are put into their slots.
+-- What a part does with its moves before a stage: the bodies that it lets go are written into letters, those that come
+-- are put into their slots.
 use Rattle.std.specs.Prelude.{◌≡◌, ◌≢◌, ◌<◌, ◌≤◌, ℕ, zero, suc, List, [], ◌∷◌, ◌++◌, drop, length, map, slice_index_or, slice_set}
 use Rattle.momenta.specs.declared.state.BodyState.{BodyState}
 use Rattle.colour_solver.specs.States.{AreAllStates, nobody}

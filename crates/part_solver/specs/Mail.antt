@@ -1,4 +1,5 @@
--- What goes through a ring: the head of a step, and then letters with the bodies that one part sends to another in this step, in order.
+-- What goes through a ring: the head of a step, and then letters with the bodies that one part sends to another in this
+-- step, in order.
 use Rattle.std.specs.Prelude.{◌≡◌, ◌<◌, ℕ, true, false, List, [], ◌∷◌, ◌++◌, length, slice_index_or}
 use Rattle.momenta.specs.declared.state.BodyState.{BodyState}
 use Rattle.colour_solver.specs.States.{AreAllStates}

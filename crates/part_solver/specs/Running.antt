@@ -58,7 +58,8 @@ pub record IsKnownPass (n : ℕ) (t : Step) (tick : ℕ) (phase : Phase) : Type 
 
 -- ---- the lists of the part k
 
--- what stays as it is in a run: the slots of its movers at home and of what is carried along, and its moves, stage after stage
+-- what stays as it is in a run: the slots of its movers at home and of what is carried along, and its moves, stage
+-- after stage
 pub record HasWalked (t : Step) (k : ℕ) (l : Lists) : Type 0 where
   pub awake : l.awake.items ≡ movers_of (at_home t k t.states)
   pub carried : l.carried.items ≡ carried_of (at_home t k t.states)

@@ -23,8 +23,8 @@ struct Place {
     weight: u32,
 }
 
-/// How many rows there are in all, how many of them wait for a body of another part, how many have no colour, and about how many contacts
-/// have a second point.
+/// How many rows there are in all, how many of them wait for a body of another part, how many have no colour, and about
+/// how many contacts have a second point.
 #[derive(Clone, Copy)]
 pub(crate) struct Counts {
     pub(crate) all: usize,
@@ -214,7 +214,7 @@ impl Deal {
             && self.dealt.as_slice() == awake
     }
 
-    /// Cuts the strips. Refused 1 where memory is wanting.
+    /// Cuts the strips.
     fn cut(
         &mut self,
         rows: &Rows,
@@ -247,7 +247,7 @@ impl Deal {
         Ok(())
     }
 
-    /// Gives each mover the part of its strip. Refused 1 where memory is wanting.
+    /// Gives each mover the part of its strip.
     fn give_homes(&mut self, states: &[BodyState], awake: &[u32]) -> Result<(), Refusal> {
         self.home.clear();
         self.home.resize(states.len(), 0)?;
@@ -283,7 +283,7 @@ impl Deal {
         }
     }
 
-    /// Deals the movers out to so many parts, by new strips or those of the step before. Refused 1 where memory is wanting.
+    /// Deals the movers out to so many parts, by new strips or those of the step before.
     fn deal(
         &mut self,
         rows: &Rows,
@@ -302,7 +302,8 @@ impl Deal {
         Ok(self.count(rows, states))
     }
 
-    /// Sees to it that each mover has a home among so many parts. Answers what waits then, or nothing where memory is wanting.
+    /// Sees to it that each mover has a home among so many parts. Answers what waits then, or nothing where memory is
+    /// wanting.
     pub(crate) fn settle(
         &mut self,
         rows: &Rows,

@@ -56,7 +56,7 @@ pub(crate) fn look_again(looks: u32) -> u32 {
     looks.saturating_add(1)
 }
 
-/// Makes a ring from one part to another, through which the head of a step has gone. Refused 1 where memory is wanting.
+/// Makes a ring from one part to another, through which the head of a step has gone.
 pub(crate) fn make_ring(
     alloc: Global,
     step: &StepLists,

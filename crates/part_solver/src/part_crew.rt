@@ -15,8 +15,8 @@ use std::alloc::Global;
 use std::sync::{Arc, Wait};
 use std::thread::{Scope, Threads};
 
-/// A solver of steps by workers, of which the calling thread is one, kept over any number of steps. Its type sees to it that it is ended: it
-/// can't be let go otherwise.
+/// A solver of steps by workers, of which the calling thread is one, kept over any number of steps. Its type sees to it
+/// that it is ended: it can't be let go otherwise.
 pub struct PartCrew<'s, R, G: Gate> {
     rt: &'s R,
     workers: usize,
@@ -26,8 +26,9 @@ pub struct PartCrew<'s, R, G: Gate> {
 }
 
 impl<'s, R: Threads + Wait + Sync, G: Gate + Sync> PartCrew<'s, R, G> {
-    /// Starts so many workers, but for the calling thread, which go on with what a crew before left. Refused 5 where they aren't 1 to 64, 1 where
-    /// memory is wanting, and 11 where a thread can't be started: those that run are then ended and joined.
+    /// Starts so many workers, but for the calling thread, which go on with what a crew before left. Refused 5 where
+    /// they aren't 1 to 64, 1 where memory is wanting, and 11 where a thread can't be started: those that run are then
+    /// ended and joined.
     pub fn start<E>(
         scope: &Scope<'s, E>,
         rt: &'s R,

@@ -14,7 +14,8 @@ use std::alloc::Global;
 /// The fewest constraints of a step that is worth its workers: with fewer, the calling thread solves it alone.
 pub const LEAST_CONSTRAINTS: usize = 3_000;
 
-/// The fewest workers that are worth it: what a step by parts costs before it begins is more than a second worker saves.
+/// The fewest workers that are worth it: what a step by parts costs before it begins is more than a second worker
+/// saves.
 pub const LEAST_PARTS: u64 = 3;
 
 /// For how many steps at most the calling thread solves alone after one that wasn't worth it.
@@ -45,8 +46,8 @@ fn is_loose(counts: Counts) -> bool {
     counts.waiting <= counts.all / 10 && counts.left <= counts.all / 16
 }
 
-/// Whether the parts have more to do than to copy: each row is copied to its part and back, whatever it holds, while the work is at bodies and
-/// at points.
+/// Whether the parts have more to do than to copy: each row is copied to its part and back, whatever it holds, while
+/// the work is at bodies and at points.
 fn is_paying(counts: Counts, movers: usize) -> bool {
     movers.saturating_add(counts.second_points) >= counts.all
 }
@@ -76,8 +77,8 @@ impl PartMemory {
         memory
     }
 
-    /// Whether the next step is one of those that the calling thread solves alone, since one before wasn't worth its workers. It is counted
-    /// then.
+    /// Whether the next step is one of those that the calling thread solves alone, since one before wasn't worth its
+    /// workers. It is counted then.
     pub fn take_rest(&mut self) -> bool {
         if self.rest == 0 {
             return false;
@@ -114,8 +115,8 @@ impl PartMemory {
         }
     }
 
-    /// Whether the step is worth so many workers: it has constraints enough, few of them wait for bodies of other parts, and they have more to do
-    /// than to be copied. Answers for how many bodies each ring then needs room.
+    /// Whether the step is worth so many workers: it has constraints enough, few of them wait for bodies of other
+    /// parts, and they have more to do than to be copied. Answers for how many bodies each ring then needs room.
     pub(crate) fn is_worth(
         &mut self,
         rows: &Rows,

@@ -153,7 +153,8 @@ fn pass_stage<R: Wait>(
     Passed { given, long_waits }
 }
 
-/// A pass over the part's rows, stage after stage, in which bodies move from it and to it. Behind the last stage all go home.
+/// A pass over the part's rows, stage after stage, in which bodies move from it and to it. Behind the last stage all go
+/// home.
 pub(crate) fn pass_all<R: Wait>(
     rt: &R,
     step: &StepLists,

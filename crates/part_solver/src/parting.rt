@@ -42,7 +42,7 @@ pub(crate) struct StepMemory {
     contact_cursors: Vec<usize>,
 }
 
-/// Makes room in the lists of each part. Refused 1 where memory is wanting.
+/// Makes room in the lists of each part.
 fn prepare_benches(
     benches: &mut Vec<Lists>,
     bodies: usize,
@@ -58,7 +58,7 @@ fn prepare_benches(
     Ok(())
 }
 
-/// Makes a list of that many zeros. Refused 1 where memory is wanting.
+/// Makes a list of that many zeros.
 fn clear_cursors(cursors: &mut Vec<usize>, count: usize) -> Result<(), Refusal>
     ensures long { OnOk result (length cursors.new.items ≡ count) }
     ensures zeros { OnOk result ((k : ℕ) → slice_index_or cursors.new.items k 0 ≡ 0) }
@@ -68,7 +68,7 @@ fn clear_cursors(cursors: &mut Vec<usize>, count: usize) -> Result<(), Refusal>
     Ok(())
 }
 
-/// Copies slots into a list. Refused 1 where memory is wanting.
+/// Copies slots into a list.
 fn copy_slots(list: &mut Vec<u32>, slots: &[u32]) -> Result<(), Refusal>
     ensures { OnOk result (list.new.items ≡ slots.now) }
 {
@@ -77,7 +77,7 @@ fn copy_slots(list: &mut Vec<u32>, slots: &[u32]) -> Result<(), Refusal>
     Ok(())
 }
 
-/// Sees to it that there are lists for so many parts. Refused 1 where memory is wanting.
+/// Sees to it that there are lists for so many parts.
 fn count_benches(alloc: Global, benches: &mut Vec<Lists>, count: usize) -> Result<(), Refusal>
     ensures { OnOk result (length benches.new.items ≡ count) }
 {
@@ -90,7 +90,7 @@ fn count_benches(alloc: Global, benches: &mut Vec<Lists>, count: usize) -> Resul
     Ok(())
 }
 
-/// Makes room for parts in an empty list. Refused 1 where memory is wanting.
+/// Makes room for parts in an empty list.
 fn reserve_parts(parts: &mut Vec<Part>, count: usize) -> Result<(), Refusal>
     ensures parts { OnOk result (parts.new.items ≡ []) }
     ensures room { OnOk result (count ≤ vec_capacity parts.new) }
@@ -112,7 +112,7 @@ fn clear_parts(parts: &mut Vec<Part>, seats: &mut Vec<Seat>, benches: &mut Vec<L
     seats.clear();
 }
 
-/// A seat with that number, these lists and rings. Refused 1 where memory is wanting.
+/// A seat with that number, these lists and rings.
 fn seat_of(
     step: &Arc<StepLists, Global>,
     number: u32,
@@ -135,7 +135,7 @@ fn seat_of(
     })
 }
 
-/// Adds a seat. Refused 1 where memory is wanting.
+/// Adds a seat.
 fn add_seat(seats: &mut Vec<Seat>, seat: Seat) -> Result<(), Refusal>
     ensures { OnOk result (seats.new.items ≡ seats.old.items ++ seat ∷ []) }
 {
@@ -155,7 +155,7 @@ fn take_ports(alloc: Global, ports: &mut [Ports], number: usize) -> Ports
     mem::replace(&mut ports[number], Ports::new(alloc))
 }
 
-/// Makes a seat of each of the lists, with its rings. Refused 1 where memory is wanting.
+/// Makes a seat of each of the lists, with its rings.
 fn take_seats(
     alloc: Global,
     step: &Arc<StepLists, Global>,
@@ -196,7 +196,7 @@ impl StepMemory {
         }
     }
 
-    /// Makes ready for a step by so many parts. Refused 1 where memory is wanting.
+    /// Makes ready for a step by so many parts.
     fn prepare(
         &mut self,
         bodies: usize,
@@ -299,7 +299,7 @@ fn put_step(
     lists.carried = carried;
 }
 
-/// Seats the parts of a step, with their rings. Refused 1 where memory is wanting.
+/// Seats the parts of a step, with their rings.
 fn seat_parts(
     lists: &mut StepMemory,
     step: &Arc<StepLists, Global>,
@@ -353,8 +353,8 @@ fn run_parts<R: Wait, G: Gate>(
     true
 }
 
-/// Solves all parts of a step by the crew, and answers whether they are: not where memory is wanting. All lists of the step are left as they
-/// were.
+/// Solves all parts of a step by the crew, and answers whether they are: not where memory is wanting. All lists of the
+/// step are left as they were.
 fn solve_parts<R: Wait, G: Gate>(
     rt: &R,
     crew: &mut Crew<'_, G, PartWork>,
@@ -407,7 +407,8 @@ fn count_waits(parts: &[Part]) -> u32 {
     waits
 }
 
-/// Reads the bodies and rows of a step back from its parts, and adds their sums up. Where the sums are too large, nothing is changed.
+/// Reads the bodies and rows of a step back from its parts, and adds their sums up. Where the sums are too large,
+/// nothing is changed.
 fn read_back(
     lists: &mut StepMemory,
     home: &[u32],
@@ -456,8 +457,8 @@ fn row_count(rows: &Rows) -> usize
     rows.joints().len() + rows.contacts().len()
 }
 
-/// Runs the ticks of a step by parts, with room for so many bodies in each ring. Answers as `run_step` does, or nothing, and then nothing is
-/// changed: where memory is wanting, or where the sums are too large.
+/// Runs the ticks of a step by parts, with room for so many bodies in each ring. Answers as `run_step` does, or
+/// nothing, and then nothing is changed: where memory is wanting, or where the sums are too large.
 pub(crate) fn solve_by_parts<R: Wait, G: Gate>(
     rt: &R,
     crew: &mut Crew<'_, G, PartWork>,

@@ -19,8 +19,8 @@ pub(crate) type Spares = Consumer<Vec<BodyState>>;
 /// Its other end, into which letters go that have been read.
 pub(crate) type Returns = Producer<Vec<BodyState>>;
 
-/// The ends of a part's rings, by the part at the other end. At its own number stands a ring to itself, which isn't used. They are made for
-/// one step. Contracts see what was sent to each part, and what has come from it.
+/// The ends of a part's rings, by the part at the other end. At its own number stands a ring to itself, which isn't
+/// used. They are made for one step. Contracts see what was sent to each part, and what has come from it.
 #[derive(Drop)]
 pub(crate) struct Ports {
     outs: Vec<Sender>,
@@ -68,7 +68,7 @@ impl Ports {
         }
     }
 
-    /// Lets all rings go, and makes room for so many. Refused 1 where memory is wanting.
+    /// Lets all rings go, and makes room for so many.
     pub(crate) fn prepare(&mut self, parts: usize) -> Result<(), Refusal>
         ensures outs { OnOk result (self.new.outs ≡ []) }
         ensures ins { OnOk result (self.new.ins ≡ []) }

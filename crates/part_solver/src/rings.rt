@@ -10,7 +10,7 @@ use crate::sums::MOST_PARTS;
 use fixed_geom::Refusal;
 use std::alloc::Global;
 
-/// Gives the rings from one part to another their ends. Refused 1 where memory is wanting.
+/// Gives the rings from one part to another their ends.
 fn join_two(
     alloc: Global,
     step: &StepLists,
@@ -33,7 +33,7 @@ fn join_two(
     Ok(())
 }
 
-/// Gives the rings from one part to all others their ends. Refused 1 where memory is wanting.
+/// Gives the rings from one part to all others their ends.
 fn join_all(
     alloc: Global,
     step: &StepLists,
@@ -53,7 +53,7 @@ fn join_all(
     Ok(())
 }
 
-/// Ports with no rings, but with room for those to each part and from it. Refused 1 where memory is wanting.
+/// Ports with no rings, but with room for those to each part and from it.
 fn bare_ports(alloc: Global, parts: usize) -> Result<Vec<Ports>, Refusal>
     ensures as_many { IfOk result (λ ports. length ports.items ≡ parts) }
     ensures bare { IfOk result (λ ports. (k : ℕ) → slice_index_or ports.items k no_posts ≡ no_posts) }
@@ -67,7 +67,7 @@ fn bare_ports(alloc: Global, parts: usize) -> Result<Vec<Ports>, Refusal>
     Ok(ports)
 }
 
-/// The rings of so many parts, which begin with a step, and whose letters have room for so many bodies. Refused 1 where memory is wanting.
+/// The rings of so many parts, which begin with a step, and whose letters have room for so many bodies.
 pub(crate) fn make_rings(
     alloc: Global,
     step: &StepLists,

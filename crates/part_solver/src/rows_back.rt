@@ -66,7 +66,8 @@ fn joints_of(parts: &[Part], part: u32) -> &[JointRow]
     }
 }
 
-/// Puts the joint with that number among those of a part in place of the one with the number `index` among all; of none where there is none.
+/// Puts the joint with that number among those of a part in place of the one with the number `index` among all; of none
+/// where there is none.
 #[inline(always)]
 fn put_joint(rows: &mut Rows, index: usize, own: &[JointRow], number: usize)
     requires { index < length (joints_among (all_rows rows.old)) }
@@ -114,7 +115,8 @@ fn contacts_of(parts: &[Part], part: u32) -> &[ContactRow]
     }
 }
 
-/// Puts the contact with that number among those of a part in place of the one with the number `index` among all; of none where there is none.
+/// Puts the contact with that number among those of a part in place of the one with the number `index` among all; of
+/// none where there is none.
 #[inline(always)]
 fn put_contact(rows: &mut Rows, index: usize, own: &[ContactRow], number: usize)
     requires { index < length (contacts_among (all_rows rows.old)) }

@@ -33,7 +33,8 @@ pub(crate) struct Outcome {
     pub(crate) long_waits: u32,
 }
 
-/// The sums after a tick: what gravity and the first speed limit, the two passes, and the second speed limit and the move have added.
+/// The sums after a tick: what gravity and the first speed limit, the two passes, and the second speed limit and the
+/// move have added.
 fn sums_after(before: StepSums, fallen: Gains, warm: Gain, solved: Gain, moved: Gains) -> StepSums
     requires before { AreSums (2 ^ 90) before }
     requires pulled { IsGain (2 ^ 78) fallen.first }

@@ -35,7 +35,8 @@ pub(crate) struct Lists {
     pub(crate) ends: Vec<usize>,
 }
 
-/// A part that is to be run. Contracts see its step and its number; its rings begin with this step, and its lists have room for it.
+/// A part that is to be run. Contracts see its step and its number; its rings begin with this step, and its lists have
+/// room for it.
 #[derive(Drop)]
 pub(crate) struct Seat {
     pub(crate) step: Arc<StepLists, Global>,
@@ -90,7 +91,8 @@ struct WalkRoom {
 }
 
 impl WalkRoom {
-    /// Over so many bodies, rows and colours: what has no colour is a stage too, and so is the way home. Refused 1 where no memory is so large.
+    /// Over so many bodies, rows and colours: what has no colour is a stage too, and so is the way home. Refused 1
+    /// where no memory is so large.
     fn of(bodies: usize, rows: usize, colours: usize) -> Result<WalkRoom, Refusal>
         ensures colours { IfOk result (λ room. room.colours ≡ colours + 1) }
         ensures moves { IfOk result (λ room. room.moves ≡ 2 * rows + bodies) }
@@ -126,7 +128,7 @@ impl Lists {
         }
     }
 
-    /// Empties them, and makes room for so many bodies, rows and colours, and for all moves of a pass. Refused 1 where memory is wanting.
+    /// Empties them, and makes room for so many bodies, rows and colours, and for all moves of a pass.
     pub(crate) fn prepare(
         &mut self,
         bodies: usize,

@@ -1,7 +1,9 @@
-//! The walk over the rows of a step: which rows are a part's own, and which bodies move from it and to it before each stage of a pass.
+//! The walk over the rows of a step: which rows are a part's own, and which bodies move from it and to it before each
+//! stage of a pass.
 //!
-//! All parts make the walk alike. A row that has a colour is of the part where its first mover is at home, and one that has none is of the
-//! part 0. A body that a row needs from elsewhere moves to its part before the row's stage. Behind the last of them all go home.
+//! All parts make the walk alike. A row that has a colour is of the part where its first mover is at home, and one that
+//! has none is of the part 0. A body that a row needs from elsewhere moves to its part before the row's stage. Behind
+//! the last of them all go home.
 
 ghost use Rattle.std.specs.Prelude.{◌≡◌, ◌*◌, ◌+◌, ◌++◌, ◌∷◌, ◌<◌, ◌≤◌, [], cond, false, true, length, map, slice_index_or, vec_capacity, vec_len};
 ghost use Rattle.colour_solver.specs.ColourRows.{joints_first};
@@ -32,7 +34,8 @@ pub(crate) struct Homes<'a> {
     number: u32,
 }
 
-/// The part of a row: where its first mover is at home. Where both bodies are of one part, nobody has to look at the bodies.
+/// The part of a row: where its first mover is at home. Where both bodies are of one part, nobody has to look at the
+/// bodies.
 #[inline(always)]
 pub(crate) fn part_of(slots: Slots, states: &[BodyState], home: &[u32]) -> u32
     ensures { result ≡ owner_of states.now home.now true slots }

@@ -1,4 +1,5 @@
--- Trusted: Changes of one body in its slot: those that leave it an awake mover, or carried along, or neither, as it was, and those that disable and enable it.
+-- Trusted: Changes of one body in its slot: those that leave it an awake mover, or carried along, or neither, as it
+-- was, and those that disable and enable it.
 use Rattle.std.specs.Prelude.{Bool, true, false, cond, ℕ, List, Option, None, option_map, slice_set}
 use Rattle.std.specs.Option.{option_map_or}
 use Rattle.momenta.specs.declared.motion.Momenta.{Momenta}

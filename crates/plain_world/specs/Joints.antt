@@ -1,4 +1,5 @@
--- Trusted: Joints by slot: which may be made, which stand between which bodies, and which bodies they keep from colliding.
+-- Trusted: Joints by slot: which may be made, which stand between which bodies, and which bodies they keep from
+-- colliding.
 use Rattle.std.specs.Prelude.{◌≡◌, ◌≢◌, ℕ, ◌==◌, ◌||◌, Bool, true, false, cond, is_some, List, Option, Some, None, pos, unsigned_abs, map, option_map, option_and_then}
 use Rattle.std.specs.List.{filter_map}
 use Rattle.std.specs.Option.{option_map_or}

@@ -39,8 +39,8 @@ girth h r = 452 * h + 355 * r
 unfoldable pub bulk : ℕ → ℕ → ℕ
 bulk h r = (904 * h) * (h * h + 3 * (r * r)) + (1065 * r) * (r * r + 2 * (h * h))
 
--- a capsule of radius r whose core is h long to either side: of the mass m = density·(4·r·h + π·r²) / 2^40 and the inertia
--- m·(8·h·(h² + 3·r²) + 3·π·r·(r² + 2·h²)) / (6·(4·h + π·r))
+-- a capsule of radius r whose core is h long to either side: of the mass m = density·(4·r·h + π·r²) / 2^40 and the
+-- inertia m·(8·h·(h² + 3·r²) + 3·π·r·(r² + 2·h²)) / (6·(4·h + π·r))
 unfoldable pub capsule_mass : ℕ → ℕ → ℕ → Option MassData
 capsule_mass h r density =
     let m = nearest ((r * girth h r) * density) (113 * 2 ^ 40) in

@@ -49,7 +49,7 @@ impl BodyDef {
         Ok(())
     }
 
-    /// The body: at rest, enabled, its timer 0. Refused 1 where memory is wanting.
+    /// The body: at rest, enabled, its timer 0.
     pub fn make(&self, alloc: Global) -> Result<Body, Refusal>
         requires { IsAllowed self.now }
         ensures made { IfOk result (λ body. body ≡ made self.now) }
@@ -151,7 +151,8 @@ impl Body {
         self.is_awake() || self.is_carried()
     }
 
-    /// Whether the contacts with it are evaluated in a step, whatever it meets: it is an awake mover, or is carried along and moves.
+    /// Whether the contacts with it are evaluated in a step, whatever it meets: it is an awake mover, or is carried
+    /// along and moves.
     pub fn stirs(&self) -> bool
         ensures { result ≡ stirs self.now }
     {
@@ -196,7 +197,7 @@ impl Body {
         }
     }
 
-    /// A copy. Refused 1 where memory is wanting.
+    /// A copy.
     pub fn try_copy(&self) -> Result<Body, Refusal>
         ensures copy { IfOk result (λ copied. copied ≡ self.now) }
         ensures memory_only { IsOkUnless result Refusal.NoMemory }

@@ -38,7 +38,7 @@ impl FatBoxes {
         }
     }
 
-    /// The boxes round the shapes of a body with this pose. Refused 1 where memory is wanting.
+    /// The boxes round the shapes of a body with this pose.
     pub fn around(alloc: Global, defs: &[ShapeDef], pose: Pose) -> Result<FatBoxes, Refusal>
         requires defs { All IsShapeDef defs.now }
         requires pose { IsPose pose }
@@ -53,7 +53,7 @@ impl FatBoxes {
         Ok(FatBoxes { boxes })
     }
 
-    /// Adds a box for one more shape. Refused 1 where memory is wanting.
+    /// Adds a box for one more shape.
     pub fn push(&mut self, fat: Box2) -> Result<(), Refusal>
         ensures ok { OnOk result (self.new ≡ self.old ++ fat ∷ []) }
         ensures err { OnErr result (self.new ≡ self.old) }
@@ -70,7 +70,7 @@ impl FatBoxes {
         self.boxes.as_slice()
     }
 
-    /// A copy. Refused 1 where memory is wanting.
+    /// A copy.
     pub fn try_copy(&self) -> Result<FatBoxes, Refusal>
         ensures copy { IfOk result (λ copied. copied ≡ self.now) }
         ensures memory_only { IsOkUnless result Refusal.NoMemory }
@@ -79,7 +79,8 @@ impl FatBoxes {
         Ok(FatBoxes { boxes })
     }
 
-    /// Makes each box anew that its shape's tight box has left. Answers whether it made one anew; the boxes are otherwise as they were.
+    /// Makes each box anew that its shape's tight box has left. Answers whether it made one anew; the boxes are
+    /// otherwise as they were.
     pub fn renew(&mut self, defs: &[ShapeDef], pose: Pose) -> bool
         requires defs { All IsShapeDef defs.now }
         requires pose { IsPose pose }

@@ -43,8 +43,8 @@ impl BodyJoint {
     }
 }
 
-/// A joint to be made: it holds the point `from` of the body `a` and the point `to` of the body `b`, each given from its
-/// body's centre in the body's own axes, at the distance `length` (all in u).
+/// A joint to be made: it holds the point `from` of the body `a` and the point `to` of the body `b`, each given from
+/// its body's centre in the body's own axes, at the distance `length` (all in u).
 #[derive(Clone, Copy, Debug, PartialEq, Eq)]
 pub struct JointDef {
     pub a: Handle,
@@ -57,7 +57,8 @@ pub struct JointDef {
 }
 
 impl JointDef {
-    /// Tests its numbers: refused 5 for an anchor with a component beyond 2^24 in size, and for a length below 0 or beyond 2^25.
+    /// Tests its numbers: refused 5 for an anchor with a component beyond 2^24 in size, and for a length below 0 or
+    /// beyond 2^25.
     #[tactic(auto, unfolding(crate::specs::Joints::joint_refusal))]
     pub fn check(&self) -> Result<(), Refusal>
         ensures refusal { result_err result ≡ joint_refusal self.now }

@@ -92,7 +92,8 @@ impl Kind {
         }
     }
 
-    /// With which velocity and spin a body that no impulse moves is carried along: one that isn't kinematic stands still.
+    /// With which velocity and spin a body that no impulse moves is carried along: one that isn't kinematic stands
+    /// still.
     pub fn carried_by(self) -> Course
         ensures { result ≡ carried_by self }
     {

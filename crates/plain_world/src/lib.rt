@@ -1,8 +1,9 @@
 //! What a world is, as lists, however it is kept.
 //!
-//! A world keeps its bodies and its joints by slot. This crate has what one slot contains (`Body`, `BodyDef`, `Kind`; `BodyJoint`,
-//! `JointDef`), where a body stands (`SetName`), the fat boxes of its shapes
-//! (`FatBoxes`), bodies of one shape by its density (`BodyDef::circle` and its like), and the whole world as plain lists (`Plain`). What a step gathers and moves stands above it.
+//! A world keeps its bodies and its joints by slot. This crate has what one slot contains (`Body`, `BodyDef`, `Kind`;
+//! `BodyJoint`, `JointDef`), where a body stands (`SetName`), the fat boxes of its shapes
+//! (`FatBoxes`), bodies of one shape by its density (`BodyDef::circle` and its like), and the whole world as plain
+//! lists (`Plain`). What a step gathers and moves stands above it.
 #![tactic(auto)]
 
 mod body;

@@ -38,9 +38,9 @@ impl Model for Plain {
 }
 
 impl Plain {
-    /// The world of these lists, of which nothing is asked: each body slot that was ever used, the body in it, the
-    /// same of the joints, the contacts by key, the island of each mover by slot, and for each colour the active constraints that have it, those in the overflow last; the gravity in
-    /// u/tick², and how many steps and calls were accepted.
+    /// The world of these lists, of which nothing is asked: each body slot that was ever used, the body in it, the same
+    /// of the joints, the contacts by key, the island of each mover by slot, and for each colour the active constraints
+    /// that have it, those in the overflow last; the gravity in u/tick², and how many steps and calls were accepted.
     pub fn new(
         slot_entries: Vec<SlotEntry>,
         bodies: Vec<Option<Body>>,

@@ -45,11 +45,12 @@ fn formed(shape: Shape, surface: Surface) -> ShapeDef
 }
 
 impl BodyDef {
-    /// A dynamic disc of this radius (u) and density (mass a square metre, that is, a square of 2^20 u), about its centre.
+    /// A dynamic disc of this radius (u) and density (mass a square metre, that is, a square of 2^20 u), about its
+    /// centre.
     ///
-    /// Its mass is density·π·radius² / 2^40 and its inertia mass·radius² / 2, each to the nearest whole number, with 355/113 for π.
-    /// Refused 4 for a radius beyond 2^24, and else 5 where the friction or the restitution is outside its limit, the mass isn't
-    /// 1 to 2^20 or the inertia is beyond 2^60.
+    /// Its mass is density·π·radius² / 2^40 and its inertia mass·radius² / 2, each to the nearest whole number, with
+    /// 355/113 for π. Refused 4 for a radius beyond 2^24, and else 5 where the friction or the restitution is outside
+    /// its limit, the mass isn't 1 to 2^20 or the inertia is beyond 2^60.
     pub fn circle(
         alloc: Global,
         radius: u32,
@@ -73,13 +74,13 @@ impl BodyDef {
         one_shape(alloc, Kind::Dynamic, mass, shape)
     }
 
-    /// A dynamic capsule about its centre, which lies along the x axis: its core is `half` u long to either side, and `radius` u are
-    /// round it. Its density is mass a square metre.
+    /// A dynamic capsule about its centre, which lies along the x axis: its core is `half` u long to either side, and
+    /// `radius` u are round it. Its density is mass a square metre.
     ///
-    /// With h and r for the two lengths its mass is density·(4·r·h + π·r²) / 2^40, and its inertia
-    /// mass·(8·h·(h² + 3·r²) + 3·π·r·(r² + 2·h²)) / (6·(4·h + π·r)), each to the nearest whole number, with 355/113 for π.
-    /// Refused 4 for a radius of 0 or beyond 2^24 and for a `half` of 0, and else 5 for a `half` beyond 2^24 and where the friction or
-    /// the restitution is outside its limit, the mass isn't 1 to 2^20 or the inertia is beyond 2^60.
+    /// With h and r for the two lengths its mass is density·(4·r·h + π·r²) / 2^40, and its inertia mass·(8·h·(h² +
+    /// 3·r²) + 3·π·r·(r² + 2·h²)) / (6·(4·h + π·r)), each to the nearest whole number, with 355/113 for π. Refused 4
+    /// for a radius of 0 or beyond 2^24 and for a `half` of 0, and else 5 for a `half` beyond 2^24 and where the
+    /// friction or the restitution is outside its limit, the mass isn't 1 to 2^20 or the inertia is beyond 2^60.
     pub fn capsule(
         alloc: Global,
         half: u32,
@@ -98,8 +99,8 @@ impl BodyDef {
         one_shape(alloc, Kind::Dynamic, mass, shape)
     }
 
-    /// A static segment between two points, given from the body's centre in u. Refused 4 where they are equal, and else 5 where one is
-    /// beyond 2^24 in a component or the friction or the restitution is outside its limit.
+    /// A static segment between two points, given from the body's centre in u. Refused 4 where they are equal, and else
+    /// 5 where one is beyond 2^24 in a component or the friction or the restitution is outside its limit.
     pub fn segment(
         alloc: Global,
         first: Vec2,
@@ -114,8 +115,9 @@ impl BodyDef {
         one_shape(alloc, Kind::Static, NO_MASS, shape)
     }
 
-    /// A static segment along the x axis, `half` u long to either side of its centre: a floor, and with another facing a ramp or a
-    /// wall. Refused 4 for a `half` of 0, and else 5 for one beyond 2^24 and where the friction or the restitution is outside its limit.
+    /// A static segment along the x axis, `half` u long to either side of its centre: a floor, and with another facing
+    /// a ramp or a wall. Refused 4 for a `half` of 0, and else 5 for one beyond 2^24 and where the friction or the
+    /// restitution is outside its limit.
     pub fn floor(alloc: Global, half: u32, surface: Surface) -> Result<BodyDef, Refusal>
         ensures due { IsDue (floor_due half surface) result }
         ensures allowed { IfOk result IsAllowed }
@@ -123,9 +125,9 @@ impl BodyDef {
         BodyDef::segment(alloc, left_end(half), right_end(half), surface)
     }
 
-    /// A kinematic capsule, as `capsule` places it, that is carried along with this velocity and spin. Refused 4 for a radius of 0 or
-    /// beyond 2^24 and for a `half` of 0, and else 5 for a `half` beyond 2^24 and where the friction, the restitution, the velocity or
-    /// the spin is outside its limit.
+    /// A kinematic capsule, as `capsule` places it, that is carried along with this velocity and spin. Refused 4 for a
+    /// radius of 0 or beyond 2^24 and for a `half` of 0, and else 5 for a `half` beyond 2^24 and where the friction,
+    /// the restitution, the velocity or the spin is outside its limit.
     pub fn platform(
         alloc: Global,
         half: u32,
@@ -161,7 +163,7 @@ impl BodyDef {
     }
 }
 
-/// A body of one shape at the origin, not turned. Refused 1 where memory is wanting.
+/// A body of one shape at the origin, not turned.
 fn one_shape(alloc: Global, kind: Kind, mass: MassData, shape: ShapeDef) -> Result<BodyDef, Refusal>
     ensures def { IfOk result (λ def. def ≡ of_shape kind mass shape) }
     ensures memory_only { IsOkUnless result Refusal.NoMemory }

@@ -20,8 +20,8 @@ pub const SLOW_SPEED: i64 = 205;
 /// The greatest spin of what is slow: the tangent of the turn of a tick times 2^30.
 pub const SLOW_SPIN: i64 = 209_715;
 
-/// Whether a component of the momentum of a body with this mass is slow. The velocity `p / mass`, rounded, is within `SLOW_SPEED` exactly where `2·|p|`
-/// is below `mass·(2·SLOW_SPEED + 1)`, which takes no division.
+/// Whether a component of the momentum of a body with this mass is slow. The velocity `p / mass`, rounded, is within
+/// `SLOW_SPEED` exactly where `2·|p|` is below `mass·(2·SLOW_SPEED + 1)`, which takes no division.
 #[inline(always)]
 fn is_component_slow(p: i64, mass: i64) -> bool
     requires momentum { unsigned_abs p ≤ unsigned_abs MAX_MOMENTUM }
@@ -119,7 +119,8 @@ impl Body {
         }
     }
 
-    /// Lets so many ticks pass: the timer of an awake mover that is slow grows by them, and that of any other awake mover begins anew.
+    /// Lets so many ticks pass: the timer of an awake mover that is slow grows by them, and that of any other awake
+    /// mover begins anew.
     pub fn time(&mut self, ticks: u64)
         requires body { IsBody self.old }
         requires timer { self.old.timer ≤ 2 ^ 44 }
@@ -137,8 +138,8 @@ impl Body {
     }
 }
 
-/// The law of the limits: the numbers that definitions take from the code, in digits. The function does nothing; its contract is
-/// the law.
+/// The law of the limits: the numbers that definitions take from the code, in digits. The function does nothing; its
+/// contract is the law.
 pub fn limits_in_digits()
     ensures speed { SLOW_SPEED ≡ pos 205 }
     ensures spin { SLOW_SPIN ≡ pos 209715 }

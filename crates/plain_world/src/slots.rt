@@ -57,7 +57,7 @@ pub fn clear_slot<T: Drop>(items: &mut Vec<Option<T>>, slot: usize)
     items[slot] = None;
 }
 
-/// A copy of each body. Refused 1 where memory is wanting.
+/// A copy of each body.
 pub fn copy_bodies(alloc: Global, bodies: &[Option<Body>]) -> Result<Vec<Option<Body>>, Refusal>
     ensures copy { IfOk result (λ copies. copies.items ≡ bodies.now) }
     ensures memory_only { IsOkUnless result Refusal.NoMemory }

@@ -24,7 +24,8 @@ le_value_after : (k : ℕ) (ds : List ℕ) → k ≤ digits_value_after 10 k ds
 le_value_after k [] = omega arith
 le_value_after k (c ∷ cs) = omega (arith, le_value_after (k * 10 + digit_value c) cs)
 
--- the two numbers and what stands after them are the same, or the other number goes on with the digit that stands after the first
+-- the two numbers and what stands after them are the same, or the other number goes on with the digit that stands after
+-- the first
 abbrev IsReached : ℕ → ℕ → List ℕ → List ℕ → Type 0
 IsReached m n t u = ((n ≡ m) × (t ≡ u)) ⊎ ((m * 10 ≤ n) × (StartsWithNoDigit t → ⊥))
 

@@ -20,7 +20,8 @@ abbrev pub StartsWithNoEnd : List ℕ → Type 0
 StartsWithNoEnd [] = ⊤
 StartsWithNoEnd (byte ∷ rest) = (byte == 93) ≡ false
 
--- each value in range that stands printed after the lead, with no digit after it, is answered, and what comes after it is left
+-- each value in range that stands printed after the lead, with no digit after it, is answered, and what comes after it
+-- is left
 abbrev pub Reads : {A : Type 0} → (A → Data) → (A → Type 0) → List ℕ → List ℕ → Option A → List ℕ → Type 0
 Reads {A} print InRange lead text result rest = (value : A) (tail : List ℕ) → InRange value → StartsWithNoDigit tail → Leads lead (print value) text tail → (result ≡ Some value) × (rest ≡ tail)
 

@@ -1,4 +1,5 @@
--- Values that are read of their text as they were: each number is a whole one of 64 bits, and the keys of each object ascend.
+-- Values that are read of their text as they were: each number is a whole one of 64 bits, and the keys of each object
+-- ascend.
 use Rattle.std.specs.Prelude.{ℕ, ◌&&◌, ◌^◌, Bool, true, false, nat_lt, List, pos, negsuc}
 use Rattle.std.specs.Ordering.{is_gt, nat_cmp}
 use Rattle.std.specs.Cmp.Lexicographic.{slice_cmp}

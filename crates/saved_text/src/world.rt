@@ -131,8 +131,8 @@ fn written(alloc: Global, plain: &Plain, totals: &Totals) -> Result<String, Refu
     text_of(out)
 }
 
-/// The text of a world of at most 24 colours and an overflow, with the totals of its ledger: compact JSON, the keys of each object ascending.
-/// It is what is printed of the value that `world_file::write` makes. Refused 1 where memory is wanting.
+/// The text of a world of at most 24 colours and an overflow, with the totals of its ledger: compact JSON, the keys of
+/// each object ascending. It is what is printed of the value that `world_file::write` makes.
 pub fn write_text(alloc: Global, plain: &Plain, totals: &Totals) -> Result<String, Refusal>
     requires colours { length plain.now.colours ≤ most_colours + 1 }
     ensures text { IfOk result (λ text. IsTextOf (value_of plain.now totals.now) (string_bytes text)) }

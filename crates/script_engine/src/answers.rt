@@ -124,8 +124,8 @@ fn answer_step<'a, E, R: Threads + Wait + Sync>(
     }
 }
 
-/// What a ray hits first of the shapes that it may hit. Refused 5 where it is beyond its limits, and else 2 where the body that it passes by doesn't
-/// live.
+/// What a ray hits first of the shapes that it may hit. Refused 5 where it is beyond its limits, and else 2 where the
+/// body that it passes by doesn't live.
 fn answer_filtered_ray<'a>(world: &'a WorldCore, ray: RayRequest) -> Answer<'a> {
     match filtered_ray(world, ray.from, ray.along, ray.filter) {
         Ok(hit) if ray.ids => Answer::Hit(hit, Some(slot_entries_of(world))),
@@ -134,7 +134,8 @@ fn answer_filtered_ray<'a>(world: &'a WorldCore, ray: RayRequest) -> Answer<'a> 
     }
 }
 
-/// The shapes over a region, with their bodies' ids. Refused 5 where the region is beyond its limits, and else 1 where memory is wanting.
+/// The shapes over a region, with their bodies' ids. Refused 5 where the region is beyond its limits, and else 1 where
+/// memory is wanting.
 fn answer_region_with_ids<'a>(alloc: Global, world: &'a WorldCore, bounds: &Box2) -> Answer<'a> {
     match region(alloc, world, bounds) {
         Ok(shapes) => Answer::Shapes(shapes, Some(slot_entries_of(world))),

@@ -55,8 +55,8 @@ pub(crate) fn ray(world: &WorldCore, from: Vec2, along: Vec2) -> Result<Option<H
     }
 }
 
-/// What a ray hits first of the shapes that it may hit. Refused 5 where the ray is beyond its limits, and else 2 where the body that it passes by
-/// doesn't live.
+/// What a ray hits first of the shapes that it may hit. Refused 5 where the ray is beyond its limits, and else 2 where
+/// the body that it passes by doesn't live.
 pub(crate) fn filtered_ray(
     world: &WorldCore,
     from: Vec2,
@@ -83,7 +83,7 @@ pub(crate) fn region(
     }
 }
 
-/// A copy of a world. Refused 1 where memory is wanting.
+/// A copy of a world.
 pub(crate) fn copy_of_world(world: &WorldCore) -> Result<WorldCore, Refusal> {
     world.try_copy()
 }
@@ -98,7 +98,7 @@ pub(crate) fn slot_entries_of(world: &WorldCore) -> &[SlotEntry] {
     world.slot_entries()
 }
 
-/// The world as plain lists. Refused 1 where memory is wanting.
+/// The world as plain lists.
 pub(crate) fn plain_of(world: &WorldCore) -> Result<Plain, Refusal> {
     world.plain()
 }
@@ -113,25 +113,26 @@ pub(crate) fn settle(world: &mut WorldCore) {
     }
 }
 
-/// The digest of the world. Refused 1 where memory is wanting.
+/// The digest of the world.
 pub(crate) fn digest(world: &WorldCore) -> Result<[u8; 32], Refusal> {
     world_desk::digest(world)
 }
 
-/// The text of the world. Refused 1 where memory is wanting.
+/// The text of the world.
 pub(crate) fn save(alloc: Global, world: &WorldCore) -> Result<String, Refusal> {
     world_desk::text_of(alloc, world)
 }
 
-/// The world of a text that a save wrote. Refused 12 with the first clause that it breaks, or 1 where memory is wanting. Nothing is answered of
-/// another text.
+/// The world of a text that a save wrote. Refused 12 with the first clause that it breaks, or 1 where memory is
+/// wanting. Nothing is answered of another text.
 pub(crate) fn load_saved(alloc: Global, text: &[u8]) -> Option<Result<WorldCore, Refusal>> {
     let read = world_desk::read_world(alloc, text)?;
     Some(read.map_err(|broken| broken.refusal()))
 }
 
-/// The world of a text that is JSON. Refused 12 with the first clause that it breaks, or 1 where memory is wanting. No value is made of a text that
-/// a save wrote, nor of one that can't be a saved world at the first look, which is refused.
+/// The world of a text that is JSON. Refused 12 with the first clause that it breaks, or 1 where memory is wanting. No
+/// value is made of a text that a save wrote, nor of one that can't be a saved world at the first look, which is
+/// refused.
 pub(crate) fn load(alloc: Global, text: &str) -> Result<WorldCore, Refusal> {
     if let Some(loaded) = load_saved(alloc, text.as_bytes()) {
         return loaded;

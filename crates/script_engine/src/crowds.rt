@@ -144,8 +144,8 @@ impl<N: Opened> Called<Seat<N>> for SharedWorld<N> {
     }
 }
 
-/// What one thread does whose steps its own workers solve. They are started in the scope, and ended when all calls are made. Where one can't be
-/// started, the thread notes it and makes no calls.
+/// What one thread does whose steps its own workers solve. They are started in the scope, and ended when all calls are
+/// made. Where one can't be started, the thread notes it and makes no calls.
 fn call_by_workers<'s, E, T, S: Called<T>, R: Threads + Wait + Sync>(
     scope: &Scope<'s, E>,
     rt: &'s R,
@@ -188,8 +188,8 @@ fn call_through<T, S: Called<T>, R: Threads + Wait + Sync>(
     }
 }
 
-/// Starts a thread for each seat, up to one that can't be started. Refused 11 then. It goes by any world and seats that may cross threads, so that
-/// whether those of a shared world may is asked by its caller, as a question of its own.
+/// Starts a thread for each seat, up to one that can't be started. Refused 11 then. It goes by any world and seats that
+/// may cross threads, so that whether those of a shared world may is asked by its caller, as a question of its own.
 fn start_all<'s, E, T: Send + 's, S: Called<T> + Sync + 's, R: Threads + Wait + Sync>(
     scope: &Scope<'s, E>,
     rt: &'s R,
@@ -222,8 +222,8 @@ fn start_seats<'s, E, N: Opened + Send + Sync + 's, R: Threads + Wait + Sync>(
     start_all(scope, rt, shared, seats, crowd, starts)
 }
 
-/// All seats call at once, each on a thread of its own. Refused 11 where one, or a worker of one, can't be started, and 1 where memory is wanting
-/// for its workers.
+/// All seats call at once, each on a thread of its own. Refused 11 where one, or a worker of one, can't be started, and
+/// 1 where memory is wanting for its workers.
 fn call_at_once<N: Opened + Send + Sync, R: Threads + Wait + Sync>(
     rt: &R,
     shared: &SharedWorld<N>,
@@ -333,8 +333,9 @@ fn share_out<R: Threads + Wait + Sync>(
     left.settle(place, seats.as_mut_slice())
 }
 
-/// So many threads make the crowd's calls. Refused 1, with nothing changed, where memory is wanting, and 11 where a thread can't be
-/// started; where a thread's own workers can't, as their start is. The calls of the threads that ran stand then.
+/// So many threads make the crowd's calls. Refused 1, with nothing changed, where memory is wanting, and 11 where a
+/// thread can't be started; where a thread's own workers can't, as their start is. The calls of the threads that ran
+/// stand then.
 pub(crate) fn crowd<R: Threads + Wait + Sync>(
     rt: &R,
     world: &mut WorldCore,

@@ -111,7 +111,8 @@ fn refuse_line<R: Eprint, O: Write>(
     Stop::BadLine
 }
 
-/// Answers a line that loads what a save wrote, if it is one. Where a refusal is told in words, the line is read as a request.
+/// Answers a line that loads what a save wrote, if it is one. Where a refusal is told in words, the line is read as a
+/// request.
 fn answer_saved<'a>(
     alloc: Global,
     world: &mut WorldCore,
@@ -249,7 +250,8 @@ fn serve<E, R: AllocGlobal + Eprint + Threads + Wait + Sync, I: BufRead, O: Writ
     Ok(())
 }
 
-/// The same in a world that begins empty. Its workers stay in the scope from the first step that is worth them to the end.
+/// The same in a world that begins empty. Its workers stay in the scope from the first step that is worth them to the
+/// end.
 fn serve_by_workers<'s, E, R: AllocGlobal + Eprint + Threads + Wait + Sync, I: BufRead, O: Write>(
     scope: &Scope<'s, E>,
     rt: &'s R,
@@ -279,8 +281,8 @@ fn end<O: Write>(writer: &mut O, answered: Result<(), Stop>) -> Status {
     }
 }
 
-/// Answers each line of the reader, in a world that begins empty and without gravity. It ends with the
-/// input, at the first line that is no request (after an answer that names it, and unless the options say to go on), where memory is
+/// Answers each line of the reader, in a world that begins empty and without gravity. It ends with the input, at the
+/// first line that is no request (after an answer that names it, and unless the options say to go on), where memory is
 /// wanting, or where a read or a write fails. What was answered is flushed before each read that may wait, and at the
 /// end, unless a write failed. Why a line is no request is told on standard error.
 pub fn run<R: AllocGlobal + Eprint + Threads + Wait + Sync, I: BufRead, O: Write>(

@@ -1,4 +1,5 @@
-//! What standard error is told: which key of a request a refusal speaks of, what was refused in a crowd, and what is wrong with a line.
+//! What standard error is told: which key of a request a refusal speaks of, what was refused in a crowd, and what is
+//! wrong with a line.
 
 use crate::extended::Extended;
 use crate::requests::{CrowdDef, Request};
@@ -59,7 +60,8 @@ fn key_of_form(shape: &Shape) -> &'static str {
     }
 }
 
-/// The key for which a shape isn't allowed: that of its form where its ends are equal or its body may have none of the form.
+/// The key for which a shape isn't allowed: that of its form where its ends are equal or its body may have none of the
+/// form.
 fn key_of_bad_shape(shape: &Shape) -> &'static str {
     match shape {
         Shape::Capsule {

@@ -92,8 +92,8 @@ fn take_with_ids<'a>(fields: &mut Fields<'a>, name: &str) -> Option<Extended> {
     }
 }
 
-/// The request of this name that only the extended form has, if it is one's. A step, a ray and a region are such where they ask for ids, and a
-/// ray where it says which shapes it may hit.
+/// The request of this name that only the extended form has, if it is one's. A step, a ray and a region are such where
+/// they ask for ids, and a ray where it says which shapes it may hit.
 pub(crate) fn take_extended<'a>(fields: &mut Fields<'a>, name: &str) -> Option<Extended> {
     let request = match name {
         "bodies" => Extended::Bodies {

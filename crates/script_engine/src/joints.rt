@@ -32,7 +32,7 @@ fn report_of(plain: &Plain, slot: u32, joint: &BodyJoint, view: JointView) -> Jo
     }
 }
 
-/// Adds the joint in a slot, if there is one. Refused 1 where memory is wanting.
+/// Adds the joint in a slot, if there is one.
 fn add_joint(reports: &mut Vec<JointReport>, plain: &Plain, slot: u32) -> Result<(), Refusal>
     requires bodies { AreBodies plain.now.bodies }
     requires joints { AreJoints plain.now.bodies plain.now.joints }
@@ -58,7 +58,7 @@ fn list_joints(alloc: Global, plain: &Plain) -> Result<Vec<JointReport>, Refusal
     Ok(reports)
 }
 
-/// The joints by slot. Refused 1 where memory is wanting.
+/// The joints by slot.
 pub(crate) fn joints_of(alloc: Global, world: &WorldCore) -> Result<Vec<JointReport>, Refusal> {
     let plain = world.plain()?;
     list_joints(alloc, &plain)

@@ -44,7 +44,7 @@ pub enum Request<'a> {
     Extended(Extended),
 }
 
-/// A copy of a command. Refused 1 where memory is wanting.
+/// A copy of a command.
 pub(crate) fn copy_of(command: &Command) -> Result<Command, Refusal> {
     match command {
         Command::CreateBody(def) => copy_of_create(def),
@@ -238,8 +238,8 @@ fn take_crowd<'a>(alloc: Global, line: &mut Line<'a>) -> Request<'a> {
     Request::Crowd(CrowdDef { each, times })
 }
 
-/// The request of a line by its name, of the extended form too where that is asked for; `None` where something is wrong, which is noted
-/// in the line's own object then.
+/// The request of a line by its name, of the extended form too where that is asked for; `None` where something is
+/// wrong, which is noted in the line's own object then.
 fn take_request<'a>(alloc: Global, line: &mut Line<'a>, extended: bool) -> Option<Request<'a>> {
     let name = line.own.take_text("do");
     if extended {
@@ -270,7 +270,8 @@ fn take_plain<'a>(alloc: Global, line: &mut Line<'a>, name: &'a str) -> Option<R
     }
 }
 
-/// Reads a line, with or without its end, in the extended form where that is asked for. The scratch grows to the longest line that was read.
+/// Reads a line, with or without its end, in the extended form where that is asked for. The scratch grows to the
+/// longest line that was read.
 pub fn request_of<'a>(
     alloc: Global,
     bytes: &'a [u8],

@@ -1,4 +1,5 @@
-//! Lines that load what a save wrote. They are the longest that there are, and are answered with no look at the tokens of the world.
+//! Lines that load what a save wrote. They are the longest that there are, and are answered with no look at the tokens
+//! of the world.
 
 use crate::calls::load_saved;
 use fixed_geom::Refusal;
@@ -62,8 +63,9 @@ fn world_in(line: &[u8]) -> Option<&[u8]> {
     before(behind(members, &WORLD)?, &LOAD)
 }
 
-/// The world that a line loads, or why there is none, if the line is `{"do":"load","world":TEXT}` with a text that a save wrote. Spaces may stand
-/// round each token outside the text, and the world may come first. Any other line is to be read as a request.
+/// The world that a line loads, or why there is none, if the line is `{"do":"load","world":TEXT}` with a text that a
+/// save wrote. Spaces may stand round each token outside the text, and the world may come first. Any other line is to
+/// be read as a request.
 pub(crate) fn loaded_by(alloc: Global, line: &[u8]) -> Option<Result<WorldCore, Refusal>> {
     load_saved(alloc, world_in(line)?)
 }

@@ -17,8 +17,8 @@ pub(crate) struct Worlds<'w, T> {
     kept: BTreeMap<i64, WorldCore>,
 }
 
-/// Keeps a value under a number, in place of what was kept there. Refused 1 where memory is wanting. It goes by any value, as the next function
-/// does: what a world drops is no question here.
+/// Keeps a value under a number, in place of what was kept there. It goes by any value, as the next function does: what
+/// a world drops is no question here.
 fn keep_under<T: Drop>(kept: &mut BTreeMap<i64, T>, number: i64, value: T) -> Result<(), Refusal> {
     kept.insert(number, value)?;
     Ok(())
@@ -47,7 +47,7 @@ fn kept_under<T>(kept: &BTreeMap<i64, T>, number: i64) -> Result<&T, Refusal> {
 }
 
 impl<'w, T> Worlds<'w, T> {
-    /// An empty world without gravity, and no kept one. Refused 1 where memory is wanting.
+    /// An empty world without gravity, and no kept one.
     pub fn new(alloc: Global, stepper: &'w mut T) -> Result<Worlds<'w, T>, Refusal> {
         let world = new_world(alloc)?;
         Ok(Worlds {
@@ -57,15 +57,15 @@ impl<'w, T> Worlds<'w, T> {
         })
     }
 
-    /// Keeps a copy of the world under a number, in place of what was kept there. Refused 5 where the number isn't one of a kept world, and 1 where memory is
-    /// wanting; what was kept stays then.
+    /// Keeps a copy of the world under a number, in place of what was kept there. Refused 5 where the number isn't one
+    /// of a kept world, and 1 where memory is wanting; what was kept stays then.
     pub fn keep(&mut self, number: i64) -> Result<(), Refusal> {
         check_number(number)?;
         keep_under(&mut self.kept, number, copy_of_world(&self.world)?)
     }
 
-    /// Puts a copy of a kept world in place of the world. Refused 5 where the number isn't one of a kept world, 2 where no world was kept under it, and 1 where
-    /// memory is wanting; the world stays then.
+    /// Puts a copy of a kept world in place of the world. Refused 5 where the number isn't one of a kept world, 2 where
+    /// no world was kept under it, and 1 where memory is wanting; the world stays then.
     pub fn back(&mut self, number: i64) -> Result<(), Refusal> {
         check_number(number)?;
         let copied = copy_of_world(kept_under(&self.kept, number)?)?;

@@ -11,7 +11,8 @@ use std::convert::AsStr;
 const ABOUT: &str =
     "Keeps a world of bodies: reads one JSON request a line, and answers each with a line";
 
-/// The version of the program, and the number of the rules: two programs with the same rules give the same answers to a script.
+/// The version of the program, and the number of the rules: two programs with the same rules give the same answers to a
+/// script.
 const VERSION: &str = "0.1.0, rules 1";
 
 /// How many threads make the calls of a crowd at most, and how many solve a step.
@@ -124,8 +125,8 @@ fn options_of(alloc: Global, matches: &ArgMatches<'_>) -> Result<Options, Instea
     })
 }
 
-/// The number of threads that the words ask for under this name, and 1 where they name none. The parser lets no number beyond the limits through,
-/// but takes signs and leading zeros, which are bad here as in a line.
+/// The number of threads that the words ask for under this name, and 1 where they name none. The parser lets no number
+/// beyond the limits through, but takes signs and leading zeros, which are bad here as in a line.
 fn number_of(alloc: Global, matches: &ArgMatches<'_>, name: &str) -> Result<u64, Instead>
     ensures { IfOk result (λ number. (1 ≤ number) × (number ≤ 64)) }
 {

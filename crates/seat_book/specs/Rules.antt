@@ -53,7 +53,8 @@ module _ {C R : Type 0} where
 
   -- ---- the rule
 
-  -- a view under the rule: the keeper is this one and knows this, and of each seat only the holder has a pass, which has seen a past of the seat
+  -- a view under the rule: the keeper is this one and knows this, and of each seat only the holder has a pass, which
+  -- has seen a past of the seat
   abbrev pub Fits : ℕ → (ℕ → ℕ) → Desk C R → ℕ → View C R → Type 0
   Fits keeper holder d by v = IfSome v.desk (λ k. (by ≡ keeper) × (k ≡ d)) × IfSome v.pass (λ p. (by ≡ holder p.seat) × (p.seat < d.dealt) × IsPast p.seat p.seen d.history)
 

@@ -20,7 +20,8 @@ pub struct Book<N: Named, Command, Reply> {
     ghost of_its_name: { (table.shared.table_id ≡ N.table) × (table.shared.table_id.words ≡ 1) },
 }
 
-/// Who knows the whole history. Contracts see it as the history: each call that was accepted since the roster was opened.
+/// Who knows the whole history. Contracts see it as the history: each call that was accepted since the roster was
+/// opened.
 #[derive(Drop)]
 pub struct Keeper<N: Named, Command, Reply> {
     pub(crate) seat: Seat<Call<Command, Reply>, View<Command, Reply>>,

@@ -2,8 +2,8 @@
 
 use std::marker::Brand;
 
-/// Names one roster. It has no calls: whoever opens a roster is generic in its name, and is called at `Brand`. What else a
-/// name is to tell, as the value at the start, a crate above adds by a trait of its own over this one.
+/// Names one roster. It has no calls: whoever opens a roster is generic in its name, and is called at `Brand`. What
+/// else a name is to tell, as the value at the start, a crate above adds by a trait of its own over this one.
 pub trait Named {
     ghost use Rattle.std.specs.Prelude.{ℕ};
     ghost use Rattle.atomic_table.specs.Seated.{TableId};

@@ -59,8 +59,8 @@ impl<Command, Reply> Roster<Command, Reply> {
     }
 }
 
-/// Opens a roster: the history is empty, and each seat has a pass, which has seen nothing. The passes stand in the order of
-/// their seats. Refused 1 where memory is wanting.
+/// Opens a roster: the history is empty, and each seat has a pass, which has seen nothing. The passes stand in the
+/// order of their seats. Refused 1 where memory is wanting.
 pub fn open<N: Named, Command: Drop, Reply: Drop>(
     alloc: Global,
     roster: Roster<Command, Reply>,
@@ -116,8 +116,8 @@ fn deal<N: Named, Command, Reply>(
     }
 }
 
-/// The law of the limits: the numbers that definitions take from the code, in digits. The function does nothing; its contract is
-/// the law.
+/// The law of the limits: the numbers that definitions take from the code, in digits. The function does nothing; its
+/// contract is the law.
 pub fn limits_in_digits()
     ensures seats { MAX_SEATS ≡ 64 }
 {}

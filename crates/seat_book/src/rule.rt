@@ -17,14 +17,15 @@ pub struct Known<Command, Reply> {
     pub seen: LinkedList<Entry<Command, Reply>>,
 }
 
-/// What one who steps on the table knows: the keeper, a pass, or the keeper while it holds a pass. No value of it is made.
+/// What one who steps on the table knows: the keeper, a pass, or the keeper while it holds a pass. No value of it is
+/// made.
 pub struct View<Command, Reply> {
     pub desk: Option<Desk<Command, Reply>>,
     pub pass: Option<Known<Command, Reply>>,
 }
 
-// There is one keeper, and each seat has one pass, which has seen a past of the seat; the word is 0, or names the seat of the
-// call in flight.
+// There is one keeper, and each seat has one pass, which has seen a past of the seat; the word is 0, or names the seat
+// of the call in flight.
 pub(crate) struct Law;
 
 impl<Command, Reply> TableRule<Call<Command, Reply>, View<Command, Reply>, ()> for Law {

@@ -22,7 +22,8 @@ use Rattle.shape_rays.proofs.BoxLaws.{in_the_box}
 use Rattle.shape_rays.proofs.PartLemmas.{max_is, min_is}
 use Rattle.shape_rays.proofs.PlaceLemmas.{T}
 
--- a coordinate of both ends is near that of the centre, and so is what lies between them but for the radius and the slack
+-- a coordinate of both ends is near that of the centre, and so is what lies between them but for the radius and the
+-- slack
 low_near : (o p q r : ℤ) → unsigned_abs (p -ℤ o) ≤ 47 * 2 ^ 19 → unsigned_abs (q -ℤ o) ≤ 47 * 2 ^ 19 → unsigned_abs r ≤ 2 ^ 24 → (o -ℤ pos (2 ^ 26)) ≤ℤ (int_min p q -ℤ r -ℤ pos 64)
 low_near o p q r h k l = let m = min_is p q in omega (arith, ints, h, k, l, m.one)
 

@@ -28,8 +28,9 @@ unturned = record { c = unit_length; s = pos 0 }
 abbrev pub point_shape : Shape
 point_shape = Circle zero_vector (pos 0)
 
--- the normal of the contact of a shape, of a body with the facing q, with a point: from the nearest place of the shape's core to the point, which is
--- taken from the body's centre. Of a point on the core itself it is square to the core, to its left, or up where the core is a point
+-- the normal of the contact of a shape, of a body with the facing q, with a point: from the nearest place of the
+-- shape's core to the point, which is taken from the body's centre. Of a point on the core itself it is square to the
+-- core, to its left, or up where the core is a point
 unfoldable pub normal_to : Shape → Rot → Vec2 → Vec2
 normal_to s q v = (manifold_of s (record { x = zero_vector; rot = q }) point_shape (record { x = v; rot = unturned })).first.normal
 
@@ -39,13 +40,15 @@ normal_to s q v = (manifold_of s (record { x = zero_vector; rot = q }) point_sha
 abbrev pub left_of : Core → Vec2
 left_of c = cond (is_point c) up (across c)
 
--- the one of the two unit vectors square to the core that leads to the side on which e lies; the left one where e lies on the core's line
+-- the one of the two unit vectors square to the core that leads to the side on which e lies; the left one where e lies
+-- on the core's line
 unfoldable pub side_normal : Core → Vec2 → Vec2
 side_normal c e = cond (int_lt (side c e) (pos 0)) (opposite (left_of c)) (left_of c)
 
 -- ---- a hit
 
--- the normal, from the shape outwards, where a ray that starts at e hits a shape, of a body with the pose o, at the point v
+-- the normal, from the shape outwards, where a ray that starts at e hits a shape, of a body with the pose o, at the
+-- point v
 abbrev pub normal_at : Shape → Pose → Vec2 → Vec2 → Vec2
 normal_at (Circle center radius) o e v = normal_to (Circle center radius) o.rot (minus v o.x)
 normal_at (Capsule first second radius) o e v = normal_to (Capsule first second radius) o.rot (minus v o.x)

@@ -116,8 +116,8 @@ pub(crate) fn is_crossed(along: Vec2, low: Vec2, high: Vec2) -> bool
     is_at_most(middle, half)
 }
 
-/// The law of the limits: the numbers that definitions take from the code, in digits. The function does nothing; its contract is
-/// the law.
+/// The law of the limits: the numbers that definitions take from the code, in digits. The function does nothing; its
+/// contract is the law.
 pub fn limits_in_digits()
     ensures slack { RAY_SLACK ≡ pos 64 }
 {}

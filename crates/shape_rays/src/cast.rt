@@ -33,7 +33,8 @@ impl Model for RayCast {
 }
 
 impl RayCast {
-    /// A ray from a start within 2^36 u in each coordinate, along a way within 2^28 u in each. A way of zero is allowed.
+    /// A ray from a start within 2^36 u in each coordinate, along a way within 2^28 u in each. A way of zero is
+    /// allowed.
     pub fn new(from: Vec2, along: Vec2) -> RayCast
         requires from { IsWithin (unsigned_abs MAX_POSITION) from }
         requires along { IsWithin (unsigned_abs MAX_RAY) along }
@@ -46,23 +47,25 @@ impl RayCast {
         }
     }
 
-    /// The box round its way, with [`RAY_SLACK`](crate::RAY_SLACK) on each side. A shape whose tight box doesn't overlap it isn't hit.
+    /// The box round its way, with [`RAY_SLACK`](crate::RAY_SLACK) on each side. A shape whose tight box doesn't
+    /// overlap it isn't hit.
     pub fn around(&self) -> Box2
         ensures { result ≡ box_round self.now }
     {
         self.around
     }
 
-    /// Whether the ray may meet something that lies in the box: whether its way passes the box with [`RAY_SLACK`](crate::RAY_SLACK)
-    /// on each side. Any box may be asked about. A shape whose tight box lies in a box that is refused isn't hit.
+    /// Whether the ray may meet something that lies in the box: whether its way passes the box with
+    /// [`RAY_SLACK`](crate::RAY_SLACK) on each side. Any box may be asked about. A shape whose tight box lies in a box
+    /// that is refused isn't hit.
     pub fn reaches(&self, bounds: &Box2) -> bool
         ensures { result ≡ reaches self.now bounds.now }
     {
         reaches(self.from, self.along, &self.around, bounds)
     }
 
-    /// Where the ray first meets the shape of a body with this pose, as a fraction of its way times 2^24; `None` where it
-    /// misses.
+    /// Where the ray first meets the shape of a body with this pose, as a fraction of its way times 2^24; `None` where
+    /// it misses.
     pub fn hit(&self, shape: &Shape, pose: Pose) -> Option<u32>
         requires shape { IsShape shape.now }
         requires pose { IsPose pose }

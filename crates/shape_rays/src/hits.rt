@@ -40,7 +40,8 @@ fn is_lesser(a: ShapeId, b: ShapeId) -> bool
     a.index < b.index
 }
 
-/// Whether the first hit comes before the second: it is nearer or, where both are as near, its shape has the lesser name.
+/// Whether the first hit comes before the second: it is nearer or, where both are as near, its shape has the lesser
+/// name.
 fn is_before(a: Hit, b: Hit) -> bool
     ensures { result ≡ is_before a b }
 {

@@ -17,13 +17,14 @@ pub fn misses_within()
     ensures { MissesWithin }
 {}
 
-/// A ray reaches each box with a point of its way in it, or no further from it than [`RAY_SLACK`](crate::RAY_SLACK) on each side.
+/// A ray reaches each box with a point of its way in it, or no further from it than [`RAY_SLACK`](crate::RAY_SLACK) on
+/// each side.
 pub fn met_is_reached()
     ensures { MetIsReached }
 {}
 
-/// Where a ray hits a shape, the point of its way lies in the shape's tight box, but for [`RAY_SLACK`](crate::RAY_SLACK) on each
-/// side. So a ray that is cut off there still reaches the box.
+/// Where a ray hits a shape, the point of its way lies in the shape's tight box, but for
+/// [`RAY_SLACK`](crate::RAY_SLACK) on each side. So a ray that is cut off there still reaches the box.
 pub fn a_hit_lies_in_the_box()
     ensures { HitLiesInBox }
 {}

@@ -13,7 +13,8 @@ ghost use Rattle.shape_rays.specs.Surfaces.{left_of, normal_at, normal_to, point
 use fixed_geom::{MAX_POSITION, Rot, UNIT, Vec2, ZERO_VECTOR, cross, minus, moved, opposite, unit};
 use shapes::{Core, MAX_RAY, Pose, Shape, core_of, manifold, ray};
 
-/// Where a ray hits a shape: the fraction of its way, times 2^24, the point, in u, and the normal, times 2^30, from the shape outwards.
+/// Where a ray hits a shape: the fraction of its way, times 2^24, the point, in u, and the normal, times 2^30, from the
+/// shape outwards.
 #[derive(Clone, Copy, Debug, PartialEq, Eq)]
 pub struct ShapeHit {
     pub fraction: u32,
@@ -46,8 +47,8 @@ fn unturned() -> Rot
     Rot { c: UNIT, s: 0 }
 }
 
-/// The normal of the contact of a shape with a point: from the nearest place of its core to the point, which is taken from the centre of the
-/// shape's body.
+/// The normal of the contact of a shape with a point: from the nearest place of its core to the point, which is taken
+/// from the centre of the shape's body.
 fn normal_to(shape: &Shape, facing: Rot, place: Vec2) -> Vec2
     requires shape { IsShape shape.now }
     requires facing { IsFacing facing }
@@ -132,8 +133,8 @@ fn side_normal(core: &Core, place: Vec2) -> Vec2
     left
 }
 
-/// The normal, from the shape outwards, where a ray from a start hits a shape at a point that is no further than 2^36 u from its body's centre in
-/// each coordinate.
+/// The normal, from the shape outwards, where a ray from a start hits a shape at a point that is no further than 2^36 u
+/// from its body's centre in each coordinate.
 fn normal_at(shape: &Shape, pose: Pose, from: Vec2, point: Vec2) -> Vec2
     requires shape { IsShape shape.now }
     requires pose { IsPose pose }
@@ -148,8 +149,8 @@ fn normal_at(shape: &Shape, pose: Pose, from: Vec2, point: Vec2) -> Vec2
     }
 }
 
-/// The first hit of the ray from a start along a way on the shape of a body with this pose: where it is, and how the surface faces there. The
-/// start, in u, is within 2^36 in each coordinate, the way within 2^28.
+/// The first hit of the ray from a start along a way on the shape of a body with this pose: where it is, and how the
+/// surface faces there. The start, in u, is within 2^36 in each coordinate, the way within 2^28.
 pub fn ray_on_shape(shape: &Shape, pose: Pose, from: Vec2, along: Vec2) -> Option<ShapeHit>
     requires shape { IsShape shape.now }
     requires pose { IsPose pose }

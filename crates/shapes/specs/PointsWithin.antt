@@ -1,4 +1,5 @@
--- Inner: what holds of the candidates and the points of a contact: which spots they are of, and how large their numbers are.
+-- Inner: what holds of the candidates and the points of a contact: which spots they are of, and how large their numbers
+-- are.
 use Rattle.std.specs.Prelude.{◌≡◌, ℕ, ◌==◌, false, ℤ, pos, ◌≤ℤ◌, unsigned_abs, ◌≤◌, List, [], ◌∷◌, All, ◌⊎◌, ◌^◌}
 use Rattle.fixed_geom.specs.Vectors.{IsWithin, minus, span}
 use Rattle.fixed_geom.specs.declared.vectors.TheConstants.{UNIT}

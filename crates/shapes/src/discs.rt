@@ -1,4 +1,5 @@
-//! Circles in the world, and the point at which two of them touch: their manifold by a way of its own, without the choice among candidates.
+//! Circles in the world, and the point at which two of them touch: their manifold by a way of its own, without the
+//! choice among candidates.
 
 ghost use Rattle.std.specs.Prelude.{◌≡◌, false, unsigned_abs, IfSome};
 ghost use Rattle.fixed_geom.specs.Vectors.{IsWithin};

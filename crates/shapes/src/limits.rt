@@ -30,8 +30,8 @@ pub const MAX_RAY: i64 = 1 << 28;
 /// By how much a fat box is larger than the tight box on each side, in u.
 pub const MARGIN: i64 = 131_072;
 
-/// How much further than the first point of a contact the second may be, and how far the two have to be from one another, in u
-/// (2 hundredths of a metre).
+/// How much further than the first point of a contact the second may be, and how far the two have to be from one
+/// another, in u (2 hundredths of a metre).
 pub const TOLERANCE: i64 = 20_972;
 
 /// Whether a number is from `low` to `high`.
@@ -122,8 +122,8 @@ pub fn check(defs: &[ShapeDef], segments: bool) -> Result<(), Refusal>
     Ok(())
 }
 
-/// The law of the limits: the numbers that definitions take from the code, in digits. The function does nothing; its contract is
-/// the law.
+/// The law of the limits: the numbers that definitions take from the code, in digits. The function does nothing; its
+/// contract is the law.
 pub fn limits_in_digits()
     ensures shapes { MAX_SHAPES ≡ 8 }
     ensures core { MAX_CORE ≡ 16777216 }

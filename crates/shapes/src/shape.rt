@@ -147,7 +147,7 @@ impl Shapes {
         self.defs.as_slice()
     }
 
-    /// A copy. Refused 1 where memory is wanting.
+    /// A copy.
     pub fn try_copy(&self) -> Result<Shapes, Refusal>
         ensures copy { IfOk result (λ copied. copied ≡ self.now) }
         ensures memory_only { IsOkUnless result Refusal.NoMemory }

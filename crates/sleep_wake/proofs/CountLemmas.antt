@@ -1,4 +1,5 @@
--- There is room for the constraints of an island that sleeps: each constraint has a colour already, or takes one of the room.
+-- There is room for the constraints of an island that sleeps: each constraint has a colour already, or takes one of the
+-- room.
 use Rattle.std.proofs.Common.{◌≡◌, ℕ, suc, ◌+◌, ◌<◌, ◌≤◌, ◌==◌, Bool, true, false, not, cond, List, [], ◌∷◌, length, arith, refl, sym, ap, ◌∙◌, inl, inr}
 use Rattle.std.specs.Prelude.{Contains, filter}
 use Rattle.std.specs.List.{count_by}

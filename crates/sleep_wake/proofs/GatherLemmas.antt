@@ -90,7 +90,8 @@ firsts_parted ties slot slots apart = parts (is_first slot) (is_first_of slots) 
 slots_apart : (slots : List ℕ) → IsDistinct nat_eq slots → AreApart slots
 slots_apart slots once i j d lt l = apart_from_distinct nat_eq slots i j d once lt l
 
--- Once the constraints of some movers were added to a list: with those of the movers that are left, they are all that are to be added.
+-- Once the constraints of some movers were added to a list: with those of the movers that are left, they are all that
+-- are to be added.
 pub record ArePushed {C : Type 0} (ties : List (Member C)) (left : List ℕ) (old all now : List (Member C)) : Type 0 where
   pub apart : AreApart left
   pub pushed : IsPermutation (old ++ all) (now ++ filter (is_first_of left) ties)

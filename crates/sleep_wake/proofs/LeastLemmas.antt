@@ -1,4 +1,5 @@
--- What the list of least timers has once a timer more was seen, or some were forgotten, and which islands are ready by it.
+-- What the list of least timers has once a timer more was seen, or some were forgotten, and which islands are ready by
+-- it.
 use Rattle.std.proofs.Common.{◌≡◌, ℕ, suc, ◌<◌, ◌==◌, ◌&&◌, ◌⊎◌, Bool, true, false, cond, List, [], ◌∷◌, get_or, length, slice_set, Option, None, Some, refl, sym, ap, ◌∙◌, inl, inr, subst, arith}
 use Rattle.std.specs.Prelude.{nat_lt, Contains}
 use Rattle.std.proofs.lemmas.Bool.{cases_lt, cases_eq, false≢true, eqb-true, eq-eqb}

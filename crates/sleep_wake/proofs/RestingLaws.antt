@@ -1,4 +1,5 @@
--- To put islands to rest one after the other is to take the colours of all their constraints in one pass, and to rest their movers.
+-- To put islands to rest one after the other is to take the colours of all their constraints in one pass, and to rest
+-- their movers.
 use Rattle.std.proofs.Common.{◌≡◌, ℕ, zero, suc, ◌+◌, ◌<◌, ◌==◌, ◌&&◌, ◌||◌, Bool, true, false, not, cond, List, [], ◌∷◌, Option, Some, None, length, map, refl, sym, ap, ◌∙◌, arith}
 use Rattle.std.specs.Prelude.{filter, fold}
 use Rattle.std.specs.List.{list_any}

@@ -1,4 +1,5 @@
--- How many slots have labels, and how many constraints there are, once islands wake and rest and constraints come and go.
+-- How many slots have labels, and how many constraints there are, once islands wake and rest and constraints come and
+-- go.
 use Rattle.std.proofs.Common.{◌≡◌, ℕ, suc, ◌+◌, ◌<◌, ◌≤◌, ◌==◌, Bool, true, false, not, cond, List, [], ◌∷◌, Option, Some, None, length, slice_set, refl, ap, ◌∙◌, arith}
 use Rattle.std.specs.Prelude.{nat_lt, filter}
 use Rattle.std.proofs.lemmas.Grind.{common_steps}

@@ -1,4 +1,5 @@
--- What a source tells of sleeping islands holds on where others wake, and where constraints begin and end whose movers are awake.
+-- What a source tells of sleeping islands holds on where others wake, and where constraints begin and end whose movers
+-- are awake.
 use Rattle.std.proofs.Common.{◌≡◌, ◌≢◌, ℕ, ◌==◌, ◌||◌, Bool, true, false, not, cond, nat_lt, List, [], ◌∷◌, Option, Some, None, inl, inr, refl, sym, ap, ◌∙◌, subst}
 use Rattle.std.specs.Prelude.{filter, Contains}
 use Rattle.std.proofs.lemmas.Bool.{cases_eq, false≢true}

@@ -53,8 +53,8 @@ pub record AreMovers (labels : Labels) (m : Movers) : Type 0 where
   pub first : (l : Label) × (label_at labels m.first ≡ Some l)
   pub second : (slot : ℕ) → m.second ≡ Some slot → (l : Label) × (label_at labels slot ≡ Some l)
 
--- The constraints ascend. Their movers are in the islands that their links make. Those that have a colour are just those
--- that act, and it is a colouring.
+-- The constraints ascend. Their movers are in the islands that their links make. Those that have a colour are just
+-- those that act, and it is a colouring.
 pub record IsConsistent {C : Type 0} (number : C → ℕ) (s : Acting C) : Type 0 where
   pub rising : AreRising number s.ties
   pub movers : (m : Member C) → Contains s.ties m → AreMovers s.labels m.movers

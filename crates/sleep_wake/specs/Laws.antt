@@ -64,7 +64,8 @@ TiesAfter {C} number = (s : Acting C) (labels : Labels) (changes : List (Change 
 abbrev pub OneOrder : {C : Type 0} → (C → ℕ) → Type 0
 OneOrder {C} number = (old new : List (Member C)) → AreRising number old → AreRising number new → ((x : Member C) → Contains old x ↔ Contains new x) → old ≡ new
 
--- the changes between the constraints and others lead to those: each that stays has the movers it had, and all have movers
+-- the changes between the constraints and others lead to those: each that stays has the movers it had, and all have
+-- movers
 abbrev pub ChangesLeadTo : {C : Type 0} → (C → ℕ) → Type 0
 ChangesLeadTo {C} number = (s : Acting C) (new : List (Member C)) → IsConsistent number s → AreRising number new
     → ((x y : Member C) → Contains s.ties x → Contains new y → number x.id ≡ number y.id → x ≡ y)

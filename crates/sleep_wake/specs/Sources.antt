@@ -30,7 +30,7 @@ first_ties slot ties = filter (is_first slot) ties
 
 -- ---- what a wake asks for
 
--- Of each island that sleeps the source tells the constraints as they are now, ascending as they do. It may know others that have come or gone since, but
--- none of a sleeping island.
+-- Of each island that sleeps the source tells the constraints as they are now, ascending as they do. It may know others
+-- that have come or gone since, but none of a sleeping island.
 pub record TellsAsleep {C : Type 0} (names : ℕ → Option ℕ) (told : List (Member C)) (labels : Labels) (ties : List (Member C)) : Type 0 where
   pub each : (name : ℕ) → name_at labels name ≡ Some name → asleep_ties names name told ≡ filter (has_mover_of labels name) ties

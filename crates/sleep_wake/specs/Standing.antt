@@ -3,8 +3,8 @@ use Rattle.std.specs.Prelude.{ℕ, ◌≤◌, ◌+◌, length}
 use Rattle.graph_colours.specs.Colours.{all_members}
 use Rattle.sleep_wake.specs.Acting.{Acting, IsConsistent}
 
--- the constraints, islands and colours; how many constraints may stand with no memory, those that do counted; the bound below which a mover's
--- slot must be; and whether edits of the colours are put off: if it is 0, none is
+-- the constraints, islands and colours; how many constraints may stand with no memory, those that do counted; the bound
+-- below which a mover's slot must be; and whether edits of the colours are put off: if it is 0, none is
 pub record Standing (C : Type 0) : Type 0 where
   pub acting : Acting C
   pub room : ℕ

@@ -1,4 +1,5 @@
--- Trusted: Islands wake, and their constraints take colours; islands are put to rest, and their constraints give them up.
+-- Trusted: Islands wake, and their constraints take colours; islands are put to rest, and their constraints give them
+-- up.
 use Rattle.std.specs.Prelude.{ℕ, ◌||◌, Bool, false, cond, List, [], ◌∷◌, Option, filter, fold}
 use Rattle.std.specs.Option.{option_map_or}
 use Rattle.graph_colours.specs.declared.member.Movers.{Movers}

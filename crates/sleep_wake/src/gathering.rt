@@ -23,8 +23,8 @@ use islands::Islands;
 use std::alloc::Global;
 use std::marker::Model;
 
-/// An island's constraints are asked of the source where there are more than this many constraints in all for each of its movers, or where edits of them are
-/// put off. Else a pass over all costs no more.
+/// An island's constraints are asked of the source where there are more than this many constraints in all for each of
+/// its movers, or where edits of them are put off. Else a pass over all costs no more.
 const TIES_A_MOVER: usize = 16;
 
 // ---- by a pass over all constraints
@@ -73,7 +73,8 @@ fn put_in_order<C: ConstraintId>(list: &mut Vec<Member<C>>)
     list.sort_unstable_by_key(|tie| tie.id.number());
 }
 
-/// Lists the constraints whose first mover sleeps under this name, as the source knows it, ascending. There is room for them.
+/// Lists the constraints whose first mover sleeps under this name, as the source knows it, ascending. There is room for
+/// them.
 fn list_asleep<C: ConstraintId, T: TieSource<C>>(list: &mut Vec<Member<C>>, source: &T, name: u32)
     requires rising { AreRising C.number (asleep_ties (T.names source.now) name (T.ties source.now)) }
     requires room { length (asleep_ties (T.names source.now) name (T.ties source.now)) ≤ vec_capacity list.old }
@@ -120,16 +121,17 @@ fn list_firsts<C: ConstraintId, T: TieSource<C>>(
 
 // ---- of one island
 
-/// Whether a pass over all constraints lists those of an island with so many movers as quickly: where no edit of them is put off, so that they are at hand as
-/// one list, and there are no more than so many for each mover.
+/// Whether a pass over all constraints lists those of an island with so many movers as quickly: where no edit of them
+/// is put off, so that they are at hand as one list, and there are no more than so many for each mover.
 fn is_pass_quick<C: ConstraintId>(ties: &Ties<C>, movers: usize) -> bool
     ensures { result ≡ true → ties.now.pending ≡ 0 }
 {
     ties.is_flushed() && ties.len() / TIES_A_MOVER <= movers
 }
 
-/// Lists the constraints of an island, ascending, by a pass over all where that is as quick, and else through its movers. Both movers of a constraint are in
-/// one island, so that it is enough to take each constraint with its first one. There is room for all constraints and for the movers of all slots.
+/// Lists the constraints of an island, ascending, by a pass over all where that is as quick, and else through its
+/// movers. Both movers of a constraint are in one island, so that it is enough to take each constraint with its first
+/// one. There is room for all constraints and for the movers of all slots.
 fn list_by_movers<C: ConstraintId, T: TieSource<C>>(
     list: &mut Vec<Member<C>>,
     members: &mut Vec<u32>,
@@ -155,8 +157,8 @@ fn list_by_movers<C: ConstraintId, T: TieSource<C>>(
     }
 }
 
-/// Lists the constraints of an island that sleeps, ascending, by a pass over all where that is as quick, and else from its sleeping set. There is room for
-/// all constraints and for the movers of all slots.
+/// Lists the constraints of an island that sleeps, ascending, by a pass over all where that is as quick, and else from
+/// its sleeping set. There is room for all constraints and for the movers of all slots.
 fn list_by_set<C: ConstraintId, T: TieSource<C>>(
     list: &mut Vec<Member<C>>,
     members: &mut Vec<u32>,
@@ -182,8 +184,8 @@ fn list_by_set<C: ConstraintId, T: TieSource<C>>(
     }
 }
 
-/// What the constraints of an island are gathered in, reserved before so that it takes no memory. Contracts see those that were gathered last (`list`),
-/// and for how many constraints (`ties`) and slots (`slots`) there is room.
+/// What the constraints of an island are gathered in, reserved before so that it takes no memory. Contracts see those
+/// that were gathered last (`list`), and for how many constraints (`ties`) and slots (`slots`) there is room.
 #[derive(Drop)]
 pub(crate) struct Gathering<C: ConstraintId> {
     list: Vec<Member<C>>,
@@ -209,7 +211,7 @@ impl<C: ConstraintId> Gathering<C> {
         }
     }
 
-    /// Makes room for an island with that many constraints, where there are that many slots in all. Refused 1 where memory is wanting.
+    /// Makes room for an island with that many constraints, where there are that many slots in all.
     pub(crate) fn reserve(&mut self, ties: usize, slots: usize) -> Result<(), Refusal>
         ensures ties_made { OnOk result (ties ≤ self.new.ties) }
         ensures slots_made { OnOk result (slots ≤ self.new.slots) }
@@ -231,8 +233,8 @@ impl<C: ConstraintId> Gathering<C> {
         self.list.as_slice()
     }
 
-    /// Gathers the constraints of an island, ascending: by a pass over all where that is as quick, and else through its movers. Takes no memory. The source tells
-    /// all constraints as they are.
+    /// Gathers the constraints of an island, ascending: by a pass over all where that is as quick, and else through its
+    /// movers. Takes no memory. The source tells all constraints as they are.
     pub(crate) fn gather<T: TieSource<C>>(
         &mut self,
         islands: &Islands,
@@ -259,8 +261,9 @@ impl<C: ConstraintId> Gathering<C> {
         );
     }
 
-    /// Gathers the constraints of an island that sleeps, ascending: by a pass over all where that is as quick, and else from its sleeping set. Takes no
-    /// memory. The source may know others that have come or gone since, but none of a sleeping island.
+    /// Gathers the constraints of an island that sleeps, ascending: by a pass over all where that is as quick, and else
+    /// from its sleeping set. Takes no memory. The source may know others that have come or gone since, but none of a
+    /// sleeping island.
     pub(crate) fn gather_asleep<T: TieSource<C>>(
         &mut self,
         islands: &Islands,

@@ -10,7 +10,8 @@ use graph_colours::{Colours, ConstraintId};
 use islands::Islands;
 use std::alloc::Global;
 
-/// A graph whose nodes are the movers and whose edges are the constraints: its components are the islands, and the constraints that act have colours.
+/// A graph whose nodes are the movers and whose edges are the constraints: its components are the islands, and the
+/// constraints that act have colours.
 #[derive(Drop)]
 pub(crate) struct Graph<C: ConstraintId> {
     // Ascending by number.
@@ -20,7 +21,7 @@ pub(crate) struct Graph<C: ConstraintId> {
 }
 
 impl<C: ConstraintId> Graph<C> {
-    /// A copy of its own. Refused 1 where memory is wanting.
+    /// A copy of its own.
     pub(crate) fn try_copy(&self, alloc: Global) -> Result<Graph<C>, Refusal>
         ensures ties { IfOk result (λ copied. copied.ties.items ≡ self.now.ties.items) }
         ensures lists { IfOk result (λ copied. copied.colours.lists ≡ self.now.colours.lists) }
@@ -35,8 +36,8 @@ impl<C: ConstraintId> Graph<C> {
         })
     }
 
-    /// Makes room for that many more constraints, and for movers in slots below `slots`, and answers for how many constraints
-    /// in all there is room then. Refused 1 where memory is wanting. Changes no constraint, no island and no colour.
+    /// Makes room for that many more constraints, and for movers in slots below `slots`, and answers for how many
+    /// constraints in all there is room then. Changes no constraint, no island and no colour.
     pub(crate) fn reserve(&mut self, constraints: usize, slots: usize) -> Result<usize, Refusal>
         ensures value { IfOk result (λ room. room ≡ length self.old.ties.items + constraints) }
         ensures ties { self.new.ties.items ≡ self.old.ties.items }

@@ -1,9 +1,9 @@
 //! Islands that fall asleep and wake, with their constraints, after Box2D's solver sets.
 //!
-//! A constraint (a joint, or a contact that touches) acts while all its movers are awake, and has a colour just
-//! then. An island wakes as a whole, and its constraints take colours; it falls asleep as a whole, and they give
-//! them up. Where a constraint begins or ends, its sleeping movers wake first. In the sleep phase of a step one
-//! loose island that is ready to sleep is split, and each whole one that is ready falls asleep. Which constraints an island has is
+//! A constraint (a joint, or a contact that touches) acts while all its movers are awake, and has a colour just then.
+//! An island wakes as a whole, and its constraints take colours; it falls asleep as a whole, and they give them up.
+//! Where a constraint begins or ends, its sleeping movers wake first. In the sleep phase of a step one loose island
+//! that is ready to sleep is split, and each whole one that is ready falls asleep. Which constraints an island has is
 //! told by a [`TieSource`].
 //!
 //! What holds throughout is `IsConsistent` of the definitions: the constraints ascend, the islands are those that their

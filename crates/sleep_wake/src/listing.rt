@@ -10,7 +10,7 @@ use fixed_geom::Refusal;
 use islands::Islands;
 use std::alloc::Global;
 
-/// Adds the slot, if the mover there is awake. Refused 1 where memory is wanting.
+/// Adds the slot, if the mover there is awake.
 fn add_awake(slots: &mut Vec<u32>, islands: &Islands, slot: u32) -> Result<(), Refusal>
     ensures items { OnOk result (slots.new.items ≡ slots.old.items ++ cond (is_mover_awake islands.now.labels slot) (slot ∷ []) []) }
     ensures memory_only { IsOkUnless result Refusal.NoMemory }
@@ -21,7 +21,7 @@ fn add_awake(slots: &mut Vec<u32>, islands: &Islands, slot: u32) -> Result<(), R
     Ok(())
 }
 
-/// Lists the slots of the awake movers, ascending. Refused 1 where memory is wanting.
+/// Lists the slots of the awake movers, ascending.
 pub(crate) fn list_awake(alloc: Global, islands: &Islands) -> Result<Vec<u32>, Refusal>
     ensures awake { IfOk result (λ slots. AreAwakeSlots islands.now.labels slots.items) }
     ensures memory_only { IsOkUnless result Refusal.NoMemory }

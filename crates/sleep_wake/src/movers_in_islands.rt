@@ -1,4 +1,5 @@
-//! Where a constraint's movers are: awake, or in an island of some name. And lists of constraints that take colours or give them up.
+//! Where a constraint's movers are: awake, or in an island of some name. And lists of constraints that take colours or
+//! give them up.
 
 ghost use Rattle.std.specs.Prelude.{◌≡◌, ◌+◌, true, length, None, Some};
 ghost use Rattle.std.specs.Option.{option_map_or};

@@ -17,7 +17,7 @@ fn name_at(islands: &Islands, slot: u32) -> Option<u32>
     sleeping_name(islands.label_of(slot))
 }
 
-/// Adds an item, if there is one. Refused 1 where memory is wanting.
+/// Adds an item, if there is one.
 pub fn push_some<T: Copy + Drop>(items: &mut Vec<T>, item: Option<T>) -> Result<(), Refusal>
     ensures pushed { OnOk result (items.new.items ≡ items.old.items ++ option_to_list item) }
     ensures memory_only { IsOkUnless result Refusal.NoMemory }
@@ -50,8 +50,7 @@ pub fn sort_once(numbers: &mut Vec<u32>)
     numbers.dedup();
 }
 
-/// The names of the sleeping islands in which the movers of these slots are, ascending and each once. Refused 1 where
-/// memory is wanting.
+/// The names of the sleeping islands in which the movers of these slots are, ascending and each once.
 pub(crate) fn list_names(
     alloc: Global,
     islands: &Islands,

@@ -69,8 +69,8 @@ fn note(leasts: &mut Vec<Option<u64>>, islands: &Islands, timers: &[u64], slot: 
     }
 }
 
-/// Lists by name the least timer of each awake island, in ticks; what the list has for others means nothing. There is room. Only the awake movers are
-/// gone through, whose slots are told.
+/// Lists by name the least timer of each awake island, in ticks; what the list has for others means nothing. There is
+/// room. Only the awake movers are gone through, whose slots are told.
 pub(crate) fn list_leasts(
     leasts: &mut Vec<Option<u64>>,
     islands: &Islands,
@@ -196,8 +196,8 @@ fn longest_ready(islands: &Islands, leasts: &[Option<u64>], awake: &[u32]) -> Op
     best
 }
 
-/// The loose island that a sleep phase splits, by the timers of the movers by slot, in ticks, and by the slots of those that are awake. There is room
-/// for the least timers.
+/// The loose island that a sleep phase splits, by the timers of the movers by slot, in ticks, and by the slots of those
+/// that are awake. There is room for the least timers.
 pub(crate) fn pick_split(
     leasts: &mut Vec<Option<u64>>,
     islands: &Islands,
@@ -260,8 +260,8 @@ pub(crate) fn rest_each(islands: &mut Islands, leasts: &[Option<u64>], awake: &[
     }
 }
 
-/// The law of the limits: the numbers that definitions take from the code, in digits. The function does nothing; its contract is
-/// the law.
+/// The law of the limits: the numbers that definitions take from the code, in digits. The function does nothing; its
+/// contract is the law.
 pub fn limits_in_digits()
     ensures ticks { TICKS_TO_SLEEP ≡ 128 }
 {}

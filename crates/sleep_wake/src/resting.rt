@@ -26,7 +26,8 @@ fn list_one<C: ConstraintId>(listed: &mut Vec<Member<C>>, member: Member<C>) -> 
     true
 }
 
-/// Adds to the list those of the members that have a mover in an island that is ready. Answers whether there was room for all.
+/// Adds to the list those of the members that have a mover in an island that is ready. Answers whether there was room
+/// for all.
 fn list_members<C: ConstraintId>(
     listed: &mut Vec<Member<C>>,
     islands: &Islands,
@@ -44,7 +45,8 @@ fn list_members<C: ConstraintId>(
     true
 }
 
-/// Lists those of the constraints with a colour that have a mover in an island that is ready. Answers whether there was room for all.
+/// Lists those of the constraints with a colour that have a mover in an island that is ready. Answers whether there was
+/// room for all.
 fn list_resting<C: ConstraintId>(
     listed: &mut Vec<Member<C>>,
     islands: &Islands,
@@ -84,8 +86,8 @@ fn release_among<C: ConstraintId>(
     }
 }
 
-/// Takes the colours of the constraints of all whole islands that are ready. They are looked for among those that act, since these islands are awake;
-/// among all ties only where the list has no room for them.
+/// Takes the colours of the constraints of all whole islands that are ready. They are looked for among those that act,
+/// since these islands are awake; among all ties only where the list has no room for them.
 pub(crate) fn release_resting<C: ConstraintId>(
     islands: &Islands,
     colours: &mut Colours<C>,

@@ -38,11 +38,12 @@ use std::alloc::Global;
 use std::marker::Model;
 
 /// All constraints between movers, awake or asleep, with the islands of the movers and the colours of the constraints
-/// that act. Which constraints an island has is told by a source ([`TieSource`]). What changes in lists of constraints may be put
-/// off, so that it doesn't cost by how many there are. Contracts see these three once all is done (`acting`), how many constraints
-/// may stand with no memory, those that do counted (`room`), the bound below which a mover's slot must be (`slots`), and whether
-/// edits of the colours may be put off until [`Sets::flush`] (`pending`): if it is 0, none is. Only `new`, `try_copy`, `reserve`,
-/// `names_of`, `list_ties` and `awake_slots` can be refused memory.
+/// that act. Which constraints an island has is told by a source ([`TieSource`]). What changes in lists of constraints
+/// may be put off, so that it doesn't cost by how many there are. Contracts see these three once all is done
+/// (`acting`), how many constraints may stand with no memory, those that do counted (`room`), the bound below which a
+/// mover's slot must be (`slots`), and whether edits of the colours may be put off until [`Sets::flush`] (`pending`):
+/// if it is 0, none is. Only `new`, `try_copy`, `reserve`, `names_of`, `list_ties` and `awake_slots` can be refused
+/// memory.
 #[derive(Drop)]
 pub struct Sets<C: ConstraintId> {
     graph: Graph<C>,
@@ -64,7 +65,7 @@ impl<C: ConstraintId> Model for Sets<C> {
 }
 
 impl<C: ConstraintId> Sets<C> {
-    /// No movers and no constraints, and room for none. Refused 1 where memory is wanting.
+    /// No movers and no constraints, and room for none.
     pub fn new(alloc: Global) -> Result<Sets<C>, Refusal>
         ensures acting { IfOk result (λ made. made.acting ≡ acting [] [] (replicate (COLOURS + 1) [])) }
         ensures room { IfOk result (λ made. made.room ≡ 0) }
@@ -84,7 +85,7 @@ impl<C: ConstraintId> Sets<C> {
         })
     }
 
-    /// A copy of its own, with room for the constraints that it has. Refused 1 where memory is wanting.
+    /// A copy of its own, with room for the constraints that it has.
     pub fn try_copy(&self) -> Result<Sets<C>, Refusal>
         ensures acting { IfOk result (λ copied. copied.acting ≡ self.now.acting) }
         ensures room { IfOk result (λ copied. copied.room ≡ length self.now.acting.ties) }
@@ -105,7 +106,7 @@ impl<C: ConstraintId> Sets<C> {
         })
     }
 
-    /// Makes room for that many more constraints, and for movers in slots below `slots`. Refused 1 where memory is wanting.
+    /// Makes room for that many more constraints, and for movers in slots below `slots`.
     pub fn reserve(&mut self, constraints: usize, slots: usize) -> Result<(), Refusal>
         ensures room_made { OnOk result (length self.old.acting.ties + constraints ≤ self.new.room) }
         ensures slots_made { OnOk result (slots ≤ self.new.slots) }
@@ -134,7 +135,7 @@ impl<C: ConstraintId> Sets<C> {
         self.graph.ties.len()
     }
 
-    /// All constraints, ascending by number, in the memory of `room`, whatever is in it. Refused 1 where memory is wanting.
+    /// All constraints, ascending by number, in the memory of `room`, whatever is in it.
     pub fn list_ties(&self, room: Vec<Member<C>>) -> Result<Vec<Member<C>>, Refusal>
         ensures items { IfOk result (λ ties. ties.items ≡ self.now.acting.ties) }
         ensures rising { IfOk result (λ ties. AreRising C.number ties.items) }
@@ -220,8 +221,7 @@ impl<C: ConstraintId> Sets<C> {
         self.graph.ties.has_id(id)
     }
 
-    /// The names of the sleeping islands of the movers in these slots, ascending and each once. Refused 1 where memory is
-    /// wanting.
+    /// The names of the sleeping islands of the movers in these slots, ascending and each once.
     pub fn names_of(&self, slots: &[u32]) -> Result<Vec<u32>, Refusal>
         ensures value { IfOk result (λ names. names.items ≡ sleeping_names self.now.acting.labels slots.now) }
         ensures memory_only { IsOkUnless result Refusal.NoMemory }
@@ -229,7 +229,7 @@ impl<C: ConstraintId> Sets<C> {
         list_names(*self.work.spare.allocator(), &self.graph.islands, slots)
     }
 
-    /// The slots of the awake movers, ascending, as a sleep phase is told them. All slots are gone through. Refused 1 where memory is wanting.
+    /// The slots of the awake movers, ascending, as a sleep phase is told them. All slots are gone through.
     pub fn awake_slots(&self) -> Result<Vec<u32>, Refusal>
         ensures awake { IfOk result (λ slots. AreAwakeSlots self.now.acting.labels slots.items) }
         ensures memory_only { IsOkUnless result Refusal.NoMemory }
@@ -274,8 +274,8 @@ impl<C: ConstraintId> Sets<C> {
 
     // ---- islands wake
 
-    /// Wakes the island of the mover in the slot, if it sleeps: its constraints take colours in their order. Takes no memory: there is room for all
-    /// constraints that have no colour. The source tells the constraints of what sleeps.
+    /// Wakes the island of the mover in the slot, if it sleeps: its constraints take colours in their order. Takes no
+    /// memory: there is room for all constraints that have no colour. The source tells the constraints of what sleeps.
     #[tactic(auto, unfolding(crate::specs::Waking::woken_at))]
     pub fn wake<T: TieSource<C>>(&mut self, slot: u32, source: &T)
         requires source { TellsAsleep (T.names source.now) (T.ties source.now) self.old.acting.labels self.old.acting.ties }
@@ -419,11 +419,11 @@ impl<C: ConstraintId> Sets<C> {
         }
     }
 
-    /// The sleep phase of a step, with the timers of the movers by slot, in ticks: of the loose islands that are ready one is
-    /// split, the one that has been slow for longest, and then each whole one that is ready falls asleep. An island is
-    /// ready where the timers of all its movers are at least `TICKS_TO_SLEEP`; one with a mover that may not sleep is kept
-    /// awake by a timer of 0 there. The awake movers' slots are told, and of the timers only theirs matter, so that it takes time by the awake movers and
-    /// by the constraints that act.
+    /// The sleep phase of a step, with the timers of the movers by slot, in ticks: of the loose islands that are ready
+    /// one is split, the one that has been slow for longest, and then each whole one that is ready falls asleep. An
+    /// island is ready where the timers of all its movers are at least `TICKS_TO_SLEEP`; one with a mover that may not
+    /// sleep is kept awake by a timer of 0 there. The awake movers' slots are told, and of the timers only theirs
+    /// matter, so that it takes time by the awake movers and by the constraints that act.
     pub fn sleep_phase<T: TieSource<C>>(&mut self, timers: &[u64], awake: &[u32], source: &T)
         requires awake { AreAwakeSlots self.old.acting.labels awake.now }
         requires source { T.ties source.now ≡ self.old.acting.ties }
@@ -459,8 +459,8 @@ impl<C: ConstraintId> Sets<C> {
         pick_split(&mut self.work.leasts, &self.graph.islands, timers, awake)
     }
 
-    /// Each whole island that is ready falls asleep: all together, and not one after the other, so that it takes time by the awake movers, whose slots
-    /// are told, and by the constraints that act. No edit of the colours is put off.
+    /// Each whole island that is ready falls asleep: all together, and not one after the other, so that it takes time
+    /// by the awake movers, whose slots are told, and by the constraints that act. No edit of the colours is put off.
     fn rest_ready(&mut self, timers: &[u64], awake: &[u32])
         requires awake { AreAwakeSlots self.old.acting.labels awake.now }
         requires rest { self.old.pending ≡ 0 }

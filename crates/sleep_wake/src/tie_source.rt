@@ -9,8 +9,8 @@ use graph_colours::{ConstraintId, Member};
 
 /// Tells constraints by sleeping island and by mover, into a list that has room for them. In what order the list then
 /// has them, and what it had before, isn't promised. `WorldTies` of `world_core/src/world_ties.rt` implements it, over
-/// the joints, the contacts and their sets, and what wakes, splits or rests islands of [`Sets`](crate::Sets) calls it, in
-/// `gathering.rt`: this crate knows no bodies.
+/// the joints, the contacts and their sets, and what wakes, splits or rests islands of [`Sets`](crate::Sets) calls it,
+/// in `gathering.rt`: this crate knows no bodies.
 pub trait TieSource<C: ConstraintId> {
     /// The constraints that it knows.
     ghost ties: { Self → List (TheMember C) };

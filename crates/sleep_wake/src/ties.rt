@@ -41,7 +41,7 @@ impl<C: ConstraintId> Ties<C> {
         }
     }
 
-    /// These constraints, with no promise on room. Refused 1 where memory is wanting.
+    /// These constraints, with no promise on room.
     pub(crate) fn from_members(alloc: Global, members: &[Member<C>]) -> Result<Ties<C>, Refusal>
         requires { AreRising C.number members.now }
         ensures items { IfOk result (λ made. made.items ≡ members.now) }
@@ -54,7 +54,7 @@ impl<C: ConstraintId> Ties<C> {
         })
     }
 
-    /// A copy of its own, with no promise on room. Refused 1 where memory is wanting.
+    /// A copy of its own, with no promise on room.
     pub(crate) fn try_copy(&self, alloc: Global) -> Result<Ties<C>, Refusal>
         ensures items { IfOk result (λ copied. copied.items ≡ self.now.items) }
         ensures pending { IfOk result (λ copied. copied.pending ≡ 0) }
@@ -66,7 +66,7 @@ impl<C: ConstraintId> Ties<C> {
         })
     }
 
-    /// Makes room for that many constraints in all. Refused 1 where memory is wanting. Changes no constraint.
+    /// Makes room for that many constraints in all. Changes no constraint.
     pub(crate) fn reserve(&mut self, members: usize) -> Result<(), Refusal>
         ensures made { OnOk result (members ≤ self.new.capacity) }
         ensures items { self.new.items ≡ self.old.items }
@@ -77,7 +77,8 @@ impl<C: ConstraintId> Ties<C> {
         self.list.reserve(members)
     }
 
-    /// Adds a constraint, for which there is room. `spare` is where constraints lie while edits are made, if they have to be.
+    /// Adds a constraint, for which there is room. `spare` is where constraints lie while edits are made, if they have
+    /// to be.
     pub(crate) fn insert(&mut self, member: Member<C>, spare: &mut Vec<Member<C>>)
         requires absent { has_id C.number member.id self.old.items ≡ false }
         requires room { length self.old.items < self.old.capacity }
@@ -132,7 +133,7 @@ impl<C: ConstraintId> Ties<C> {
         self.list.has_id(id)
     }
 
-    /// The constraints, ascending, in the memory of `room`, whatever is in it. Refused 1 where memory is wanting.
+    /// The constraints, ascending, in the memory of `room`, whatever is in it.
     pub(crate) fn to_members(&self, room: Vec<Member<C>>) -> Result<Vec<Member<C>>, Refusal>
         ensures items { IfOk result (λ members. members.items ≡ self.now.items) }
         ensures rising { IfOk result (λ members. AreRising C.number members.items) }

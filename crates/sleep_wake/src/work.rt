@@ -9,7 +9,8 @@ use graph_colours::{ConstraintId, Member};
 use islands::SplitScratch;
 use std::alloc::Global;
 
-/// Lists that are reserved before, so that no change of the sets takes memory. What they hold between two calls means nothing.
+/// Lists that are reserved before, so that no change of the sets takes memory. What they hold between two calls means
+/// nothing.
 #[derive(Drop)]
 pub(crate) struct Work<C: ConstraintId> {
     // Where ties lie while their list is edited.
@@ -35,7 +36,7 @@ impl<C: ConstraintId> Work<C> {
         }
     }
 
-    /// Makes room for that many constraints in all, and for movers in slots below `slots`. Refused 1 where memory is wanting.
+    /// Makes room for that many constraints in all, and for movers in slots below `slots`.
     pub(crate) fn reserve(&mut self, room: usize, slots: usize) -> Result<(), Refusal>
         ensures edges_kept { vec_capacity self.old.edges ≤ vec_capacity self.new.edges }
         ensures edges_made { OnOk result (room ≤ vec_capacity self.new.edges) }

@@ -1,4 +1,5 @@
--- What stands somewhere in a world is each body, joint and contact that there is, once, in its set; so its census lists each once.
+-- What stands somewhere in a world is each body, joint and contact that there is, once, in its set; so its census lists
+-- each once.
 use Rattle.std.proofs.Common.{◌≡◌, ◌⊎◌, ℕ, zero, suc, ◌+◌, ◌<◌, ◌==◌, ◌&&◌, ◌||◌, Bool, true, false, cond, List, [], ◌∷◌, ◌++◌, map, Option, Some, None, option_map, is_some, slice_get, inl, inr, refl, sym, ap, ap₂, ◌∙◌, subst, arith}
 use Rattle.std.specs.List.{cons_option, find}
 use Rattle.std.proofs.lemmas.Option.{none-some, same_Some}

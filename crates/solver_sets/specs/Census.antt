@@ -149,8 +149,9 @@ listed c = c.static_set ++ (c.disabled ++ (c.awake ++ in_sleepers c.sleeping))
 abbrev pub items_of : List Standing → List Item
 items_of standings = map (λ (s : Standing). s.item) standings
 
--- Whatever is counted occurs as often in all lists together as among all that stands somewhere, so that each item is listed where it stands and nowhere else;
--- the list of a set is what stands in it, in the same order; and the names of the sleeping sets ascend, each once.
+-- Whatever is counted occurs as often in all lists together as among all that stands somewhere, so that each item is
+-- listed where it stands and nowhere else; the list of a set is what stands in it, in the same order; and the names of
+-- the sleeping sets ascend, each once.
 pub record IsCensus (standings : List Standing) (c : Census) : Type 0 where
   pub once : (is : Item → Bool) → count_by is (listed c) ≡ count_by is (items_of standings)
   pub static_set : c.static_set ≡ in_set sets.Static standings

@@ -26,7 +26,8 @@ is_same_shape a b = (a.slot == b.slot) && (a.index == b.index)
 abbrev pub has_key : ContactKey → ContactEntry → Bool
 has_key key e = is_same_shape e.key.first key.first && is_same_shape e.key.second key.second
 
--- The one set in which an item stands: the body or the joint that a handle names, or the contact that a key names. It is none where there is no such.
+-- The one set in which an item stands: the body or the joint that a handle names, or the contact that a key names. It
+-- is none where there is no such.
 abbrev pub stand : List SlotEntry → List (Option Body) → JointSlots → List ContactEntry → Item → Option SetName
 stand slot_entries bodies s contacts (items.Body h) = option_map standing_of (body_of slot_entries bodies h)
 stand slot_entries bodies s contacts (items.Joint h) = option_map (standing_of_joint bodies) (joint_of s.slot_entries s.joints h)
@@ -63,8 +64,9 @@ pub record HasSleeper (bodies : List (Option Body)) (name : ℕ) : Type 0 where
   pub there : body_at bodies slot ≡ Some body
   pub asleep : body.asleep ≡ Some name
 
--- Each body, joint and contact stands in exactly one set, and is listed there, once. In all lists together no item occurs twice, and they have just the items that are there;
--- the list of a set has just those that stand in it; there is a sleeping set just for each name under which some body sleeps, and these names ascend.
+-- Each body, joint and contact stands in exactly one set, and is listed there, once. In all lists together no item
+-- occurs twice, and they have just the items that are there; the list of a set has just those that stand in it; there
+-- is a sleeping set just for each name under which some body sleeps, and these names ascend.
 pub record ListsEachOnce (slot_entries : List SlotEntry) (bodies : List (Option Body)) (s : JointSlots) (contacts : List ContactEntry) (c : Census) : Type 0 where
   pub once : AllPairs (λ (a b : Item). a ≢ b) (listed c)
   pub present : (item : Item) → Contains (listed c) item ↔ IsPresent slot_entries s contacts item

@@ -1,4 +1,5 @@
--- What the lists of a plain world make of its constraints: a tie of each joint and contact that is one, and the members of its colours.
+-- What the lists of a plain world make of its constraints: a tie of each joint and contact that is one, and the members
+-- of its colours.
 use Rattle.std.specs.Prelude.{cond, List, [], Option, Some, None}
 use Rattle.body_handles.specs.declared.handle.Handle.{Handle}
 use Rattle.contacts_base.specs.declared.contact.ContactEntry.{ContactEntry}

@@ -212,7 +212,8 @@ FewBegin = (bodies : List (Option Body)) (begins ends : List ContactKey) → beg
 abbrev pub ListsAreCensus : Type 0
 ListsAreCensus = (standings : List Standing) → IsCensus standings (census_in standings)
 
--- Where bodies and joints are just in the slots that are taken, the contacts ascend and only movers sleep, each body, joint and contact stands in one set and is listed there, once.
+-- Where bodies and joints are just in the slots that are taken, the contacts ascend and only movers sleep, each body,
+-- joint and contact stands in one set and is listed there, once.
 abbrev pub CensusListsEachOnce : Type 0
 CensusListsEachOnce = (slot_entries : List SlotEntry) (bodies : List (Option Body)) (s : JointSlots) (contacts : List ContactEntry) → AreMatched slot_entries bodies → AreMatched s.slot_entries s.joints → AreKeysRising contacts → OnlyMoversSleep bodies
     → ListsEachOnce slot_entries bodies s contacts (census_of slot_entries bodies s contacts)

@@ -11,8 +11,8 @@ use contacts::Constraint;
 use graph_colours::{Member, Movers};
 use sleep_wake::Sets;
 
-/// A constraint comes, if it has movers: these are awake, and there is room. The islands of two movers are merged, and it takes
-/// the least colour that is free.
+/// A constraint comes, if it has movers: these are awake, and there is room. The islands of two movers are merged, and
+/// it takes the least colour that is free.
 pub fn begin_with(sets: &mut Sets<Constraint>, id: Constraint, movers: Option<Movers>)
     requires fresh { has_id constraint_number id sets.old.acting.ties ≡ false }
     requires awake { ForSome movers (λ m. are_awake sets.old.acting.labels m ≡ true) }
@@ -26,7 +26,8 @@ pub fn begin_with(sets: &mut Sets<Constraint>, id: Constraint, movers: Option<Mo
     }
 }
 
-/// A constraint goes, if it has movers, which are awake: it gives up its colour, and the island of two movers gets loose.
+/// A constraint goes, if it has movers, which are awake: it gives up its colour, and the island of two movers gets
+/// loose.
 pub fn end_with(sets: &mut Sets<Constraint>, id: Constraint, movers: Option<Movers>)
     requires there { ForSome movers (λ m. Contains sets.old.acting.ties (record { id = id; movers = m })) }
     requires awake { ForSome movers (λ m. are_awake sets.old.acting.labels m ≡ true) }

@@ -44,8 +44,7 @@ fn joined_by(bodies: &[Option<Body>], slot: u32, joint: Option<&BodyJoint>) -> O
     }
 }
 
-/// The movers at the other ends of the joints of the body in a slot, in the order of the joints' slots. Refused 1 where memory
-/// is wanting.
+/// The movers at the other ends of the joints of the body in a slot, in the order of the joints' slots.
 #[tactic(auto, unfolding(crate::specs::Beside::joined_to))]
 pub fn list_joined(
     alloc: Global,

@@ -40,7 +40,7 @@ impl Model for SleepingSet {
 }
 
 impl SleepingSet {
-    /// A set with one item. Refused 1 where memory is wanting.
+    /// A set with one item.
     fn with(alloc: Global, name: u32, item: Item) -> Result<SleepingSet, Refusal>
         ensures value { IfOk result (λ set. set ≡ alone name item) }
         ensures memory_only { IsOkUnless result Refusal.NoMemory }
@@ -50,7 +50,7 @@ impl SleepingSet {
         Ok(SleepingSet { name, items })
     }
 
-    /// Lists one more item. Refused 1 where memory is wanting.
+    /// Lists one more item.
     fn push(&mut self, item: Item) -> Result<(), Refusal>
         ensures listed { OnOk result (self.new ≡ with_item self.old item) }
         ensures memory_only { IsOkUnless result Refusal.NoMemory }
@@ -84,8 +84,8 @@ fn place_of(sets: &[SleepingSet], name: u32) -> usize
     sets.partition_point(|set| set.name < name)
 }
 
-/// Lists an item in the sleeping set of a name, which comes where there is none yet. A set is named after its lowest slot, so in
-/// the order of the slots a new one comes at the end. Refused 1 where memory is wanting.
+/// Lists an item in the sleeping set of a name, which comes where there is none yet. A set is named after its lowest
+/// slot, so in the order of the slots a new one comes at the end.
 fn list_sleeper(sets: &mut Vec<SleepingSet>, name: u32, item: Item) -> Result<(), Refusal>
     requires { AreNamed sets.old.items }
     ensures listed { OnOk result (sets.new.items ≡ with_sleeper name item sets.old.items) }
@@ -129,7 +129,7 @@ impl Census {
         }
     }
 
-    /// Lists an item where it stands. Refused 1 where memory is wanting.
+    /// Lists an item where it stands.
     fn list(&mut self, item: Item, set: SetName) -> Result<(), Refusal>
         requires { AreNamed self.old.sleeping }
         ensures listed { OnOk result (self.new ≡ listed_in self.old item set) }
@@ -211,8 +211,8 @@ fn standing_between(bodies: &[Option<Body>], a: u32, b: u32) -> SetName
     }
 }
 
-/// The set in which a joint stands: that of its movers, the static one where neither end is a mover, the disabled one where an end
-/// is disabled.
+/// The set in which a joint stands: that of its movers, the static one where neither end is a mover, the disabled one
+/// where an end is disabled.
 pub fn standing_of_joint(bodies: &[Option<Body>], joint: &BodyJoint) -> SetName
     ensures { result ≡ standing_of_joint bodies.now joint.now }
 {
@@ -240,8 +240,8 @@ fn standing_apart(bodies: &[Option<Body>], a: u32, b: u32) -> SetName
     }
 }
 
-/// The set in which a contact stands: that of its movers where it touches; else the awake one beside an awake mover, and the
-/// disabled one without.
+/// The set in which a contact stands: that of its movers where it touches; else the awake one beside an awake mover,
+/// and the disabled one without.
 pub fn standing_of_contact(bodies: &[Option<Body>], entry: &ContactEntry) -> SetName
     ensures { result ≡ standing_of_contact bodies.now entry.now }
 {
@@ -253,7 +253,7 @@ pub fn standing_of_contact(bodies: &[Option<Body>], entry: &ContactEntry) -> Set
     }
 }
 
-/// Lists the bodies, by slot. Refused 1 where memory is wanting.
+/// Lists the bodies, by slot.
 fn list_bodies(
     census: &mut Census,
     slot_entries: &[SlotEntry],
@@ -277,7 +277,7 @@ fn list_bodies(
     Ok(())
 }
 
-/// Lists the joints, by slot. Refused 1 where memory is wanting.
+/// Lists the joints, by slot.
 fn list_joints(
     census: &mut Census,
     bodies: &[Option<Body>],
@@ -302,7 +302,7 @@ fn list_joints(
     Ok(())
 }
 
-/// Lists the contacts, by key. Refused 1 where memory is wanting.
+/// Lists the contacts, by key.
 fn list_contacts(
     census: &mut Census,
     bodies: &[Option<Body>],
@@ -318,7 +318,7 @@ fn list_contacts(
     Ok(())
 }
 
-/// Lists each body, each joint and each contact once, in the set in which it stands. Refused 1 where memory is wanting.
+/// Lists each body, each joint and each contact once, in the set in which it stands.
 #[tactic(auto, unfolding(crate::specs::Census::census_of))]
 pub fn take_census(
     alloc: Global,

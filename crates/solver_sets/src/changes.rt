@@ -40,7 +40,7 @@ fn begin_of(bodies: &[Option<Body>], key: ContactKey) -> Option<Change<Constrain
     }
 }
 
-/// Adds the ends that come before the key, from this place on. Answers the place of the next. Refused 1 where memory is wanting.
+/// Adds the ends that come before the key, from this place on. Answers the place of the next.
 fn push_ends_until(
     changes: &mut Vec<Change<Constraint>>,
     bodies: &[Option<Body>],
@@ -63,7 +63,7 @@ fn push_ends_until(
     Ok(ends.len())
 }
 
-/// Adds all ends from this place on. Refused 1 where memory is wanting.
+/// Adds all ends from this place on.
 fn push_ends(
     changes: &mut Vec<Change<Constraint>>,
     bodies: &[Option<Body>],
@@ -80,7 +80,7 @@ fn push_ends(
     Ok(())
 }
 
-/// The contacts that begin and those that end to touch, in one list that ascends by key. Refused 1 where memory is wanting.
+/// The contacts that begin and those that end to touch, in one list that ascends by key.
 pub fn list_changes(
     alloc: Global,
     bodies: &[Option<Body>],

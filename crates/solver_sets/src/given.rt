@@ -48,7 +48,7 @@ fn contact_tie(bodies: &[Option<Body>], entry: &ContactEntry) -> Option<Member<C
     }
 }
 
-/// The ties of all joints, by slot. Refused 1 where memory is wanting.
+/// The ties of all joints, by slot.
 fn list_joints(
     alloc: Global,
     bodies: &[Option<Body>],
@@ -73,7 +73,7 @@ fn list_joints(
     Ok(ties)
 }
 
-/// All ties: joints by slot, and then touching contacts by key. Costs by the number of joints and contacts. Refused 1 where memory is wanting.
+/// All ties: joints by slot, and then touching contacts by key. Costs by the number of joints and contacts.
 pub fn list_all_ties(
     alloc: Global,
     bodies: &[Option<Body>],
@@ -120,7 +120,7 @@ fn member_of(
     tie_with(id, movers_of(bodies, joints, id))
 }
 
-/// The members of a colour, each with its movers. Refused 1 where memory is wanting.
+/// The members of a colour, each with its movers.
 fn list_colour(
     alloc: Global,
     bodies: &[Option<Body>],
@@ -137,7 +137,7 @@ fn list_colour(
     Ok(members)
 }
 
-/// The members of each colour of a plain world, those in the overflow last. Costs by their number. Refused 1 where memory is wanting.
+/// The members of each colour of a plain world, those in the overflow last. Costs by their number.
 pub fn list_members(alloc: Global, plain: &Plain) -> Result<Vec<Vec<Member<Constraint>>>, Refusal>
     requires { length plain.now.colours ≡ COLOURS + 1 }
     ensures members { IfOk result (λ lists. lists_of lists.items ≡ members_of plain.now.bodies (slots_of plain.now.joint_entries plain.now.joints) plain.now.colours) }

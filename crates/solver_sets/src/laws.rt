@@ -1,4 +1,5 @@
-//! What is known of the ties of any world, and what changes of its bodies, joints and contacts do to them. Each function does nothing; its contract is a law.
+//! What is known of the ties of any world, and what changes of its bodies, joints and contacts do to them. Each
+//! function does nothing; its contract is a law.
 
 ghost use Rattle.solver_sets.specs.Laws.{ActingShowMoving, AlikeBodiesKeepTies, CensusListsEachOnce, ComingKeepsTies, ConstraintNumbersAreUnique, DisablingTakesTies, EnablingAddsTies, FewBegin, GoingTakesTies, ImpulsesKeepTies, JoiningAddsTies, KeysCanChange, KeyNumbersAreUnique, KeysChange, ListsAreCensus, ListsAreMembers, MoversHaveLabels, NoTiesOfDisabled, SameIdsSameTies, SameTouchingKeepTies, StirredArePicked, TiesAreWithin, TiesArePicked, TiesAtAreTies, TiesHaveLabels, TiesOfAMover, TiesOfNoMover, TellingKeepsTies, TiesRise, ToldAreTold, ToldBodiesTell, UnjoiningTakesTies};
 
@@ -124,7 +125,8 @@ pub fn stirred_are_picked()
 
 // ---- the collide
 
-/// The contacts that begin and end to touch, in the order of their keys, are what begins and ends between the ties before and after.
+/// The contacts that begin and end to touch, in the order of their keys, are what begins and ends between the ties
+/// before and after.
 pub fn keys_change()
     ensures { KeysChange }
 {}
@@ -170,13 +172,14 @@ pub fn acting_show_moving()
 
 // ---- the census
 
-/// All that stands in a set is listed there, as often as it occurs, in the order in which it stands, and in no other list.
+/// All that stands in a set is listed there, as often as it occurs, in the order in which it stands, and in no other
+/// list.
 pub fn lists_are_census()
     ensures { ListsAreCensus }
 {}
 
-/// Each body, each joint and each contact that there is stands in exactly one set, and the census lists it there, once. It lists nothing else; and its sleeping
-/// sets are just those in which some body sleeps.
+/// Each body, each joint and each contact that there is stands in exactly one set, and the census lists it there, once.
+/// It lists nothing else; and its sleeping sets are just those in which some body sleeps.
 pub fn census_lists_each_once()
     ensures { CensusListsEachOnce }
 {}

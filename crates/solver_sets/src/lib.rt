@@ -1,8 +1,10 @@
-//! Which constraints a world has, who stands beside whom, and what that means for the sets in which bodies sleep and wake, after Box2D's solver sets.
+//! Which constraints a world has, who stands beside whom, and what that means for the sets in which bodies sleep and
+//! wake, after Box2D's solver sets.
 //!
-//! The constraints of a world, its ties, are its joints by slot and then its touching contacts by key, each with those of its two bodies that are movers
-//! (`Ties.ties_of`). The crate says what each change of bodies, joints and contacts does to them ([`laws`]), so that what is known of ties, islands and colours
-//! in general applies to a world; which movers a change wakes (`Beside`); and which bodies have fallen asleep or woken (`Slept`).
+//! The constraints of a world, its ties, are its joints by slot and then its touching contacts by key, each with those
+//! of its two bodies that are movers (`Ties.ties_of`). The crate says what each change of bodies, joints and contacts
+//! does to them ([`laws`]), so that what is known of ties, islands and colours in general applies to a world; which
+//! movers a change wakes (`Beside`); and which bodies have fallen asleep or woken (`Slept`).
 #![tactic(auto)]
 
 mod begin_and_end;

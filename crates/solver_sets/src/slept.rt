@@ -87,8 +87,8 @@ fn newly_awake_at(
     handle_if(slot_entries, slot, is_newly_awake(bodies, islands, slot))
 }
 
-/// Lists who sleeps and wasn't told so yet, ascending. Each of them is in one of the slots `awake`, of those who were awake before, so that it
-/// costs by their number. There is room for as many handles as there are such slots.
+/// Lists who sleeps and wasn't told so yet, ascending. Each of them is in one of the slots `awake`, of those who were
+/// awake before, so that it costs by their number. There is room for as many handles as there are such slots.
 #[tactic(auto, unfolding(crate::specs::SinceTold::newly_asleep))]
 pub fn fill_newly_asleep(
     handles: &mut Vec<Handle>,
@@ -112,8 +112,8 @@ pub fn fill_newly_asleep(
     }
 }
 
-/// Lists who was told that it sleeps and is awake, ascending. Each of them is in one of the slots `asleep`, of sleepers who may have woken, so that
-/// it costs by their number. There is room for as many handles as there are such slots.
+/// Lists who was told that it sleeps and is awake, ascending. Each of them is in one of the slots `asleep`, of sleepers
+/// who may have woken, so that it costs by their number. There is room for as many handles as there are such slots.
 #[tactic(auto, unfolding(crate::specs::SinceTold::newly_awake))]
 pub fn fill_newly_awake(
     handles: &mut Vec<Handle>,

@@ -143,9 +143,10 @@ fn fit(timers: &mut Vec<u64>, slots: usize)
     let _ = timers.resize(slots, 0);
 }
 
-/// Lists by slot, for the awake movers alone, for how many ticks each body has been slow, 0 for one that touches a kinematic body that
-/// moves or is joined to one: such a body keeps its island awake. Which those are is told by the constraints that act, whose colours are
-/// flushed. The entries of other slots mean nothing. There is room for as many timers as there are slots.
+/// Lists by slot, for the awake movers alone, for how many ticks each body has been slow, 0 for one that touches a
+/// kinematic body that moves or is joined to one: such a body keeps its island awake. Which those are is told by the
+/// constraints that act, whose colours are flushed. The entries of other slots mean nothing. There is room for as many
+/// timers as there are slots.
 pub fn fill_awake_timers(
     timers: &mut Vec<u64>,
     bodies: &[Option<Body>],

@@ -1,4 +1,5 @@
--- What begins or ends to touch has movers that are awake once all constraints that change had their turn: so its contact stands where it stood.
+-- What begins or ends to touch has movers that are awake once all constraints that change had their turn: so its
+-- contact stands where it stood.
 use Rattle.std.proofs.Common.{◌≡◌, ◌∙◌, ◌==◌, ◌&&◌, ◌⊎◌, ℕ, ◌<◌, All, Bool, true, false, cond, List, [], ◌∷◌, length, map, Option, Some, None, nat_lt, inl, inr, refl, sym, ap, subst, arith}
 use Rattle.std.specs.Prelude.{Contains, filter_map, option_map}
 use Rattle.std.specs.List.{cons_option}

@@ -1,4 +1,5 @@
--- What a body that is destroyed and one that is disabled have in common: those are woken whom that wakes, its ties end, and a mover leaves its island.
+-- What a body that is destroyed and one that is disabled have in common: those are woken whom that wakes, its ties end,
+-- and a mover leaves its island.
 use Rattle.std.proofs.Common.{◌≡◌, ◌∙◌, ◌<◌, Bool, true, cond, filter, List, [], Option, Some, length, refl, ap}
 use Rattle.body_handles.specs.declared.handle.Handle.{Handle}
 use Rattle.contacts.specs.Constraints.{constraint_number}
@@ -25,7 +26,8 @@ use Rattle.world_core.proofs.EnableLaws.{body_below}
 use Rattle.world_core.proofs.LeavingLaws.{gone_now}
 use Rattle.world_core.proofs.PartLaws.{can_leave_from}
 
--- of what acts once those are woken, with the body's ties as they were listed: what is asked for before it leaves, and what it leaves
+-- of what acts once those are woken, with the body's ties as they were listed: what is asked for before it leaves, and
+-- what it leaves
 pub record IsGoing (w : World) (s now : Acting Constraint) (h : Handle) (b : Body) (mover : Bool) (ties : List (Member Constraint)) : Type 0 where
   pub can : CanEnd constraint_number ties now
   pub awake : mover ≡ true → is_mover_awake (each_ended constraint_number ties now).labels h.slot ≡ true

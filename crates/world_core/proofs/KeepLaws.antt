@@ -1,4 +1,5 @@
--- Labels that keep the sets: whoever wakes does so with all of its island, and whoever sleeps keeps its label as others fall asleep.
+-- Labels that keep the sets: whoever wakes does so with all of its island, and whoever sleeps keeps its label as others
+-- fall asleep.
 use Rattle.std.proofs.Common.{◌≡◌, ◌⊎◌, ℕ, ◌<◌, ◌≤◌, ◌&&◌, Bool, true, false, cond, is_some, List, [], ◌∷◌, length, Option, Some, None, inl, inr, refl, sym, ap, ◌∙◌, subst, arith}
 use Rattle.std.specs.Prelude.{option_map}
 use Rattle.std.specs.Option.{option_map_or}

@@ -96,7 +96,8 @@ both_alike pairs later i j (Some p) None (Some u) (Some v) same a b = absurd b
 both_alike pairs later i j (Some p) (Some q) (Some u) None same a b = absurd b
 both_alike pairs later i j (Some p) (Some q) (Some u) (Some v) same a b = touch_alike pairs later i j p q u v same a b
 
--- two shapes are as near as before, if both bodies show the same and nothing keeps the two from colliding that didn't before
+-- two shapes are as near as before, if both bodies show the same and nothing keeps the two from colliding that didn't
+-- before
 pub near_same : (old new : List (Option Body)) (pairs later : List BodyPair) (k : ContactKey) → AreBodies old → AreBodies new → IsPairKey k → AreShownAlike (body_at old k.first.slot) (body_at new k.first.slot) → AreShownAlike (body_at old k.second.slot) (body_at new k.second.slot)
     → list_any (is_pair_of k.first.slot k.second.slot) later ≡ list_any (is_pair_of k.first.slot k.second.slot) pairs → near_key later (proxies_of new) k ≡ near_key pairs (proxies_of old) k
 near_same old new pairs later k before after pair a b same =

@@ -1,4 +1,5 @@
--- The ties of a sleeping island are those of its sleeping sets, and those of which a mover is the first are those at it.
+-- The ties of a sleeping island are those of its sleeping sets, and those of which a mover is the first are those at
+-- it.
 use Rattle.std.proofs.Common.{◌≡◌, ◌≢◌, ◌⊎◌, ℕ, zero, suc, ◌<◌, ◌++◌, ◌==◌, ◌&&◌, ◌||◌, Bool, true, false, cond, List, [], ◌∷◌, length, get_or, Option, Some, None, inl, inr, refl, sym, ap, ap₂, ◌∙◌, subst, arith, eqb-true, eq-eqb}
 use Rattle.std.specs.Prelude.{◌/◌, filter, map, Contains, slice_get, option_map}
 use Rattle.std.specs.List.{filter_map, slice_index_or}

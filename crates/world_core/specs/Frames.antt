@@ -70,7 +70,8 @@ pub record IsFrame (f : View) : Type 0 where
   pub sound : IsSound world
   pub frame : f ≡ frame_of world
 
--- a body that is shown in a slot: its handle names the slot, and it stands at a pose and has 1 to 8 shapes, all within their limits
+-- a body that is shown in a slot: its handle names the slot, and it stands at a pose and has 1 to 8 shapes, all within
+-- their limits
 pub record IsFrameBody (at : ℕ) (b : FrameBody) : Type 0 where
   pub slot : b.handle.slot ≡ at
   pub generation : b.handle.generation < 2 ^ 32

@@ -26,7 +26,8 @@ world_of a = record {
   events = a.events;
 }
 
--- the world is sound, and the constraints, islands and colours that are kept beside its lists are those that the lists have
+-- the world is sound, and the constraints, islands and colours that are kept beside its lists are those that the lists
+-- have
 pub record IsWhole (w : World) (acting : Acting Constraint) : Type 0 where
   pub sound : IsSound w
   pub same : acting ≡ acting_of w.plain
@@ -35,8 +36,8 @@ pub record IsWhole (w : World) (acting : Acting Constraint) : Type 0 where
 abbrev pub AreKnown : List Bool → List (Option Body) → List (Option BodyJoint) → List ContactEntry → Type 0
 AreKnown marks bodies joints contacts = IsKnown (moved_by marks) (forbidden_pairs joints) (proxies_of bodies) contacts
 
--- what the fields of a `WorldCore` hold: the world is whole, and its contacts tell all that isn't marked; the sets of the joints have each where it stands by
--- its bodies, by slot, and those of the contacts each by its number
+-- what the fields of a `WorldCore` hold: the world is whole, and its contacts tell all that isn't marked; the sets of
+-- the joints have each where it stands by its bodies, by slot, and those of the contacts each by its number
 pub record IsWorldCore (w : World) (acting : Acting Constraint) (marks : List Bool) (stands : Standings) (numbered : List (Option NumberedContact)) (contact_stands : Standings) : Type 0 where
   pub whole : IsWhole w acting
   pub known : AreKnown marks w.plain.bodies w.plain.joints w.plain.contacts

@@ -18,7 +18,8 @@ pub record AreColoured (bodies : List (Option Body)) (s : JointSlots) (lists : L
   pub colouring : IsColouring constraint_number lists
   pub movers : (m : Member Constraint) → Contains (all_members lists) m → movers_of bodies s m.id ≡ Some m.movers
 
--- where the constraints are coloured as in a sound world, the rows of each colour but the overflow are a colour to the solver
+-- where the constraints are coloured as in a sound world, the rows of each colour but the overflow are a colour to the
+-- solver
 abbrev pub ColouredRowsAreColours : Type 0
 ColouredRowsAreColours = (bodies : List (Option Body)) (s : JointSlots) (contacts : List ContactEntry) (lists : Lists) (colour : ℕ) → AreColoured bodies s lists → colour < COLOURS
     → IsColour constraint_slots (states_of bodies) (slice_index_or (map (rows_in (states_of bodies) s.joints contacts) lists) colour [])

@@ -89,8 +89,8 @@ fn book_rest(ledger: &mut Ledger, call: u64, sums: StepSums, rest: Gain)
     book(ledger, call, Cause::Rest, rest);
 }
 
-/// Records a step: books what its ticks have added and what those that fell asleep have lost, for which there is room, and makes what began and ended and who
-/// slept and woke its events. Takes no memory.
+/// Records a step: books what its ticks have added and what those that fell asleep have lost, for which there is room,
+/// and makes what began and ended and who slept and woke its events. Takes no memory.
 pub(crate) fn record_step(
     ledger: &mut Ledger,
     events: &mut Events,

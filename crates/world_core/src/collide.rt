@@ -76,7 +76,8 @@ fn gather(broad: &mut PairSweep, bodies: &[Option<Body>]) -> Result<(), Refusal>
     Ok(())
 }
 
-/// The shape of a body with this name, if it has one. Whoever asks reads a part of it, and what isn't read isn't copied.
+/// The shape of a body with this name, if it has one. Whoever asks reads a part of it, and what isn't read isn't
+/// copied.
 #[inline(always)]
 fn shape_of(body: &Body, id: ShapeId) -> Option<Proxy>
     requires { IsBody body.now }
@@ -194,8 +195,9 @@ impl ShapesById for BodyShapes<'_> {
     }
 }
 
-/// Finds the near pairs of shapes whose bodies no joint keeps from colliding, and evaluates a contact for each of which a body stirs: what the
-/// contacts become is pending then. Those of bodies that aren't marked are known from the contacts that there are. Refused 1 where memory is wanting.
+/// Finds the near pairs of shapes whose bodies no joint keeps from colliding, and evaluates a contact for each of which
+/// a body stirs: what the contacts become is pending then. Those of bodies that aren't marked are known from the
+/// contacts that there are.
 pub(crate) fn collide(
     alloc: Global,
     contacts: &mut ContactTable,

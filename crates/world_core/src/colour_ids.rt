@@ -10,7 +10,7 @@ use fixed_geom::Refusal;
 use graph_colours::{Colours, Member, OVERFLOW};
 use std::alloc::Global;
 
-/// The ids of these members. Refused 1 where memory is wanting.
+/// The ids of these members.
 fn list_ids(alloc: Global, members: &[Member<Constraint>]) -> Result<Vec<Constraint>, Refusal>
     ensures ids { IfOk result (λ ids. ids.items ≡ map (λ m. m.id) members.now) }
     ensures memory_only { IsOkUnless result Refusal.NoMemory }
@@ -22,7 +22,7 @@ fn list_ids(alloc: Global, members: &[Member<Constraint>]) -> Result<Vec<Constra
     Ok(ids)
 }
 
-/// The constraints of a colour. Refused 1 where memory is wanting.
+/// The constraints of a colour.
 fn copy_colour(
     alloc: Global,
     colours: &Colours<Constraint>,
@@ -36,7 +36,7 @@ fn copy_colour(
     list_ids(alloc, &members)
 }
 
-/// The constraints of each colour, those in the overflow last. Refused 1 where memory is wanting.
+/// The constraints of each colour, those in the overflow last.
 pub(crate) fn copy_ids(
     alloc: Global,
     colours: &Colours<Constraint>,

@@ -1,4 +1,5 @@
-//! The commit of a step up to its ticks: the contacts become what the collide made of them, constraints begin and end, and sleepers wake.
+//! The commit of a step up to its ticks: the contacts become what the collide made of them, constraints begin and end,
+//! and sleepers wake.
 
 ghost use Rattle.std.specs.Prelude.{◌≡◌, ◌≤◌, ◌+◌, false, length, replicate, vec_capacity};
 ghost use Rattle.std.specs.List.Sorted.{IsStrictlyIncreasing};
@@ -27,9 +28,9 @@ use sleep_wake::{Change, Sets};
 use solver_sets::fill_newly_awake;
 use world_core_base::{BodyTable, JointTable, renew_contact_stands};
 
-/// Lets constraints begin and end, one after another, flushes the colours, lists who has woken by that, tells those, whose joints and contacts follow, and flushes
-/// the bodies. All bodies had been told before. Those who wake are among the slots `asleep`, so that it takes time by these and by what begins and
-/// ends. It takes no memory.
+/// Lets constraints begin and end, one after another, flushes the colours, lists who has woken by that, tells those,
+/// whose joints and contacts follow, and flushes the bodies. All bodies had been told before. Those who wake are among
+/// the slots `asleep`, so that it takes time by these and by what begins and ends. It takes no memory.
 fn apply_all_changes(
     sets: &mut Sets<Constraint>,
     bodies: &mut BodyTable,
@@ -90,8 +91,9 @@ fn apply_all_changes(
     bodies.flush();
 }
 
-/// Carries out what the collide found: the contacts become what is pending, the constraints begin and end, and who wakes by that is told so. Nothing
-/// stays marked but what that changes, since the contacts tell all from now on. Takes no memory.
+/// Carries out what the collide found: the contacts become what is pending, the constraints begin and end, and who
+/// wakes by that is told so. Nothing stays marked but what that changes, since the contacts tell all from now on. Takes
+/// no memory.
 pub(crate) fn commit_collide(
     contacts: &mut ContactTable,
     bodies: &mut BodyTable,

@@ -21,9 +21,9 @@ pub struct FrameBody {
     pub shapes: Shapes,
 }
 
-/// What a world shows at one moment: for each slot the pose and the shapes of the enabled body in it, the movers' momentum,
-/// the ledger's total, and how many calls were accepted. A frame is a copy of its own, which no later call changes. Only
-/// `WorldCore::frame` makes one, so that each is the frame of a sound world.
+/// What a world shows at one moment: for each slot the pose and the shapes of the enabled body in it, the movers'
+/// momentum, the ledger's total, and how many calls were accepted. A frame is a copy of its own, which no later call
+/// changes. Only `WorldCore::frame` makes one, so that each is the frame of a sound world.
 #[derive(Drop)]
 pub struct Frame {
     bodies: Vec<Option<FrameBody>>,
@@ -61,8 +61,8 @@ impl Frame {
         }
     }
 
-    /// The enabled body in each slot that was ever used. There are at most 65,536 slots. The handle of a body names its slot, and its
-    /// pose and its 1 to 8 shapes are within their limits, since the frame is that of a sound world.
+    /// The enabled body in each slot that was ever used. There are at most 65,536 slots. The handle of a body names its
+    /// slot, and its pose and its 1 to 8 shapes are within their limits, since the frame is that of a sound world.
     pub fn bodies(&self) -> &[Option<FrameBody>]
         ensures bodies { result.now ≡ self.now.bodies }
         ensures sound { IsFrame self.now }
@@ -116,7 +116,7 @@ fn pose_of(body: &FrameBody, handle: Handle) -> Option<Pose>
     }
 }
 
-/// What is shown of a body: nothing of one that is disabled. Refused 1 where memory is wanting.
+/// What is shown of a body: nothing of one that is disabled.
 fn show_body(handle: Handle, body: &Body) -> Result<Option<FrameBody>, Refusal>
     ensures shown { IfOk result (λ s. s ≡ shown_body handle body.now) }
     ensures memory_only { IsOkUnless result Refusal.NoMemory }
@@ -141,7 +141,7 @@ fn show(handle: Handle, entry: &Option<Body>) -> Result<Option<FrameBody>, Refus
     }
 }
 
-/// What is shown of the bodies, by slot. Refused 1 where memory is wanting.
+/// What is shown of the bodies, by slot.
 pub(crate) fn show_bodies(
     alloc: Global,
     slot_entries: &[SlotEntry],

@@ -56,7 +56,8 @@ fn place_at(contact_places: &[usize], index: usize) -> usize {
     }
 }
 
-/// Gives each contact the impulses that the step has left it. It is looked for at the place that is noted for its row first.
+/// Gives each contact the impulses that the step has left it. It is looked for at the place that is noted for its row
+/// first.
 fn put_contact_impulses(contacts: &mut ContactTable, rows: &[ContactRow], contact_places: &[usize])
     ensures contacts { contacts.new.contacts ≡ with_rows contacts.old.contacts rows.now }
     ensures numbered { contacts.new.numbered ≡ contacts.old.numbered }
@@ -72,7 +73,8 @@ fn put_contact_impulses(contacts: &mut ContactTable, rows: &[ContactRow], contac
     }
 }
 
-/// Gives each joint and each contact the impulses that the step has left it. Beside the row of a contact stands in `contact_places` where that may be.
+/// Gives each joint and each contact the impulses that the step has left it. Beside the row of a contact stands in
+/// `contact_places` where that may be.
 #[inline(never)]
 pub(crate) fn put_impulses(
     joints: &mut JointTable,

@@ -144,7 +144,8 @@ fn flag_colour(
     }
 }
 
-/// Flags the islands of the movers that touch a kinematic body that moves or are joined to one, by the constraints that act.
+/// Flags the islands of the movers that touch a kinematic body that moves or are joined to one, by the constraints that
+/// act.
 #[inline(never)]
 pub(crate) fn flag_beside(
     flags: &mut Vec<bool>,

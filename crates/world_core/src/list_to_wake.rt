@@ -15,7 +15,7 @@ use islands::sleeping_name;
 use sleep_wake::{Change, Sets, push_some, sort_once};
 use std::alloc::Global;
 
-/// Adds the name of the island of the mover in the slot, if it sleeps. Refused 1 where memory is wanting.
+/// Adds the name of the island of the mover in the slot, if it sleeps.
 fn push_name(names: &mut Vec<u32>, sets: &Sets<Constraint>, slot: u32) -> Result<(), Refusal>
     ensures name { OnOk result (HasName sets.now.acting.labels names.new.items slot) }
     ensures extended { OnOk result (IsExtended names.old.items names.new.items) }
@@ -25,7 +25,7 @@ fn push_name(names: &mut Vec<u32>, sets: &Sets<Constraint>, slot: u32) -> Result
     Ok(())
 }
 
-/// Adds the names of the islands of a constraint's movers, those that sleep. Refused 1 where memory is wanting.
+/// Adds the names of the islands of a constraint's movers, those that sleep.
 fn push_names(names: &mut Vec<u32>, sets: &Sets<Constraint>, movers: Movers) -> Result<(), Refusal>
     ensures names { OnOk result (OfBoth (HasName sets.now.acting.labels names.new.items) movers) }
     ensures extended { OnOk result (IsExtended names.old.items names.new.items) }
@@ -48,7 +48,7 @@ fn movers_in(change: Change<Constraint>) -> Movers
     }
 }
 
-/// Adds the names of the sleeping islands of the movers of what begins and ends. Refused 1 where memory is wanting.
+/// Adds the names of the sleeping islands of the movers of what begins and ends.
 fn push_names_of_all(
     names: &mut Vec<u32>,
     sets: &Sets<Constraint>,
@@ -63,7 +63,7 @@ fn push_names_of_all(
     Ok(())
 }
 
-/// The names of the sleeping islands of the movers of what begins and ends, ascending, each once. Refused 1 where memory is wanting.
+/// The names of the sleeping islands of the movers of what begins and ends, ascending, each once.
 fn list_names_of_changes(
     alloc: Global,
     sets: &Sets<Constraint>,
@@ -78,8 +78,8 @@ fn list_names_of_changes(
     Ok(names)
 }
 
-/// The slots of the movers that wake as these constraints begin and end, ascending: those of the sleeping islands of the constraints' movers. It costs by
-/// the constraints and by who wakes, and takes no memory where nobody does. Refused 1 where memory is wanting.
+/// The slots of the movers that wake as these constraints begin and end, ascending: those of the sleeping islands of
+/// the constraints' movers. It costs by the constraints and by who wakes, and takes no memory where nobody does.
 pub(crate) fn list_sleepers(
     alloc: Global,
     sets: &Sets<Constraint>,

@@ -45,7 +45,7 @@ pub(crate) fn contact_tie(
     }
 }
 
-/// Adds the ties of the contacts that have the body in a slot on one side. Refused 1 where memory is wanting.
+/// Adds the ties of the contacts that have the body in a slot on one side.
 fn push_ties_on(
     ties: &mut Vec<Member<Constraint>>,
     bodies: &[Option<Body>],
@@ -73,7 +73,7 @@ fn put_in_order(ties: &mut Vec<Member<Constraint>>)
     ties.sort_unstable_by_key(|tie| tie.id.number());
 }
 
-/// The ties of the contacts of the body in a slot, ascending. Costs by how many contacts it has. Refused 1 where memory is wanting.
+/// The ties of the contacts of the body in a slot, ascending. Costs by how many contacts it has.
 pub(crate) fn contact_ties(
     alloc: Global,
     bodies: &[Option<Body>],

@@ -1,4 +1,5 @@
-//! The joints of one body, by the slots that the table of joints has of them: whom they join, and which constraints they are.
+//! The joints of one body, by the slots that the table of joints has of them: whom they join, and which constraints
+//! they are.
 
 ghost use Rattle.std.specs.Prelude.{◌≡◌, ◌<◌, ◌≤◌, IfOk, length, map, vec_capacity};
 ghost use Rattle.std.specs.Option.{option_copied};
@@ -21,7 +22,7 @@ use solver_sets::joint_tie;
 use std::alloc::Global;
 use world_core_base::JointTable;
 
-/// The joints in these slots. Refused 1 where memory is wanting.
+/// The joints in these slots.
 fn joints_in(
     alloc: Global,
     joints: &[Option<BodyJoint>],
@@ -37,7 +38,7 @@ fn joints_in(
     Ok(found)
 }
 
-/// The movers at the other ends of the joints of the body in a slot, which are in these slots, in their order. Refused 1 where memory is wanting.
+/// The movers at the other ends of the joints of the body in a slot, which are in these slots, in their order.
 pub(crate) fn list_joined(
     alloc: Global,
     bodies: &[Option<Body>],
@@ -93,7 +94,8 @@ fn tie_at(
     joint_tie_of(bodies, body, handle, item_at(joints, slot as usize))
 }
 
-/// Fills a list, which has room for a tie of each of these slots, with the ties of the joints of a body, which are in these slots, in their order.
+/// Fills a list, which has room for a tie of each of these slots, with the ties of the joints of a body, which are in
+/// these slots, in their order.
 pub(crate) fn fill_joint_ties(
     ties: &mut Vec<Member<Constraint>>,
     bodies: &[Option<Body>],
@@ -117,8 +119,8 @@ pub(crate) fn fill_joint_ties(
     }
 }
 
-/// The ties of the joints of the body in a slot, in ascending order of the joints' slots. Costs by how many joints it has. Refused 1 where memory
-/// is wanting.
+/// The ties of the joints of the body in a slot, in ascending order of the joints' slots. Costs by how many joints it
+/// has.
 pub(crate) fn joint_ties(
     alloc: Global,
     bodies: &[Option<Body>],

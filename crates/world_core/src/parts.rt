@@ -42,7 +42,7 @@ pub(crate) struct RecordParts {
     pub events: Events,
 }
 
-/// A copy of the bodies and their handles. Refused 1 where memory is wanting.
+/// A copy of the bodies and their handles.
 pub(crate) fn copy_body_parts(handles: &Handles, bodies: &BodyTable) -> Result<BodyParts, Refusal>
     ensures slot_entries { IfOk result (λ copied. copied.handles.slot_entries ≡ handles.now.slot_entries) }
     ensures bodies { IfOk result (λ copied. copied.table.bodies ≡ bodies.now.bodies) }
@@ -55,7 +55,7 @@ pub(crate) fn copy_body_parts(handles: &Handles, bodies: &BodyTable) -> Result<B
     })
 }
 
-/// A copy of the joints, their sets and their handles. Refused 1 where memory is wanting.
+/// A copy of the joints, their sets and their handles.
 pub(crate) fn copy_joint_parts(
     handles: &Handles,
     joints: &JointTable,
@@ -73,7 +73,7 @@ pub(crate) fn copy_joint_parts(
     })
 }
 
-/// A copy of the contacts and of the sets of the constraints. Refused 1 where memory is wanting.
+/// A copy of the contacts and of the sets of the constraints.
 pub(crate) fn copy_constraint_parts(
     contacts: &ContactTable,
     sets: &Sets<Constraint>,
@@ -89,7 +89,7 @@ pub(crate) fn copy_constraint_parts(
     })
 }
 
-/// A copy of the ledger and the events. Refused 1 where memory is wanting.
+/// A copy of the ledger and the events.
 pub(crate) fn copy_records(ledger: &Ledger, events: &Events) -> Result<RecordParts, Refusal>
     ensures entries { IfOk result (λ copied. copied.ledger.entries ≡ ledger.now.entries) }
     ensures settled { IfOk result (λ copied. copied.ledger.settled ≡ ledger.now.settled) }

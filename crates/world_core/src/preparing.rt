@@ -1,4 +1,5 @@
-//! What a step finds out and makes room for before it changes anything: all of it that may be refused for want of memory.
+//! What a step finds out and makes room for before it changes anything: all of it that may be refused for want of
+//! memory.
 
 ghost use Rattle.std.specs.Prelude.{◌≡◌, ◌+◌, ◌≤◌, OnOk, IfOk, length, vec_capacity};
 ghost use Rattle.std.specs.List.Sorted.{IsStrictlyIncreasing};
@@ -30,8 +31,8 @@ use world_core_base::{BodyTable, JointTable};
 /// How many entries of the ledger a step makes at most.
 const MAX_STEP_ENTRIES: usize = 4;
 
-/// What a step is to carry out, for which it has all room: what begins and ends to touch, the constraints that begin and end by that, each in its turn, and
-/// the slots of the movers that wake by them.
+/// What a step is to carry out, for which it has all room: what begins and ends to touch, the constraints that begin
+/// and end by that, each in its turn, and the slots of the movers that wake by them.
 #[derive(Drop)]
 pub(crate) struct Prepared {
     pub touches: Touches,
@@ -39,8 +40,8 @@ pub(crate) struct Prepared {
     pub asleep: Vec<u32>,
 }
 
-/// Finds out what a step is to carry out, and makes all room that it wants. Nothing of the world is changed: what the collide made of the contacts is kept
-/// beside them, and the table of bodies only brings its lists of slots up to date. Refused 1 where memory is wanting.
+/// Finds out what a step is to carry out, and makes all room that it wants. Nothing of the world is changed: what the
+/// collide made of the contacts is kept beside them, and the table of bodies only brings its lists of slots up to date.
 pub(crate) fn prepare(
     ledger: &mut Ledger,
     bodies: &mut BodyTable,

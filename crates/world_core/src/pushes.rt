@@ -157,7 +157,8 @@ pub(crate) fn course_after(
     }
 }
 
-/// Tests whether the island of the body named by a handle can be woken or put to rest: refused 2, 6 or 8, in this order.
+/// Tests whether the island of the body named by a handle can be woken or put to rest: refused 2, 6 or 8, in this
+/// order.
 pub(crate) fn check_mover(
     handles: &Handles,
     bodies: &[Option<Body>],

@@ -32,8 +32,8 @@ impl WorldCore {
         shape_of(self.bodies(), id)
     }
 
-    /// The id of the body in a slot; `None` where the slot is free or was never used. `bodies` has the body itself in the same
-    /// slot, so that both together are a walk over all bodies.
+    /// The id of the body in a slot; `None` where the slot is free or was never used. `bodies` has the body itself in
+    /// the same slot, so that both together are a walk over all bodies.
     pub fn handle_in(&self, slot: u32) -> Option<Handle>
         ensures value { result ≡ handle_in self.now.plain.slot_entries slot }
         ensures live { IfSome result (λ handle. IsLive self.now.plain.slot_entries handle) }

@@ -15,8 +15,9 @@ impl WorldCore {
     /// Applies commands one after another, and gives the answer to each. A refused command changes
     /// nothing, and the next one follows.
     ///
-    /// Whatever the list, the answers and the world are those of the definition. With each accepted call the total of a cause grows by
-    /// at most 2^83 in a component. Refused 1 where memory is wanting, and then the world is that after the commands before.
+    /// Whatever the list, the answers and the world are those of the definition. With each accepted call the total of a
+    /// cause grows by at most 2^83 in a component. Refused 1 where memory is wanting, and then the world is that after
+    /// the commands before.
     pub fn replay(
         &mut self,
         alloc: Global,

@@ -8,8 +8,8 @@ use body_handles::Handle;
 use fixed_geom::Refusal;
 use std::alloc::Global;
 
-/// The movers' timers by slot, the awake flags by island, the handles of the bodies that woke and of those that fell asleep, the slots of either, and where the
-/// contacts stand that have rows. Their memory is kept from step to step.
+/// The movers' timers by slot, the awake flags by island, the handles of the bodies that woke and of those that fell
+/// asleep, the slots of either, and where the contacts stand that have rows. Their memory is kept from step to step.
 #[derive(Drop)]
 pub(crate) struct Scratch {
     pub timers: Vec<u64>,
@@ -20,7 +20,7 @@ pub(crate) struct Scratch {
     pub contact_places: Vec<usize>,
 }
 
-/// Empties a list, and makes room in it for so many items. Refused 1 where memory is wanting.
+/// Empties a list, and makes room in it for so many items.
 fn make_room<T: Drop>(list: &mut Vec<T>, count: usize) -> Result<(), Refusal>
     ensures room { OnOk result (count ≤ vec_capacity list.new) }
     ensures memory_only { IsOkUnless result Refusal.NoMemory }
@@ -30,7 +30,7 @@ fn make_room<T: Drop>(list: &mut Vec<T>, count: usize) -> Result<(), Refusal>
     Ok(())
 }
 
-/// Makes room in a list for so many items in all, and leaves those that are in it. Refused 1 where memory is wanting.
+/// Makes room in a list for so many items in all, and leaves those that are in it.
 fn keep_room<T: Drop>(list: &mut Vec<T>, count: usize) -> Result<(), Refusal>
     ensures room { OnOk result (count ≤ vec_capacity list.new) }
     ensures memory_only { IsOkUnless result Refusal.NoMemory }
@@ -76,8 +76,8 @@ impl Scratch {
         }
     }
 
-    /// Makes room for so many slots in each list but that of those who woke, who are so many at most. Timers and flags stay: of these a step writes down
-    /// the awake movers', and what else is in the two lists means nothing. Refused 1 where memory is wanting.
+    /// Makes room for so many slots in each list but that of those who woke, who are so many at most. Timers and flags
+    /// stay: of these a step writes down the awake movers', and what else is in the two lists means nothing.
     pub fn make_room(&mut self, slots: usize, woke: usize) -> Result<(), Refusal>
         ensures timers { OnOk result (slots ≤ vec_capacity self.new.timers) }
         ensures awake_flags { OnOk result (slots ≤ vec_capacity self.new.awake_flags) }

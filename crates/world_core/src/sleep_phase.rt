@@ -30,9 +30,10 @@ use sleep_wake::Sets;
 use solver_sets::{fill_awake_timers, fill_newly_asleep};
 use world_core_base::{BodyTable, JointTable};
 
-/// Lets so many ticks pass for the timers, puts the islands to rest that are ready, lists who has fallen asleep by that, and tells
-/// those. Their joints and contacts follow. All bodies had been told before. Answers what the movers' momentum gains, since those that fall asleep
-/// lose theirs. Where few fall asleep, it takes time by the awake movers alone. Takes no memory.
+/// Lets so many ticks pass for the timers, puts the islands to rest that are ready, lists who has fallen asleep by
+/// that, and tells those. Their joints and contacts follow. All bodies had been told before. Answers what the movers'
+/// momentum gains, since those that fall asleep lose theirs. Where few fall asleep, it takes time by the awake movers
+/// alone. Takes no memory.
 pub(crate) fn rest_after_ticks(
     bodies: &mut BodyTable,
     joint_entries: &[SlotEntry],

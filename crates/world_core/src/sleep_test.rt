@@ -1,4 +1,5 @@
-//! Whether some island is ready to sleep, asked of the awake movers alone: a sleep phase, which looks at all that there is, comes only where one is.
+//! Whether some island is ready to sleep, asked of the awake movers alone: a sleep phase, which looks at all that there
+//! is, comes only where one is.
 
 ghost use Rattle.std.specs.Prelude.{◌≡◌, ◌≤◌, ℕ, List, true, false, cond, length, slice_get, slice_set, vec_capacity};
 ghost use Rattle.colour_solver.specs.States.{places_from};
@@ -131,7 +132,8 @@ fn are_flagged(flags: &[bool], islands: &Islands, slots: &[u32]) -> bool
     true
 }
 
-/// Whether each awake island has a mover that keeps it from being ready to sleep. There is room for a flag for each slot.
+/// Whether each awake island has a mover that keeps it from being ready to sleep. There is room for a flag for each
+/// slot.
 pub(crate) fn are_kept_up(
     flags: &mut Vec<bool>,
     islands: &Islands,

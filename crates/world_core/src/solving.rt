@@ -29,8 +29,8 @@ use fixed_geom::{Refusal, Vec2};
 use graph_colours::{COLOURS, Colours};
 use world_core_base::{BodyTable, JointTable, gather_rows};
 
-/// Makes room for a row for each of so many constraints and for those that begin, for a place beside each, and for all colours. Refused 1 where memory
-/// is wanting.
+/// Makes room for a row for each of so many constraints and for those that begin, for a place beside each, and for all
+/// colours.
 pub(crate) fn reserve_rows(
     rows: &mut Rows,
     contact_places: &mut Vec<usize>,
@@ -49,8 +49,9 @@ pub(crate) fn reserve_rows(
     rows.reserve(count, COLOURS + 1)
 }
 
-/// Gathers what acts, lets the solver run so many ticks, and gives joints and contacts the impulses that they have left. Answers what was
-/// added to the movers' momentum, by cause. No two constraints of a colour share a mover. Room for the places of the contacts is the caller's. Takes no memory.
+/// Gathers what acts, lets the solver run so many ticks, and gives joints and contacts the impulses that they have
+/// left. Answers what was added to the movers' momentum, by cause. No two constraints of a colour share a mover. Room
+/// for the places of the contacts is the caller's. Takes no memory.
 pub(crate) fn solve<S: StepSolver>(
     solver: &mut S,
     rows: &mut Rows,

@@ -18,8 +18,9 @@ use packed_sets::SolverSets;
 use sleep_wake::Sets;
 use world_core_base::{BodyTable, JointTable, follow_contacts};
 
-/// Tells the bodies in these slots the labels of their islands, where those in all other slots stay as they are when they are told. The
-/// sets then have these bodies, their joints and their contacts where they stand now. Answers what the movers' momentum gains. Takes no memory.
+/// Tells the bodies in these slots the labels of their islands, where those in all other slots stay as they are when
+/// they are told. The sets then have these bodies, their joints and their contacts where they stand now. Answers what
+/// the movers' momentum gains. Takes no memory.
 pub(crate) fn tell_movers(
     bodies: &mut BodyTable,
     joints: &JointTable,

@@ -35,7 +35,7 @@ pub(crate) struct Waking {
     pub movers: Vec<u32>,
 }
 
-/// Adds the movers of the island of the mover in a slot, if one is there. Refused 1 where memory is wanting.
+/// Adds the movers of the island of the mover in a slot, if one is there.
 fn add_island(movers: &mut Vec<u32>, sets: &Sets<Constraint>, slot: u32) -> Result<(), Refusal>
     ensures island { OnOk result (HasIsland sets.now.acting.labels movers.new.items slot) }
     ensures extended { OnOk result (IsExtended movers.old.items movers.new.items) }
@@ -49,8 +49,8 @@ fn add_island(movers: &mut Vec<u32>, sets: &Sets<Constraint>, slot: u32) -> Resu
     Ok(())
 }
 
-/// The movers of the islands of the movers in these slots, such as those that islands are named after. Where there are no slots, it takes no
-/// memory. Refused 1 where memory is wanting.
+/// The movers of the islands of the movers in these slots, such as those that islands are named after. Where there are
+/// no slots, it takes no memory.
 pub(crate) fn list_movers(
     alloc: Global,
     sets: &Sets<Constraint>,
@@ -66,8 +66,8 @@ pub(crate) fn list_movers(
     Ok(movers)
 }
 
-/// The movers of the island of the mover in a slot, where it is awake. Where it sleeps none are listed, and it takes no time and no memory. Refused 1 where
-/// memory is wanting.
+/// The movers of the island of the mover in a slot, where it is awake. Where it sleeps none are listed, and it takes no
+/// time and no memory.
 pub(crate) fn plan_rest(
     alloc: Global,
     sets: &Sets<Constraint>,
@@ -83,7 +83,7 @@ pub(crate) fn plan_rest(
     Ok(movers)
 }
 
-/// Which islands wake with the movers in these slots: those of them that sleep. Where none sleeps, it takes no memory. Refused 1 where memory is wanting.
+/// Which islands wake with the movers in these slots: those of them that sleep. Where none sleeps, it takes no memory.
 pub(crate) fn plan_waking(
     alloc: Global,
     sets: &Sets<Constraint>,
@@ -98,8 +98,8 @@ pub(crate) fn plan_waking(
     Ok(Waking { names, movers })
 }
 
-/// Wakes the islands that are to wake, and tells their movers, whose joints and contacts follow. All bodies had been told before. Where there are
-/// none, it takes no time.
+/// Wakes the islands that are to wake, and tells their movers, whose joints and contacts follow. All bodies had been
+/// told before. Where there are none, it takes no time.
 pub(crate) fn wake_planned(
     sets: &mut Sets<Constraint>,
     bodies: &mut BodyTable,
@@ -154,9 +154,9 @@ pub(crate) fn wake_planned(
     );
 }
 
-/// Puts the mover in a slot to sleep with its island, and tells the movers of the island in which it was, which are listed where it is
-/// awake. Their joints and contacts follow. All bodies had been told before. Answers what the movers' momentum gains. Where the mover sleeps already,
-/// it takes no time.
+/// Puts the mover in a slot to sleep with its island, and tells the movers of the island in which it was, which are
+/// listed where it is awake. Their joints and contacts follow. All bodies had been told before. Answers what the
+/// movers' momentum gains. Where the mover sleeps already, it takes no time.
 pub(crate) fn put_to_sleep(
     sets: &mut Sets<Constraint>,
     bodies: &mut BodyTable,

@@ -117,7 +117,7 @@ impl WorldCore {
         })
     }
 
-    /// A copy of its own. Refused 1 where memory is wanting.
+    /// A copy of its own.
     pub fn try_copy(&self) -> Result<WorldCore, Refusal>
         ensures copy { IfOk result (λ copied. copied ≡ self.now) }
         ensures memory_only { IsOkUnless result Refusal.NoMemory }
@@ -215,8 +215,8 @@ impl WorldCore {
         }
     }
 
-    /// The bodies by slot, without a copy: `None` in a slot that is free. The handle of one is its slot with the generation that
-    /// `slot_entries` has there.
+    /// The bodies by slot, without a copy: `None` in a slot that is free. The handle of one is its slot with the
+    /// generation that `slot_entries` has there.
     pub fn bodies(&self) -> &[Option<Body>]
         ensures bodies { result.now ≡ self.now.plain.bodies }
         ensures sound { IsSound self.now }
@@ -275,8 +275,8 @@ impl WorldCore {
         &self.events
     }
 
-    /// The tree of the bodies' boxes by slot: that of each enabled body holds each of its fat boxes. A disabled body keeps its box, and a
-    /// slot without a body may have one.
+    /// The tree of the bodies' boxes by slot: that of each enabled body holds each of its fat boxes. A disabled body
+    /// keeps its box, and a slot without a body may have one.
     pub fn tree(&self) -> &BoxTree
         ensures enabled { HoldsEnabled self.now.plain.bodies result.now }
         ensures covered { AreCovered self.now.plain.bodies result.now }
@@ -292,7 +292,7 @@ impl WorldCore {
         let _ = &self.handles;
     }
 
-    /// The world as plain lists. Refused 1 where memory is wanting.
+    /// The world as plain lists.
     pub fn plain(&self) -> Result<Plain, Refusal>
         ensures plain { IfOk result (λ plain. plain ≡ self.now.plain) }
         ensures sound { IsSound self.now }
@@ -323,9 +323,8 @@ impl WorldCore {
         ))
     }
 
-    /// What stands in each solver set: each live body, each joint and each contact is listed once, in the one set in which it
-    /// stands, and nothing else is. There is a sleeping set for each name under which a body sleeps. Refused 1 where memory is
-    /// wanting.
+    /// What stands in each solver set: each live body, each joint and each contact is listed once, in the one set in
+    /// which it stands, and nothing else is. There is a sleeping set for each name under which a body sleeps.
     pub fn census(&self) -> Result<Census, Refusal>
         ensures value { IfOk result (λ census. census ≡ census_of self.now.plain.slot_entries self.now.plain.bodies (joints_in_slots self.now.plain) self.now.plain.contacts) }
         ensures census { IfOk result (λ census. IsCensus (standings_of self.now.plain.slot_entries self.now.plain.bodies (joints_in_slots self.now.plain) self.now.plain.contacts) census) }
@@ -339,7 +338,7 @@ impl WorldCore {
         self.census_with(&contacts)
     }
 
-    /// The census, with the contacts as a list. Refused 1 where memory is wanting.
+    /// The census, with the contacts as a list.
     fn census_with(&self, contacts: &[ContactEntry]) -> Result<Census, Refusal>
         requires { contacts.now ≡ self.now.plain.contacts }
         ensures value { IfOk result (λ census. census ≡ census_of self.now.plain.slot_entries self.now.plain.bodies (joints_in_slots self.now.plain) self.now.plain.contacts) }
@@ -357,8 +356,8 @@ impl WorldCore {
         )
     }
 
-    /// What the world shows now: the enabled bodies with their poses and shapes, the movers' momentum, the ledger's total and
-    /// the number of calls. Refused 1 where memory is wanting.
+    /// What the world shows now: the enabled bodies with their poses and shapes, the movers' momentum, the ledger's
+    /// total and the number of calls.
     pub fn frame(&self) -> Result<Frame, Refusal>
         ensures frame { IfOk result (λ frame. frame ≡ frame_of self.now) }
         ensures memory_only { IsOkUnless result Refusal.NoMemory }
@@ -369,8 +368,8 @@ impl WorldCore {
         Ok(Frame::new(shown, total, total, self.calls))
     }
 
-    /// Drops the entries of the ledger, which are added to the settled sums. The plain world, the events and each total stay,
-    /// and no memory is taken.
+    /// Drops the entries of the ledger, which are added to the settled sums. The plain world, the events and each total
+    /// stay, and no memory is taken.
     pub fn settle_ledger(&mut self)
         ensures settled { self.new ≡ with_ledger_settled self.old }
         ensures totals { HaveSameTotals (book_of self.new) (book_of self.old) }

@@ -1,4 +1,5 @@
-//! The constraints of a world as its islands ask for them: a sleeping island's from its solver sets, and a mover's from the ends and the contacts at it.
+//! The constraints of a world as its islands ask for them: a sleeping island's from its solver sets, and a mover's from
+//! the ends and the contacts at it.
 
 ghost use Rattle.std.specs.Prelude.{◌≡◌, ◌+◌, ◌++◌, ◌≤◌, length, slice_get, vec_capacity};
 ghost use Rattle.std.specs.List.{filter_map};
@@ -163,7 +164,8 @@ fn push_first_joints(
     }
 }
 
-/// Adds the ties of the contacts that have the body in a slot on one side, from the first of them on, and of which it is the first mover.
+/// Adds the ties of the contacts that have the body in a slot on one side, from the first of them on, and of which it
+/// is the first mover.
 fn push_firsts_from(
     list: &mut Vec<Member<Constraint>>,
     bodies: &[Option<Body>],

@@ -1,4 +1,5 @@
--- Motions given back and fat boxes made anew, from one slot to the next: first the movers', and then those of the bodies that are carried along.
+-- Motions given back and fat boxes made anew, from one slot to the next: first the movers', and then those of the
+-- bodies that are carried along.
 use Rattle.std.proofs.Common.{◌≡◌, ℕ, zero, suc, ◌+◌, ◌<◌, ◌≤◌, Bool, true, false, cond, not, List, [], ◌∷◌, ◌++◌, length, get_or, take, drop, Option, Some, None, pos, int_eq, arith, refl, sym, ap, ◌∙◌, subst, inl, inr, slice_set}
 use Rattle.std.specs.Option.{ForSome}
 use Rattle.std.proofs.lemmas.Bool.{cases_Bool}

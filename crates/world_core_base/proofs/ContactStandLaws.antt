@@ -179,7 +179,8 @@ contacts_none bodies numbered sets e f g = subst (λ (bs : List (Option Body)). 
 none_stands : (bodies : List (Option Body)) (o : Option NumberedContact) → o ≡ None → option_map (stand_of_contact bodies) o ≡ None
 none_stands bodies o e = ap (option_map (stand_of_contact bodies)) e
 
--- Once a change of the contacts is carried out, where what it ended stood in lists, and what stayed stands where it stood.
+-- Once a change of the contacts is carried out, where what it ended stood in lists, and what stayed stands where it
+-- stood.
 pub turned_by : (bodies : List (Option Body)) (old new : List (Option NumberedContact)) (made gone : List ℕ) (sets : Standings) → IsTurnover old new made gone → AreContactSets bodies old sets → ((number : ℕ) → Contains gone number → is_listed (contact_stand bodies old number) ≡ true)
     → ((number : ℕ) → (Contains made number → ⊥) → (Contains gone number → ⊥) → contact_stand bodies new number ≡ contact_stand bodies old number) → HaveTurned (stand_at sets.stands) (contact_stand bodies new) made gone
 turned_by bodies old new made gone sets turn are listed stay = record {
@@ -271,7 +272,8 @@ either_side slot (Some e) h = by (e.key.first.slot == slot) refl h
     by true t k = inl (ap Some (same_from e.key.first.slot slot t))
     by false t k = inr (ap Some (same_from e.key.second.slot slot k))
 
--- once those that have it on the first side have followed, and then those that have it on the second, all that have it have
+-- once those that have it on the first side have followed, and then those that have it on the second, all that have it
+-- have
 pub both_sides : (now : ℕ → Option Stand) (numbered : List (Option NumberedContact)) (slot : ℕ) (old mid new : List (Option Stand)) → HaveFollowed now (λ number. slot_at First numbered number ≡ Some slot) old mid → HaveFollowed now (λ number. slot_at Second numbered number ≡ Some slot) mid new
     → HaveFollowed now (λ number. is_contact_end slot (contact_at numbered number) ≡ true) old new
 both_sides now numbered slot old mid new f g = followed_then now (λ number. slot_at First numbered number ≡ Some slot) (λ number. slot_at Second numbered number ≡ Some slot) (λ number. is_contact_end slot (contact_at numbered number) ≡ true) old mid new (λ number own. either_side slot (contact_at numbered number) own) f g
@@ -310,7 +312,8 @@ apart_listed false = refl
 contact_as : (bodies : List (Option Body)) (c d : NumberedContact) → d.key ≡ c.key → d.touching ≡ c.touching → stand_of_contact bodies d ≡ stand_of_contact bodies c
 contact_as bodies c d keys touch = λ i. cond (touch i) (stand_between (body_stand bodies (keys i).first.slot) (body_stand bodies (keys i).second.slot)) (stand_apart (body_stand bodies (keys i).first.slot) (body_stand bodies (keys i).second.slot))
 
--- Once a change of the contacts is carried out, what it ended stands in lists, and what stayed stands where it is to stand.
+-- Once a change of the contacts is carried out, what it ended stands in lists, and what stayed stands where it is to
+-- stand.
 pub contacts_turned : (bodies : List (Option Body)) (before after : List ContactEntry) (old new : List (Option NumberedContact)) (made gone : List ℕ) (sets : Standings) → AreNumbered before old → AreNumbered after new → IsTurnover old new made gone → AreTurned bodies before after
     → AreContactSets bodies old sets → HaveTurned (stand_at sets.stands) (contact_stand bodies new) made gone
 contacts_turned bodies before after old new made gone sets was is turn up are =

@@ -1,4 +1,5 @@
--- Two lists of slots, both ascending, passed from the lesser slot to the greater: those whose states pass a test are listed in one.
+-- Two lists of slots, both ascending, passed from the lesser slot to the greater: those whose states pass a test are
+-- listed in one.
 use Rattle.std.proofs.Common.{◌≡◌, ℕ, zero, suc, ◌+◌, ◌<◌, ◌≤◌, Bool, true, false, cond, List, [], ◌∷◌, ◌++◌, length, get_or, take, nat_lt, arith, refl, sym, ap, ◌∙◌, inl, inr}
 use Rattle.std.specs.Prelude.{◌⊎◌}
 use Rattle.std.proofs.lemmas.Bool.{cases_Bool, cases_lt}

@@ -1,4 +1,5 @@
--- What rows give back to the contacts is what the definition has made of them: the impulses of the points, and nothing else.
+-- What rows give back to the contacts is what the definition has made of them: the impulses of the points, and nothing
+-- else.
 use Rattle.std.proofs.Common.{◌≡◌, ◌≢◌, inl, inr, ℕ, suc, ◌==◌, Bool, true, false, cond, List, [], ◌∷◌, map, Option, Some, None, All, pos, refl, sym, ap, ◌∙◌, subst}
 use Rattle.std.specs.Prelude.{option_map}
 use Rattle.std.specs.List.{slice_get, filter_map, cons_option}

@@ -1,4 +1,5 @@
--- Joints by slot in a step: a joint that is put back, its row, its bodies, and the impulses that rows give back to joints.
+-- Joints by slot in a step: a joint that is put back, its row, its bodies, and the impulses that rows give back to
+-- joints.
 use Rattle.std.proofs.Common.{◌≡◌, ◌≢◌, ◌⊎◌, inl, inr, ℕ, zero, suc, List, [], ◌∷◌, map, Option, Some, None, All, pos, refl, sym, ap, ◌∙◌, subst, slice_set}
 use Rattle.std.specs.Prelude.{option_map}
 use Rattle.std.specs.List.{slice_get, filter_map, cons_option}

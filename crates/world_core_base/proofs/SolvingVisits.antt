@@ -255,7 +255,8 @@ sums_idle e sums = ap (λ (g : Gain). with_sum g sums) (none_given e) ∙ ap (λ
 
 -- ---- one visit
 
--- The visit of a row is what the definition makes of its joint or its contact; a contact that doesn't touch is left alone, and of a joint the impulse changes alone.
+-- The visit of a row is what the definition makes of its joint or its contact; a contact that doesn't touch is left
+-- alone, and of a joint the impulse changes alone.
 pub record IsVisitAlike (f : Visits) (j : JointRow → Ends → JointAfter) (g : ContactRow → Ends → RowAfter ContactRow) : Type 0 where
   pub alike : (key : ContactKey) (e : ContactEntry) (begun now : Ends) (r : ContactRow) → contact_row (bodies_of key e.surface) begun e.contact ≡ Some r → AreMovedFrom begun now
       → IsRowOf (bodies_of key e.surface) begun (f.contact e begun now) (g r now)

@@ -1,4 +1,5 @@
--- The states by slot, and the slots of the movers and of the bodies that are carried along: what a step goes over, kept beside the bodies.
+-- The states by slot, and the slots of the movers and of the bodies that are carried along: what a step goes over, kept
+-- beside the bodies.
 use Rattle.std.specs.Prelude.{◌≡◌, ℕ, ◌≤◌, ◌^◌, cond, nat_lt, List, [], ◌∷◌, ◌++◌, length, Option, slice_set, ◌+◌, Bool}
 use Rattle.fixed_geom.specs.declared.boxes.Box2.{Box2}
 use Rattle.momenta.specs.declared.state.BodyState.{BodyState}
@@ -14,8 +15,9 @@ use Rattle.world_core_base.specs.Stands.{AreStands}
 abbrev pub with_state : List BodyState → ℕ → BodyState → List BodyState
 with_state states slot s = cond (nat_lt slot (length states)) (slice_set states slot s) (states ++ s ∷ [])
 
--- what contracts see of a table of bodies: the bodies by slot, for how many more there is room, the marks by slot (`Marked`) and the boxes
--- by slot that hold the fat boxes (`Covers`), and whether edits of the lists that a step goes over may be put off (`pending`): if it is 0, none is
+-- what contracts see of a table of bodies: the bodies by slot, for how many more there is room, the marks by slot
+-- (`Marked`) and the boxes by slot that hold the fat boxes (`Covers`), and whether edits of the lists that a step goes
+-- over may be put off (`pending`): if it is 0, none is
 pub record Bodies : Type 0 where
   pub bodies : List (Option Body)
   pub room : ℕ
@@ -23,10 +25,11 @@ pub record Bodies : Type 0 where
   pub boxes : List (Option Box2)
   pub pending : ℕ
 
--- What a table keeps beside its bodies: their states, the slots of the awake movers and of the bodies that are carried along, and room in each of its lists. No slot is beyond 32 bits. The two lists of slots
--- have room for all bodies, so that those that wake and those that are enabled take no memory; and there is a mark or none for each body and for each that is to come;
--- the box of each slot with a body holds the body's fat boxes. The sets have each body where it stands, with room for all bodies and for
--- the names of their slots.
+-- What a table keeps beside its bodies: their states, the slots of the awake movers and of the bodies that are carried
+-- along, and room in each of its lists. No slot is beyond 32 bits. The two lists of slots have room for all bodies, so
+-- that those that wake and those that are enabled take no memory; and there is a mark or none for each body and for
+-- each that is to come; the box of each slot with a body holds the body's fat boxes. The sets have each body where it
+-- stands, with room for all bodies and for the names of their slots.
 pub record IsBodyTable (bodies : List (Option Body)) (ss : List BodyState) (awake carried : Listing) (sets : Standings) (marks : List Bool) (boxes : List (Option Box2)) (room bodies_left states_left : ℕ) : Type 0 where
   pub states : ss ≡ states_of bodies
   pub movers : AreListed moves ss awake

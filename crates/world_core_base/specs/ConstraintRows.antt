@@ -1,4 +1,5 @@
--- Trusted: The rows of a step's constraints, gathered from joints and contacts in solve order, and written back to them.
+-- Trusted: The rows of a step's constraints, gathered from joints and contacts in solve order, and written back to
+-- them.
 use Rattle.std.specs.Prelude.{◌≡◌, ℕ, ◌<◌, ◌≢◌, List, [], ◌∷◌, length, All, Option, Some, None, option_map, slice_index_or}
 use Rattle.std.specs.List.{filter_map, flat_map}
 use Rattle.momenta.specs.declared.state.BodyState.{BodyState}

@@ -1,4 +1,5 @@
--- Trusted: What holds of the contacts of a world: their bodies are there and differ, one of them moves, and their numbers are in range.
+-- Trusted: What holds of the contacts of a world: their bodies are there and differ, one of them moves, and their
+-- numbers are in range.
 use Rattle.std.specs.Prelude.{◌≡◌, ◌<◌, ◌⊎◌, ◌≢◌, true, List, length, All, Option}
 use Rattle.contacts_base.specs.declared.contact.ContactEntry.{ContactEntry}
 use Rattle.contacts_base.specs.Limits.{IsContact}

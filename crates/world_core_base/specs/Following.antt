@@ -1,4 +1,5 @@
--- Items that go where they stand now, one after the other: one that slept wakes with all of its set; and items that come and go.
+-- Items that go where they stand now, one after the other: one that slept wakes with all of its set; and items that
+-- come and go.
 use Rattle.std.specs.Prelude.{◌≡◌, ◌⊎◌, ◌<◌, ℕ, true, List, length, map, Contains, Option, Some, None, is_some, slice_set}
 use Rattle.packed_sets.specs.declared.stands.Stand.{Stand}
 use Rattle.packed_sets.specs.declared.stands.Stand.TheVariants.{Static, Disabled, Awake, Carried, Sleeping}
@@ -28,7 +29,8 @@ woken_if (Some Awake) name stands = map (woken name) stands
 woken_if (Some Carried) name stands = stands
 woken_if (Some (Sleeping other)) name stands = stands
 
--- one that stands nowhere stays there, one that slept wakes with all of its set or sleeps on, and any other is put where it is to stand
+-- one that stands nowhere stays there, one that slept wakes with all of its set or sleeps on, and any other is put
+-- where it is to stand
 abbrev pub followed_from : Option Stand → Option Stand → ℕ → List (Option Stand) → List (Option Stand)
 followed_from None now id stands = stands
 followed_from (Some Static) now id stands = placed now id stands
@@ -42,15 +44,16 @@ followed now id stands = followed_from (stand_at stands id) now id stands
 
 -- ---- many items
 
--- The same items stand somewhere as before. Whoever sleeps sleeps on or is awake, and those of one set do so together. Nobody falls
--- asleep into a set that wakes. There is room for all names.
+-- The same items stand somewhere as before. Whoever sleeps sleeps on or is awake, and those of one set do so together.
+-- Nobody falls asleep into a set that wakes. There is room for all names.
 pub record CanFollow (old now : ℕ → Option Stand) (names : ℕ) : Type 0 where
   pub there : (id : ℕ) → is_some (now id) ≡ is_some (old id)
   pub keeps : (id name : ℕ) → old id ≡ Some (Sleeping name) → (now id ≡ Some (Sleeping name)) ⊎ (now id ≡ Some Awake)
   pub whole : (id other name : ℕ) → old id ≡ Some (Sleeping name) → now other ≡ Some (Sleeping name) → now id ≡ Some (Sleeping name)
   pub named : (id name : ℕ) → now id ≡ Some (Sleeping name) → name < names
 
--- once some items have followed: the sets have each where it stood or where it stands now, and those that are done where they stand now
+-- once some items have followed: the sets have each where it stood or where it stands now, and those that are done
+-- where they stand now
 pub record HaveFollowed (now : ℕ → Option Stand) (Done : ℕ → Type 0) (old new : List (Option Stand)) : Type 0 where
   pub each : (id : ℕ) → (stand_at new id ≡ stand_at old id) ⊎ (stand_at new id ≡ now id)
   pub done : (id : ℕ) → Done id → stand_at new id ≡ now id
@@ -63,8 +66,8 @@ abbrev pub stand_or : Option Stand → Option Stand → Option Stand
 stand_or None now = now
 stand_or (Some stand) now = Some stand
 
--- Some items have gone, and others have come. Those that have gone are in lists, and are to stand nowhere; those that have come stand nowhere; and all others stand
--- where they are to stand.
+-- Some items have gone, and others have come. Those that have gone are in lists, and are to stand nowhere; those that
+-- have come stand nowhere; and all others stand where they are to stand.
 pub record HaveTurned (old now : ℕ → Option Stand) (made gone : List ℕ) : Type 0 where
   pub listed : (id : ℕ) → Contains gone id → is_listed (old id) ≡ true
   pub over : (id : ℕ) → Contains gone id → now id ≡ None

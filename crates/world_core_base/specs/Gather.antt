@@ -1,4 +1,5 @@
--- Trusted: what a step works on in dense arrays, gathered from the bodies, the contacts and their colours, and written back.
+-- Trusted: what a step works on in dense arrays, gathered from the bodies, the contacts and their colours, and written
+-- back.
 use Rattle.std.specs.Prelude.{◌≡◌, ℕ, ◌<◌, ◌⊎◌, ◌≢◌, true, List, [], ◌∷◌, length, map, All, Option, Some, None, option_map, slice_index_or}
 use Rattle.momenta.specs.Reciprocals.{reciprocals_of}
 use Rattle.momenta.specs.declared.state.BodyState.{BodyState}

@@ -1,4 +1,5 @@
--- The ends of joints by body: the set of a body has the ids of the ends that stand at it, 2 s for the first end of the joint in the slot s, and 2 s + 1 for its second.
+-- The ends of joints by body: the set of a body has the ids of the ends that stand at it, 2 s for the first end of the
+-- joint in the slot s, and 2 s + 1 for its second.
 use Rattle.std.specs.Prelude.{◌≡◌, ℕ, ◌+◌, ◌*◌, ◌/◌, ◌^◌, ◌<◌, ◌≤◌, ◌==◌, cond, List, map, length, Option, Some, None, IfSome, count_by, option_map}
 use Rattle.packed_sets.specs.Packs.{Packs, capacity_at, list_at}
 use Rattle.plain_world.specs.declared.joint.BodyJoint.{BodyJoint}

@@ -1,4 +1,5 @@
--- The slots of a group of bodies, in a list that need not be up to date: slots that may have come to be listed stand beside it, and what is listed beside those of the group means nothing.
+-- The slots of a group of bodies, in a list that need not be up to date: slots that may have come to be listed stand
+-- beside it, and what is listed beside those of the group means nothing.
 use Rattle.std.specs.Prelude.{◌≡◌, ◌⊎◌, ℕ, ◌<◌, ◌≤◌, Bool, true, List, length, slice_index_or}
 use Rattle.std.specs.List.{AllPairs}
 use Rattle.momenta.specs.declared.state.BodyState.{BodyState}
@@ -21,8 +22,8 @@ pub record IsIn (slots : List ℕ) (first slot : ℕ) : Type 0 where
   pub below : place < length slots
   pub is : slice_index_or slots place 0 ≡ slot
 
--- what contracts see of such a list: the slots that are listed and those beside them, for how many bodies in all it has room, and whether it may be out of date:
--- if `pending` is 0, it isn't
+-- what contracts see of such a list: the slots that are listed and those beside them, for how many bodies in all it has
+-- room, and whether it may be out of date: if `pending` is 0, it isn't
 pub record Listing : Type 0 where
   pub slots : List ℕ
   pub added : List ℕ

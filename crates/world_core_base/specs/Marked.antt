@@ -1,4 +1,5 @@
--- Slots that are marked: those whose body has come or gone, or shows the broad phase other shapes than when the marks were last taken away.
+-- Slots that are marked: those whose body has come or gone, or shows the broad phase other shapes than when the marks
+-- were last taken away.
 use Rattle.std.specs.Prelude.{◌≡◌, ℕ, Bool, true, false, List, Option, Some, None, slice_index_or}
 use Rattle.plain_world.specs.declared.body.Body.{Body}
 use Rattle.plain_world.specs.Shown.{IsShownAlike}

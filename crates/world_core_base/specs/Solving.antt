@@ -1,5 +1,6 @@
--- Trusted: What a step does to the bodies, the joints and the contacts: passes over the active constraints in solve order and passes over the bodies, and
--- what each adds to the movers' momentum. Bodies and joints stand by slot and contacts by key, and nothing is computed before it is used.
+-- Trusted: What a step does to the bodies, the joints and the contacts: passes over the active constraints in solve
+-- order and passes over the bodies, and what each adds to the movers' momentum. Bodies and joints stand by slot and
+-- contacts by key, and nothing is computed before it is used.
 use Rattle.std.specs.Prelude.{ℕ, zero, suc, ◌==◌, cond, List, [], ◌∷◌, Option, Some, None, option_map, map, fold, pos, ◌+ℤ◌, ◌-ℤ◌, slice_set}
 use Rattle.std.specs.List.{flat_map}
 use Rattle.std.specs.Option.{option_map_or}
@@ -30,14 +31,14 @@ use Rattle.plain_world.specs.Bodies.{is_awake, is_carried}
 use Rattle.plain_world.specs.Slots.{item_at}
 use Rattle.world_core_base.specs.Carried.{moved_to, solver_mass, solver_motion}
 
--- A body in a step: as it stood when the step began, and its motion now. The momenta of a body that isn't an awake mover are its course: its
--- velocity and its spin.
+-- A body in a step: as it stood when the step began, and its motion now. The momenta of a body that isn't an awake
+-- mover are its course: its velocity and its spin.
 pub record Moving : Type 0 where
   pub body : Body
   pub motion : Motion
 
--- The bodies by slot, the joints by slot, the contacts, ascending by key, and what was added to the movers' momentum since the step began: by gravity, by
--- immovable bodies, and by the speed limit with the edge of the world.
+-- The bodies by slot, the joints by slot, the contacts, ascending by key, and what was added to the movers' momentum
+-- since the step began: by gravity, by immovable bodies, and by the speed limit with the edge of the world.
 pub record Solving : Type 0 where
   pub bodies : List (Option Moving)
   pub joints : List (Option BodyJoint)
@@ -58,8 +59,8 @@ gain_between before after = record { x = after.p.x -ℤ before.p.x; y = after.p.
 
 -- ---- the bodies of a constraint
 
--- The body with a motion, as impulses act on it: those that aren't awake movers have the mass with which the momenta of a course are its velocity
--- and its spin.
+-- The body with a motion, as impulses act on it: those that aren't awake movers have the mass with which the momenta of
+-- a course are its velocity and its spin.
 abbrev pub state_with : Body → Motion → BodyState
 state_with b motion = record { movable = is_awake b; mass = solver_mass b; motion = motion; start = b.motion.x; reciprocals = reciprocals_of (solver_mass b) }
 
@@ -81,7 +82,8 @@ given_by_immovable before after = cond before.a.movable (cond before.b.movable n
 
 -- ---- the visit of one constraint
 
--- What a pass does at a joint, and what at a contact: each is told how its bodies stood when the step began, and how they are now.
+-- What a pass does at a joint, and what at a contact: each is told how its bodies stood when the step began, and how
+-- they are now.
 pub record Visits : Type 0 where
   pub joint : Joint → Ends → Ends → SolvedJoint
   pub contact : ContactEntry → Ends → Ends → SolvedContact
@@ -93,14 +95,16 @@ warm = record {
   contact = λ e start now. contact_warmed e.contact now;
 }
 
--- the impulses of the solver: a joint's along the line of its anchors, and at a contact each point's along its normal, and then friction
+-- the impulses of the solver: a joint's along the line of its anchors, and at a contact each point's along its normal,
+-- and then friction
 abbrev pub solve : Visits
 solve = record {
   joint = λ j start now. joint_solved start j now;
   contact = λ e start now. contact_solved e.surface.friction e.contact now;
 }
 
--- restitution: a part of the speed at which the bodies of a contact came together when the step began is given back; a joint has none
+-- restitution: a part of the speed at which the bodies of a contact came together when the step began is given back; a
+-- joint has none
 abbrev pub bounce : Visits
 bounce = record {
   joint = λ j start now. record { joint = j; ends = now };

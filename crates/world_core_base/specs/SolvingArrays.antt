@@ -1,5 +1,5 @@
--- Trusted: what a step works on in dense arrays is what the definition of a step says. The states of the bodies and the rows of the constraints
--- are gathered, the passes run over them, and motions and impulses are written back.
+-- Trusted: what a step works on in dense arrays is what the definition of a step says. The states of the bodies and the
+-- rows of the constraints are gathered, the passes run over them, and motions and impulses are written back.
 use Rattle.std.specs.Prelude.{◌≡◌, ◌≢◌, ℕ, true, List, Option, Some, None, All, is_some}
 use Rattle.std.specs.List.{AllPairs}
 use Rattle.fixed_geom.specs.declared.vectors.Vec2.{Vec2}

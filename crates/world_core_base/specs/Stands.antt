@@ -1,4 +1,5 @@
--- Where bodies stand, and what ties two of them, as sets of items have it: bodies and joints by slot, contacts by number.
+-- Where bodies stand, and what ties two of them, as sets of items have it: bodies and joints by slot, contacts by
+-- number.
 use Rattle.std.specs.Prelude.{◌≡◌, ℕ, ◌<◌, ◌≤◌, ◌==◌, ◌&&◌, ◌||◌, Bool, true, false, cond, Contains, List, length, Option, Some, None, option_map}
 use Rattle.packed_sets.specs.declared.stands.Stand.{Stand}
 use Rattle.packed_sets.specs.declared.stands.Stand.TheVariants as standing
@@ -95,7 +96,8 @@ stand_of_joint bodies j = stand_between (body_stand bodies j.a) (body_stand bodi
 abbrev pub joint_stand : List (Option Body) → List (Option BodyJoint) → ℕ → Option Stand
 joint_stand bodies joints slot = option_map (stand_of_joint bodies) (joint_at joints slot)
 
--- the sets have each joint where it stands by its bodies, and nothing else; a sleeping set may have the name of each body's slot
+-- the sets have each joint where it stands by its bodies, and nothing else; a sleeping set may have the name of each
+-- body's slot
 pub record AreJointSets (bodies : List (Option Body)) (joints : List (Option BodyJoint)) (sets : Standings) : Type 0 where
   pub stands : (slot : ℕ) → stand_at sets.stands slot ≡ joint_stand bodies joints slot
   pub names : length bodies ≤ sets.names
@@ -126,7 +128,8 @@ stand_of_contact bodies c = cond c.touching (stand_between (body_stand bodies c.
 abbrev pub contact_stand : List (Option Body) → List (Option NumberedContact) → ℕ → Option Stand
 contact_stand bodies numbered number = option_map (stand_of_contact bodies) (contact_at numbered number)
 
--- the sets have each contact, by its number, where it stands by its bodies, and nothing else; a sleeping set may have the name of each body's slot
+-- the sets have each contact, by its number, where it stands by its bodies, and nothing else; a sleeping set may have
+-- the name of each body's slot
 pub record AreContactSets (bodies : List (Option Body)) (numbered : List (Option NumberedContact)) (sets : Standings) : Type 0 where
   pub stands : (number : ℕ) → stand_at sets.stands number ≡ contact_stand bodies numbered number
   pub names : length bodies ≤ sets.names

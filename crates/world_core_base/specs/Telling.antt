@@ -14,7 +14,8 @@ abbrev pub asleep_in : Option Body → Option ℕ
 asleep_in None = None
 asleep_in (Some b) = b.asleep
 
--- labels by which whoever sleeps sleeps on or is awake, those that sleep under one name do so together, and nobody falls asleep under the name of who wakes
+-- labels by which whoever sleeps sleeps on or is awake, those that sleep under one name do so together, and nobody
+-- falls asleep under the name of who wakes
 pub record KeepTogether (labels : Labels) (bodies : List (Option Body)) : Type 0 where
   pub keeps : (slot name : ℕ) → asleep_in (body_at bodies slot) ≡ Some name → (sleeping_name (label_at labels slot) ≡ Some name) ⊎ (sleeping_name (label_at labels slot) ≡ None)
   pub whole : (slot other name : ℕ) → asleep_in (body_at bodies slot) ≡ Some name → sleeping_name (label_at labels other) ≡ Some name → sleeping_name (label_at labels slot) ≡ Some name

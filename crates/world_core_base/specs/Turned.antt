@@ -18,7 +18,8 @@ pub record AreAwakeStands (a b : Option Stand) : Type 0 where
 abbrev pub AreUpAt : List (Option Body) → ContactKey → Type 0
 AreUpAt bodies key = AreAwakeStands (body_stand bodies key.first.slot) (body_stand bodies key.second.slot)
 
--- What touched and doesn't any more stands in a list, and what begins or ends to touch, and is there, has movers that are awake.
+-- What touched and doesn't any more stands in a list, and what begins or ends to touch, and is there, has movers that
+-- are awake.
 pub record AreTurned (bodies : List (Option Body)) (before after : List ContactEntry) : Type 0 where
   pub ended : (key : ContactKey) → TouchesOnlyIn after before key → is_listed (Some (stand_between (body_stand bodies key.first.slot) (body_stand bodies key.second.slot))) ≡ true
   pub turned : (e : ContactEntry) → Contains after e → TouchesOnlyIn after before e.key ⊎ TouchesOnlyIn before after e.key → AreUpAt bodies e.key

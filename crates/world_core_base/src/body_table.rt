@@ -1,4 +1,5 @@
-//! The bodies of a world by slot, with where each stands, and what a step goes over: their states, and the movers' slots.
+//! The bodies of a world by slot, with where each stands, and what a step goes over: their states, and the movers'
+//! slots.
 
 mod from_bodies;
 
@@ -51,8 +52,8 @@ use plain_world::{
 use std::alloc::Global;
 use std::marker::Model;
 
-/// The bodies by slot, each slot marked whose body shows the broad phase other shapes than when the marks were last taken away. Contracts
-/// see the bodies, for how many more there is room, and the marks.
+/// The bodies by slot, each slot marked whose body shows the broad phase other shapes than when the marks were last
+/// taken away. Contracts see the bodies, for how many more there is room, and the marks.
 #[derive(Drop)]
 pub struct BodyTable {
     bodies: Vec<Option<Body>>,
@@ -104,7 +105,7 @@ fn renew_state(states: &mut Vec<BodyState>, bodies: &[Option<Body>], slot: usize
     states[slot] = crate::gather::state_of(&bodies[slot]);
 }
 
-/// Sees to n marks, where all but one are there at least: a new one is marked. Refused 1 where memory is wanting.
+/// Sees to n marks, where all but one are there at least: a new one is marked.
 fn reserve_mark(marks: &mut Marks, n: usize) -> Result<(), Refusal>
     requires { n ≤ length marks.old + 1 }
     ensures made { OnOk result (n ≤ length marks.new) }
@@ -125,7 +126,8 @@ fn are_few(count: usize, all: usize) -> bool
     count <= all / 2
 }
 
-/// Lists the slot, where its body is an awake mover or is carried along now, and takes it out where it isn't: that may be put off.
+/// Lists the slot, where its body is an awake mover or is carried along now, and takes it out where it isn't: that may
+/// be put off.
 fn relist(awake: &mut SlotList, carried: &mut SlotList, states: &[BodyState], slot: u32)
     requires few { length states.now ≤ 2 ^ 32 }
     requires for_awake { length states.now ≤ awake.old.capacity }
@@ -208,8 +210,8 @@ impl BodyTable {
         &self.marks
     }
 
-    /// Boxes by slot: that of each slot with a body holds the body's fat boxes, whether it is enabled or not. A slot without a body may have
-    /// a box or none.
+    /// Boxes by slot: that of each slot with a body holds the body's fat boxes, whether it is enabled or not. A slot
+    /// without a body may have a box or none.
     pub fn boxes(&self) -> &BoxTree
         ensures value { result.now ≡ self.now.boxes }
         ensures covered { AreCovered self.now.bodies result.now }
@@ -238,8 +240,8 @@ impl BodyTable {
         self.marks.clear();
     }
 
-    /// Brings the lists of the awake movers and of the bodies that are carried along up to date, after what came and went. It costs nothing where
-    /// nothing did, and takes no memory.
+    /// Brings the lists of the awake movers and of the bodies that are carried along up to date, after what came and
+    /// went. It costs nothing where nothing did, and takes no memory.
     pub fn flush(&mut self)
         ensures bodies { self.new.bodies ≡ self.old.bodies }
         ensures room { self.new.room ≡ self.old.room }
@@ -250,7 +252,7 @@ impl BodyTable {
         self.carried.flush(Group::Carried, &self.states);
     }
 
-    /// Makes room for a body that is to come into this slot. Refused 1 where memory is wanting.
+    /// Makes room for a body that is to come into this slot.
     pub fn reserve_one(&mut self, slot: u32, body: &Body) -> Result<(), Refusal>
         requires next { slot ≤ length self.old.bodies }
         requires free { body_at self.old.bodies slot ≡ None }
@@ -343,7 +345,8 @@ impl BodyTable {
         shift_to(&mut self.stands, slot, body_stand(&self.bodies, slot));
     }
 
-    /// Enables the body in a slot, if one is there, which is disabled: a mover is awake, and its timer 0. Takes no memory.
+    /// Enables the body in a slot, if one is there, which is disabled: a mover is awake, and its timer 0. Takes no
+    /// memory.
     pub fn enable(&mut self, slot: u32)
         requires slot { slot < length self.old.bodies }
         requires disabled { ForSome (body_at self.old.bodies slot) (λ b. b.enabled ≡ false) }
@@ -358,8 +361,9 @@ impl BodyTable {
         shift_to(&mut self.stands, slot, body_stand(&self.bodies, slot));
     }
 
-    /// Tells the bodies the labels of their islands: movers of a sleeping one are put to rest, and those of any other are awake. Answers what the
-    /// movers' momentum gains, since those that are put to rest lose theirs. Takes no memory.
+    /// Tells the bodies the labels of their islands: movers of a sleeping one are put to rest, and those of any other
+    /// are awake. Answers what the movers' momentum gains, since those that are put to rest lose theirs. Takes no
+    /// memory.
     pub fn tell(&mut self, islands: &Islands) -> Gain
         requires few { length self.old.bodies ≤ MAX_SLOTS }
         requires bodies { AreBodies self.old.bodies }
@@ -379,9 +383,10 @@ impl BodyTable {
         gain
     }
 
-    /// Tells the bodies in these slots the labels of their islands, where those in all other slots stay as they are when they are told, so
-    /// that all bodies are told then. A slot may be listed more than once, and may be that of no body. Answers what the movers' momentum
-    /// gains. It takes time by the slots that are listed alone, where these are few. Takes no memory.
+    /// Tells the bodies in these slots the labels of their islands, where those in all other slots stay as they are
+    /// when they are told, so that all bodies are told then. A slot may be listed more than once, and may be that of no
+    /// body. Answers what the movers' momentum gains. It takes time by the slots that are listed alone, where these are
+    /// few. Takes no memory.
     pub fn tell_some(&mut self, slots: &[u32], islands: &Islands) -> Gain
         requires few { length self.old.bodies ≤ MAX_SLOTS }
         requires bodies { AreBodies self.old.bodies }
@@ -428,7 +433,8 @@ impl BodyTable {
         gain
     }
 
-    /// Lets so many ticks pass: the timer of an awake mover that is slow grows by them, and that of any other awake mover begins anew.
+    /// Lets so many ticks pass: the timer of an awake mover that is slow grows by them, and that of any other awake
+    /// mover begins anew.
     pub fn time(&mut self, ticks: u64)
         requires bodies { AreBodies self.old.bodies }
         requires timers { AreTimersWithin (2 ^ 44) self.old.bodies }
@@ -446,9 +452,9 @@ impl BodyTable {
         time_bodies(&mut self.bodies, self.awake.as_slice(), ticks);
     }
 
-    /// Runs the ticks of a step, 0 to 8, and its restitution, over the movers, the bodies that are carried along, and the constraints in solve order;
-    /// fat boxes that their shapes have left are then made anew, and the slots of their bodies marked. Answers what was added to the movers'
-    /// momentum, by cause. The solver runs the ticks.
+    /// Runs the ticks of a step, 0 to 8, and its restitution, over the movers, the bodies that are carried along, and
+    /// the constraints in solve order; fat boxes that their shapes have left are then made anew, and the slots of their
+    /// bodies marked. Answers what was added to the movers' momentum, by cause. The solver runs the ticks.
     #[inline(never)]
     pub fn run<S: StepSolver>(
         &mut self,
@@ -496,7 +502,7 @@ impl BodyTable {
         sums
     }
 
-    /// A copy, with no room. Refused 1 where memory is wanting.
+    /// A copy, with no room.
     pub fn try_copy(&self) -> Result<BodyTable, Refusal>
         ensures copy { IfOk result (λ copied. copied.bodies ≡ self.now.bodies) }
         ensures marks { IfOk result (λ copied. copied.marks ≡ self.now.marks) }

@@ -77,7 +77,7 @@ fn add_stand(sets: &mut SolverSets, bodies: &BodyTable, contacts: &ContactTable,
     put_to(sets, number, contact_stand(bodies, contacts, number));
 }
 
-/// The sets with each of these contacts where it stands. Refused 1 where memory is wanting.
+/// The sets with each of these contacts where it stands.
 pub fn list_contact_stands(
     alloc: Global,
     bodies: &BodyTable,
@@ -128,8 +128,8 @@ fn put_contact_stands(sets: &mut SolverSets, bodies: &BodyTable, contacts: &Cont
     }
 }
 
-/// The sets once a change of the contacts is carried out: those that it ended leave, and those that it made stand where they stand by their bodies. All others
-/// stand there already. There is room for them.
+/// The sets once a change of the contacts is carried out: those that it ended leave, and those that it made stand where
+/// they stand by their bodies. All others stand there already. There is room for them.
 pub fn renew_contact_stands(sets: &mut SolverSets, bodies: &BodyTable, contacts: &ContactTable)
     requires turned { HaveTurned (stand_at sets.old.stands) (contact_stand bodies.now.bodies contacts.now.numbered) contacts.now.made contacts.now.gone }
     requires room { length contacts.now.numbered ≤ length sets.old.stands }

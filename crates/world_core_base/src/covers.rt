@@ -70,7 +70,8 @@ fn hull_of(fats: &[Box2]) -> Box2
     hull
 }
 
-/// Gives a slot that has a box or none this one. Refused 1 where memory is wanting, which it isn't where the slot has a box.
+/// Gives a slot that has a box or none this one. Refused 1 where memory is wanting, which it isn't where the slot has a
+/// box.
 fn put_box(boxes: &mut BoxTree, slot: u32, bounds: &Box2) -> Result<(), Refusal>
     requires { slot < length boxes.old }
     ensures put { OnOk result (boxes.new ≡ slice_set boxes.old slot (Some bounds.now)) }
@@ -101,7 +102,7 @@ fn allow(boxes: &mut BoxTree, slot: u32) -> Result<(), Refusal>
     boxes.grow()
 }
 
-/// Gives a slot a box that holds these; it may be the first slot that none is allowed for yet. Refused 1 where memory is wanting.
+/// Gives a slot a box that holds these; it may be the first slot that none is allowed for yet.
 pub(crate) fn cover(boxes: &mut BoxTree, slot: u32, fats: &[Box2]) -> Result<(), Refusal>
     requires { slot ≤ length boxes.old }
     ensures covered { OnOk result (IsCover (box_at boxes.new slot) fats.now) }
@@ -150,7 +151,7 @@ pub(crate) fn cover_again(boxes: &mut BoxTree, slot: u32, entry: &Option<Body>, 
     }
 }
 
-/// Gives the next slot a box that holds the fat boxes of its body, if one is there. Refused 1 where memory is wanting.
+/// Gives the next slot a box that holds the fat boxes of its body, if one is there.
 fn cover_next(boxes: &mut BoxTree, slot: u32, entry: &Option<Body>) -> Result<(), Refusal>
     requires { slot ≤ length boxes.old }
     ensures room { OnOk result (slot < length boxes.new) }
@@ -165,7 +166,7 @@ fn cover_next(boxes: &mut BoxTree, slot: u32, entry: &Option<Body>) -> Result<()
     }
 }
 
-/// Boxes by slot that hold the fat boxes of these bodies. Refused 1 where memory is wanting.
+/// Boxes by slot that hold the fat boxes of these bodies.
 pub(crate) fn cover_all(alloc: Global, bodies: &[Option<Body>]) -> Result<BoxTree, Refusal>
     requires { length bodies.now ≤ MAX_SLOTS }
     ensures covered { IfOk result (λ boxes. AreCovered bodies.now boxes) }

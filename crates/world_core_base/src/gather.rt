@@ -1,4 +1,5 @@
-//! What a step works on: the bodies by slot, and the joints and the touching contacts in solve order, gathered when it begins.
+//! What a step works on: the bodies by slot, and the joints and the touching contacts in solve order, gathered when it
+//! begins.
 
 ghost use Rattle.std.specs.Prelude.{◌≡◌, ◌<◌, ◌≤◌, ◌≢◌, ◌⊎◌, ◌+◌, ◌^◌, ◌++◌, ◌∷◌, [], All, Option, Some, length, map, option_map, slice_index_or, take};
 ghost use Rattle.std.specs.Option.{ForSome, option_to_list};
@@ -29,7 +30,8 @@ use joint_rows::JointRow;
 use momenta::{BodyState, Ends, MassData, Motion, NOBODY, reciprocals_of};
 use plain_world::{Body, BodyJoint};
 
-/// The mass of a body that is carried along: with it the momentum is the velocity itself, and the angular momentum the spin.
+/// The mass of a body that is carried along: with it the momentum is the velocity itself, and the angular momentum the
+/// spin.
 const CARRIER: MassData = MassData {
     mass: 1,
     inertia: UNIT,
@@ -148,7 +150,8 @@ fn row_in(
     contact_row(bodies_of(key, surface), contact, &ends)
 }
 
-/// The row of a constraint, if it is a contact that touches. The contact is looked for from `hint` on, which becomes where it was found.
+/// The row of a constraint, if it is a contact that touches. The contact is looked for from `hint` on, which becomes
+/// where it was found.
 #[tactic(auto, unfolding(crate::specs::Gather::row_of))]
 #[inline(always)]
 fn row_of(
@@ -195,7 +198,8 @@ fn push_place(places: &mut Vec<usize>, place: usize) {
     }
 }
 
-/// Adds a contact's row, if there is one, for which there is room, and notes beside it the place where the contact was found.
+/// Adds a contact's row, if there is one, for which there is room, and notes beside it the place where the contact was
+/// found.
 #[inline(always)]
 fn push_contact(rows: &mut Rows, row: Option<ContactRow>, places: &mut Vec<usize>, place: usize)
     requires { 1 ≤ rows.old.room }
@@ -210,8 +214,8 @@ fn push_contact(rows: &mut Rows, row: Option<ContactRow>, places: &mut Vec<usize
     }
 }
 
-/// Adds the row of a constraint, for which there is room: of a joint, or of a contact that touches, which is looked for from `hint` on, and the place
-/// where it was found.
+/// Adds the row of a constraint, for which there is room: of a joint, or of a contact that touches, which is looked for
+/// from `hint` on, and the place where it was found.
 /// The numbers of all joints are below 2^80, and those of all contacts aren't, so that joints come first.
 #[inline(always)]
 fn add_row(
@@ -246,7 +250,8 @@ fn add_row(
     }
 }
 
-/// Gathers the constraints of one colour, ascending, for which there is room, and the places of its contacts; the colour has none yet.
+/// Gathers the constraints of one colour, ascending, for which there is room, and the places of its contacts; the
+/// colour has none yet.
 fn gather_colour(
     rows: &mut Rows,
     states: &[BodyState],
@@ -274,9 +279,10 @@ fn gather_colour(
     }
 }
 
-/// Gathers the active constraints in solve order, for which there is room: colour after colour, and the overflow last. Each row stands in its
-/// constraint's colour. Beside the row of each contact stands in `places`, as far as there is room, the place of the long list where the contact was
-/// found: a hint for whoever looks for it again, of which nothing is promised.
+/// Gathers the active constraints in solve order, for which there is room: colour after colour, and the overflow last.
+/// Each row stands in its constraint's colour. Beside the row of each contact stands in `places`, as far as there is
+/// room, the place of the long list where the contact was found: a hint for whoever looks for it again, of which
+/// nothing is promised.
 #[tactic(auto, unfolding(crate::specs::ConstraintRows::rows_of))]
 pub fn gather_rows(
     rows: &mut Rows,

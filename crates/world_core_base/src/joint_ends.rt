@@ -1,6 +1,7 @@
 //! The ends of joints, by body.
 //!
-//! The set of a body has the ids of the ends that stand at it: twice a joint's slot for its first end, and one more for its second.
+//! The set of a body has the ids of the ends that stand at it: twice a joint's slot for its first end, and one more for
+//! its second.
 
 ghost use Rattle.std.specs.Prelude.{◌≡◌, ◌<◌, ◌≤◌, ◌+◌, ◌*◌, ◌/◌, ◌↔◌, ℕ, List, Option as TheOption, IfOk, OnOk, Contains, None, length, slice_set};
 ghost use Rattle.std.specs.List.Sorted.{IsStrictlyIncreasing};
@@ -32,7 +33,7 @@ pub(crate) fn ends_of(joint: &BodyJoint) -> Ends
     }
 }
 
-/// Makes room for two ends in the set of a body. Refused 1 where memory is wanting.
+/// Makes room for two ends in the set of a body.
 fn reserve_at(sets: &mut PackedSets<u32>, body: u32) -> Result<(), Refusal>
     ensures made { OnOk result (HasRoomAt body sets.new) }
     ensures kept { (other : ℕ) → HasRoomAt other sets.old → HasRoomAt other sets.new }
@@ -44,7 +45,7 @@ fn reserve_at(sets: &mut PackedSets<u32>, body: u32) -> Result<(), Refusal>
     Ok(())
 }
 
-/// Makes room for the ends of a joint in a slot. Refused 1 where memory is wanting.
+/// Makes room for the ends of a joint in a slot.
 pub(crate) fn reserve_ends(
     sets: &mut PackedSets<u32>,
     slot: usize,
@@ -82,7 +83,7 @@ pub(crate) fn drop_ends(sets: &mut PackedSets<u32>, slot: u32)
     sets.remove(2 * slot + 1);
 }
 
-/// The slots of the joints with these ends, in the ends' order. Refused 1 where memory is wanting.
+/// The slots of the joints with these ends, in the ends' order.
 fn list_halves(alloc: Global, ends: &[u32]) -> Result<Vec<u32>, Refusal>
     ensures slots { IfOk result (λ slots. slots.items ≡ halves ends.now) }
     ensures memory_only { IsOkUnless result Refusal.NoMemory }
@@ -94,7 +95,7 @@ fn list_halves(alloc: Global, ends: &[u32]) -> Result<Vec<u32>, Refusal>
     Ok(slots)
 }
 
-/// The slots of the joints with these ends, ascending, each once. Refused 1 where memory is wanting.
+/// The slots of the joints with these ends, ascending, each once.
 pub(crate) fn list_slots(alloc: Global, ends: &[u32]) -> Result<Vec<u32>, Refusal>
     ensures rising { IfOk result (λ slots. IsStrictlyIncreasing slots.items) }
     ensures slots { IfOk result (λ slots. (slot : ℕ) → Contains slots.items slot ↔ Contains (halves ends.now) slot) }

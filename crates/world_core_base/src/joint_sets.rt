@@ -31,7 +31,7 @@ fn add_stand(
     }
 }
 
-/// The sets with each of these joints where it stands. Refused 1 where memory is wanting.
+/// The sets with each of these joints where it stands.
 pub fn list_joint_stands(
     alloc: Global,
     bodies: &[Option<Body>],

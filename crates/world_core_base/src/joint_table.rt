@@ -25,7 +25,8 @@ use plain_world::{Body, BodyJoint, clear_slot, put_item};
 use std::alloc::Global;
 use std::marker::Model;
 
-/// The joints by slot. Contracts see what each slot contains (`joints`), and the two bodies for a joint of which there is room (`room`).
+/// The joints by slot. Contracts see what each slot contains (`joints`), and the two bodies for a joint of which there
+/// is room (`room`).
 #[derive(Drop)]
 pub struct JointTable {
     joints: Vec<Option<BodyJoint>>,
@@ -100,7 +101,7 @@ impl JointTable {
         }
     }
 
-    /// A copy of its own. Refused 1 where memory is wanting.
+    /// A copy of its own.
     pub fn try_copy(&self) -> Result<JointTable, Refusal>
         ensures copy { IfOk result (λ copied. copied.joints ≡ self.now.joints) }
         ensures memory_only { IsOkUnless result Refusal.NoMemory }
@@ -120,7 +121,7 @@ impl JointTable {
         self.joints.as_slice()
     }
 
-    /// The slots of the joints that have the body in a slot as an end, ascending. Costs by how many there are. Refused 1 where memory is wanting.
+    /// The slots of the joints that have the body in a slot as an end, ascending. Costs by how many there are.
     pub fn slots_of(&self, body: u32) -> Result<Vec<u32>, Refusal>
         ensures slots { IfOk result (λ slots. slots.items ≡ own_slots body self.now.joints) }
         ensures memory_only { IsOkUnless result Refusal.NoMemory }
@@ -129,7 +130,8 @@ impl JointTable {
         Ok(slots)
     }
 
-    /// The ends of joints at the body in a slot, in no order: twice the slot of a joint for its first end, and one more for its second.
+    /// The ends of joints at the body in a slot, in no order: twice the slot of a joint for its first end, and one more
+    /// for its second.
     pub fn ends(&self, body: u32) -> &[u32]
         ensures all { (slot : ℕ) → is_end_in body (joint_at self.now.joints slot) ≡ true → Contains (halves result.now) slot }
         ensures only { (slot : ℕ) → Contains (halves result.now) slot → is_end_in body (joint_at self.now.joints slot) ≡ true }
@@ -138,8 +140,8 @@ impl JointTable {
         self.ends.members(body)
     }
 
-    /// Moves the joints of the bodies in these slots to where they stand now, in the sets of the joints. All others stand where they stood.
-    /// Costs by how many they are. Takes no memory.
+    /// Moves the joints of the bodies in these slots to where they stand now, in the sets of the joints. All others
+    /// stand where they stood. Costs by how many they are. Takes no memory.
     pub fn follow(&self, sets: &mut SolverSets, bodies: &[Option<Body>], slots: &[u32])
         requires can { CanFollow (stand_at sets.old.stands) (joint_stand bodies.now self.now.joints) sets.old.names }
         requires others { (slot : ℕ) → IsOfNone slots.now (joint_at self.now.joints slot) → joint_stand bodies.now self.now.joints slot ≡ stand_at sets.old.stands slot }
@@ -150,7 +152,7 @@ impl JointTable {
         follow_joints(sets, &self.ends, &self.joints, bodies, slots);
     }
 
-    /// Makes room for this joint. Refused 1 where memory is wanting.
+    /// Makes room for this joint.
     pub fn reserve_for(&mut self, joint: &BodyJoint) -> Result<(), Refusal>
         ensures joints { self.new.joints ≡ self.old.joints }
         ensures room { OnOk result (self.new.room ≡ Some (ends_of joint.now)) }

@@ -64,7 +64,8 @@ fn is_before(slots: &[u32], place: usize, added: &[u32], other: usize) -> bool
     slots[place] <= added[other]
 }
 
-/// Lists the slot behind the others, if a body of the group is in it and all slots below `end` are done. Answers below which slot all are done then.
+/// Lists the slot behind the others, if a body of the group is in it and all slots below `end` are done. Answers below
+/// which slot all are done then.
 fn list_slot(
     list: &mut Vec<u32>,
     group: Group,

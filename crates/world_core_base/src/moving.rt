@@ -1,5 +1,5 @@
-//! The bodies as a step leaves them: the motion of each awake mover and of each body that is carried along, and the fat boxes that its
-//! shapes have left.
+//! The bodies as a step leaves them: the motion of each awake mover and of each body that is carried along, and the fat
+//! boxes that its shapes have left.
 
 ghost use Rattle.std.specs.Prelude.{◌≡◌, ◌<◌, None, cond, false, length, slice_index_or, slice_set};
 ghost use Rattle.std.specs.Option.{ForSome};
@@ -41,7 +41,8 @@ fn put_motion(body: &mut Body, state: &BodyState)
     body.motion.rot = state.motion.rot;
 }
 
-/// Gives a body its motion, and makes its fat boxes anew that its shapes have left. Answers whether there was such a box.
+/// Gives a body its motion, and makes its fat boxes anew that its shapes have left. Answers whether there was such a
+/// box.
 fn move_body(body: &mut Body, state: &BodyState) -> bool
     requires { FitsState state.now body.old }
     ensures moved { body.new ≡ with_renewed (with_motion state.now body.old) }
@@ -73,7 +74,8 @@ fn begin_there(state: &mut BodyState)
     state.start = state.motion.x;
 }
 
-/// Gives the body in a slot the motion that the ticks have left it, and marks the slot where its fat boxes were made anew.
+/// Gives the body in a slot the motion that the ticks have left it, and marks the slot where its fat boxes were made
+/// anew.
 fn move_slot(
     bodies: &mut Vec<Option<Body>>,
     states: &mut Vec<BodyState>,
@@ -99,9 +101,9 @@ fn move_slot(
     cover_again(boxes, slot, &bodies[place], made);
 }
 
-/// Gives each awake mover and each body that is carried along, whose slots are `awake` and `carried`, the motion that the ticks have
-/// left it, and makes its fat boxes anew that its shapes' tight boxes have left, whose slots are then marked and have other
-/// boxes. The states are then those of
+/// Gives each awake mover and each body that is carried along, whose slots are `awake` and `carried`, the motion that
+/// the ticks have left it, and makes its fat boxes anew that its shapes' tight boxes have left, whose slots are then
+/// marked and have other boxes. The states are then those of
 /// the bodies again.
 pub(crate) fn move_bodies(
     bodies: &mut Vec<Option<Body>>,

@@ -42,8 +42,9 @@ pub(crate) fn is_of_at(group: Group, states: &[BodyState], slot: u32) -> bool
     }
 }
 
-/// The slots of a group of bodies, ascending. A slot that comes or goes doesn't cost by how many others there are: the list is brought up to date by
-/// [`SlotList::flush`], and may have slots of no body of the group until then, while slots that have come stand beside it.
+/// The slots of a group of bodies, ascending. A slot that comes or goes doesn't cost by how many others there are: the
+/// list is brought up to date by [`SlotList::flush`], and may have slots of no body of the group until then, while
+/// slots that have come stand beside it.
 #[derive(Drop)]
 pub(crate) struct SlotList {
     slots: Vec<u32>,
@@ -83,8 +84,8 @@ fn note(added: &mut Vec<u32>, group: Group, states: &[BodyState], slot: u32) -> 
     room
 }
 
-/// Lists the slots of a group anew, where those of its bodies are listed or stand beside the list. The list before is left in `spare`, for which
-/// there is room.
+/// Lists the slots of a group anew, where those of its bodies are listed or stand beside the list. The list before is
+/// left in `spare`, for which there is room.
 fn renew(
     slots: &mut Vec<u32>,
     added: &mut Vec<u32>,
@@ -122,7 +123,7 @@ impl SlotList {
         }
     }
 
-    /// The slots of a group, with room for as many bodies as there are. Refused 1 where memory is wanting.
+    /// The slots of a group, with room for as many bodies as there are.
     pub fn from_states(
         alloc: Global,
         group: Group,
@@ -145,7 +146,7 @@ impl SlotList {
         })
     }
 
-    /// A copy with room for n bodies. Refused 1 where memory is wanting.
+    /// A copy with room for n bodies.
     pub fn try_copy(&self, alloc: Global, n: usize) -> Result<SlotList, Refusal>
         ensures slots { IfOk result (λ copied. copied.slots ≡ self.now.slots) }
         ensures listed { IfOk result (λ copied. (is : TheState → Bool) (states : List TheState) → AreListed is states self.now → AreListed is states copied) }
@@ -169,7 +170,7 @@ impl SlotList {
         self.slots.as_slice()
     }
 
-    /// Makes room for n bodies in all. Refused 1 where memory is wanting.
+    /// Makes room for n bodies in all.
     pub fn reserve(&mut self, n: usize) -> Result<(), Refusal>
         ensures made { OnOk result (n ≤ self.new.capacity) }
         ensures slots { self.new.slots ≡ self.old.slots }
@@ -197,8 +198,8 @@ impl SlotList {
         self.flushed = true;
     }
 
-    /// Lists the slot, where a body of the group is in it now, or takes it out: that is put off, but for where there is no room left to note it.
-    /// Takes no memory.
+    /// Lists the slot, where a body of the group is in it now, or takes it out: that is put off, but for where there is
+    /// no room left to note it. Takes no memory.
     pub fn relist(&mut self, group: Group, states: &[BodyState], slot: u32)
         requires few { length states.now ≤ 2 ^ 32 }
         requires room { length states.now ≤ self.old.capacity }

@@ -19,7 +19,7 @@ pub(crate) fn sort_once(slots: &mut Vec<u32>)
     slots.dedup();
 }
 
-/// Makes room for n slots in all. Refused 1 where memory is wanting.
+/// Makes room for n slots in all.
 pub(crate) fn reserve_in_all(slots: &mut Vec<u32>, n: usize) -> Result<(), Refusal>
     ensures made { OnOk result (n ≤ vec_capacity slots.new) }
     ensures items { slots.new.items ≡ slots.old.items }
@@ -30,7 +30,7 @@ pub(crate) fn reserve_in_all(slots: &mut Vec<u32>, n: usize) -> Result<(), Refus
     Ok(())
 }
 
-/// A copy with room for n slots in all. Refused 1 where memory is wanting.
+/// A copy with room for n slots in all.
 pub(crate) fn copy_in_room(alloc: Global, slots: &[u32], n: usize) -> Result<Vec<u32>, Refusal>
     ensures copy { IfOk result (λ copied. copied.items ≡ slots.now) }
     ensures room { IfOk result (λ copied. n ≤ vec_capacity copied) }

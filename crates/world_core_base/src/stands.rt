@@ -137,7 +137,7 @@ pub(crate) fn joint_stand(
 
 // ---- room
 
-/// Makes room in the sets for so many items, and for so many names. Refused 1 where memory is wanting.
+/// Makes room in the sets for so many items, and for so many names.
 pub(crate) fn reserve_stands(
     sets: &mut SolverSets,
     items: usize,

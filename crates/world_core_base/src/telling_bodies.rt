@@ -66,8 +66,8 @@ fn tell_slot(
     gain_between(before, momentum_in(&bodies[slot]))
 }
 
-/// Puts the movers of sleeping islands to rest, wakes those of the others, and takes all states anew. Answers what the movers' momentum
-/// gains: that of those that fall asleep is lost.
+/// Puts the movers of sleeping islands to rest, wakes those of the others, and takes all states anew. Answers what the
+/// movers' momentum gains: that of those that fall asleep is lost.
 pub(crate) fn tell_bodies(
     bodies: &mut Vec<Option<Body>>,
     states: &mut Vec<BodyState>,
@@ -91,8 +91,8 @@ pub(crate) fn tell_bodies(
     gain
 }
 
-/// Tells the body in a slot, if there is one, the label of its island, and keeps its state and the slots of the awake movers. Answers what
-/// the movers' momentum gains.
+/// Tells the body in a slot, if there is one, the label of its island, and keeps its state and the slots of the awake
+/// movers. Answers what the movers' momentum gains.
 fn tell_one(
     bodies: &mut Vec<Option<Body>>,
     states: &mut Vec<BodyState>,
@@ -122,8 +122,8 @@ fn tell_one(
     gain
 }
 
-/// Tells the bodies in these slots the labels of their islands, where those in all other slots stay as they are when they are told. Keeps
-/// the states and the slots of the awake movers. Answers what the movers' momentum gains.
+/// Tells the bodies in these slots the labels of their islands, where those in all other slots stay as they are when
+/// they are told. Keeps the states and the slots of the awake movers. Answers what the movers' momentum gains.
 pub(crate) fn tell_listed(
     bodies: &mut Vec<Option<Body>>,
     states: &mut Vec<BodyState>,

@@ -55,7 +55,8 @@ rested slept tags w h = record {
   contact = apart;
 }
 
--- the shapes that began to touch and those that ceased to, the bodies that fell asleep and those that woke, each list in its own order
+-- the shapes that began to touch and those that ceased to, the bodies that fell asleep and those that woke, each list
+-- in its own order
 abbrev pub events_of : List Tagged → World → List StepEvent
 events_of tags w = ((map (touched true tags w.plain) w.events.begin ++ map (touched false tags w.plain) w.events.end) ++ map (rested true tags w.plain) w.events.slept) ++ map (rested false tags w.plain) w.events.woke
 

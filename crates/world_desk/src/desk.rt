@@ -48,7 +48,8 @@ pub struct Desk {
     pub keeps: bool,
     /// The events that are kept, but for those of the last step where they are pending.
     pub log: Vec<StepEvent>,
-    /// Whether the events of the last step are to be kept, and aren't in `log` yet. No command was accepted after that step.
+    /// Whether the events of the last step are to be kept, and aren't in `log` yet. No command was accepted after that
+    /// step.
     pub pending: bool,
 }
 
@@ -72,7 +73,7 @@ impl Desk {
         }
     }
 
-    /// A copy of its world and of the tags, on a desk of its own, on which nothing else lies yet. Refused 1 where memory is wanting.
+    /// A copy of its world and of the tags, on a desk of its own, on which nothing else lies yet.
     pub fn try_copy(&self, alloc: Global) -> Result<Desk, Refusal>
         ensures world { IfOk result (λ copied. copied.world ≡ self.now.world) }
         ensures clear { IfOk result IsClear }
@@ -85,8 +86,9 @@ impl Desk {
         Ok(copied)
     }
 
-    /// Applies a command to the world, and keeps the events of a step that is accepted, where events are kept. A refused one changes nothing.
-    /// Refused as `WorldCore::apply`; and 1, before all else, where memory is wanting for the events of the step before.
+    /// Applies a command to the world, and keeps the events of a step that is accepted, where events are kept. A
+    /// refused one changes nothing. Refused as `WorldCore::apply`; and 1, before all else, where memory is wanting for
+    /// the events of the step before.
     pub fn apply(&mut self, alloc: Global, command: &Command) -> Result<Reply, Refusal>
         ensures { Applies command.now self.old result self.new }
     {
@@ -104,7 +106,7 @@ impl Desk {
         outcome
     }
 
-    /// Logs the events of the last step, if they are to be. Refused 1 where memory is wanting. No event is told otherwise then.
+    /// Logs the events of the last step, if they are to be. No event is told otherwise then.
     pub fn log_last(&mut self, alloc: Global) -> Result<(), Refusal>
         ensures logged { IsLogged self.old self.new }
         ensures log { OnOk result (self.new.log.items ≡ told self.old) }
@@ -132,14 +134,16 @@ impl Desk {
         self.keeps = keeps;
     }
 
-    /// The tag of a body; 0 where it was given none. That of a body that is gone stays until another one in its slot is given one.
+    /// The tag of a body; 0 where it was given none. That of a body that is gone stays until another one in its slot is
+    /// given one.
     pub fn tag_of(&self, body: Handle) -> u64
         ensures { result ≡ tag_of self.now.tags.items body }
     {
         tag_of(self.tags.as_slice(), body)
     }
 
-    /// Gives a body a tag in place of the one that it has, whether it lives or not. Refused 1 where memory is wanting, and then no tag has changed.
+    /// Gives a body a tag in place of the one that it has, whether it lives or not. Refused 1 where memory is wanting,
+    /// and then no tag has changed.
     pub fn set_tag(&mut self, alloc: Global, body: Handle, tag: u64) -> Result<(), Refusal>
         ensures tagged { OnOk result (IsTagged (tagged self.old.tags.items body tag) self.old self.new) }
         ensures refused { OnErr result (IsTagged self.old.tags.items self.old self.new) }
@@ -149,8 +153,8 @@ impl Desk {
         put_tag(&mut self.tags, body, tag)
     }
 
-    /// Saves the world: keeps its value as JSON, in place of the text that was kept. What was found and listed stays. Refused 1 where memory is
-    /// wanting, and then the old text stays too.
+    /// Saves the world: keeps its value as JSON, in place of the text that was kept. What was found and listed stays.
+    /// Refused 1 where memory is wanting, and then the old text stays too.
     pub fn save(&mut self, alloc: Global) -> Result<(), Refusal>
         ensures text { OnOk result (IsTextOf (value_of self.old.world.plain (totals_of (book_of self.old.world))) (string_bytes self.new.saved)) }
         ensures kept { self.new ≡ record self.old { saved = self.new.saved } }
@@ -161,8 +165,8 @@ impl Desk {
         Ok(())
     }
 
-    /// The world of a text in UTF-8, as `save` keeps it. Whoever is refused learns why: there is no JSON in the bytes, memory was wanting, or
-    /// which clause of the format is broken first. Nothing lies on the desk yet.
+    /// The world of a text in UTF-8, as `save` keeps it. Whoever is refused learns why: there is no JSON in the bytes,
+    /// memory was wanting, or which clause of the format is broken first. Nothing lies on the desk yet.
     pub fn load(alloc: Global, text: &[u8]) -> Result<Desk, Unread>
         ensures loaded { IfOk result (λ desk. IsLoaded text.now desk.world) }
         ensures clear { IfOk result IsClear }
@@ -173,8 +177,9 @@ impl Desk {
         Ok(Desk::with(alloc, world))
     }
 
-    /// Keeps the shapes over a region, in u, in place of those that were kept; the text and the contacts stay. Refused 5 where its corners are
-    /// beyond their limits or exchanged, else 1 where memory is wanting, and then those that were kept stay too.
+    /// Keeps the shapes over a region, in u, in place of those that were kept; the text and the contacts stay. Refused
+    /// 5 where its corners are beyond their limits or exchanged, else 1 where memory is wanting, and then those that
+    /// were kept stay too.
     pub fn region(&mut self, alloc: Global, bounds: &Box2) -> Result<(), Refusal>
         ensures found { OnOk result (self.new.found.items ≡ region bounds.now (posed_shapes self.old.world.plain.bodies)) }
         ensures allowed { OnOk result (is_region bounds.now ≡ true) }
@@ -189,8 +194,9 @@ impl Desk {
         Ok(())
     }
 
-    /// Keeps those of the shapes over a region that the filter lets through, as `region` keeps all. Refused 5 as that, else 2 where the filter
-    /// leaves out a body that doesn't live, else 1 where memory is wanting, and then those that were kept stay.
+    /// Keeps those of the shapes over a region that the filter lets through, as `region` keeps all. Refused 5 as that,
+    /// else 2 where the filter leaves out a body that doesn't live, else 1 where memory is wanting, and then those that
+    /// were kept stay.
     pub fn filtered_region(
         &mut self,
         alloc: Global,
@@ -210,9 +216,10 @@ impl Desk {
         Ok(())
     }
 
-    /// Keeps what a ray hits of the shapes that the filter lets through, the nearest first, in place of what the last one hit; the text, the shapes
-    /// and the contacts stay. Refused 5 where the start is beyond 2^36 u in a coordinate or the way beyond 2^28 u, else 2 where the filter leaves
-    /// out a body that doesn't live, else 1 where memory is wanting, and then the hits that were kept stay too.
+    /// Keeps what a ray hits of the shapes that the filter lets through, the nearest first, in place of what the last
+    /// one hit; the text, the shapes and the contacts stay. Refused 5 where the start is beyond 2^36 u in a coordinate
+    /// or the way beyond 2^28 u, else 2 where the filter leaves out a body that doesn't live, else 1 where memory is
+    /// wanting, and then the hits that were kept stay too.
     pub fn all_hits(
         &mut self,
         alloc: Global,
@@ -233,8 +240,8 @@ impl Desk {
         Ok(())
     }
 
-    /// Keeps the contacts of the world, in place of those that were kept; the text and the shapes that were found stay. Refused 1 where memory is
-    /// wanting, and then those that were kept stay too.
+    /// Keeps the contacts of the world, in place of those that were kept; the text and the shapes that were found stay.
+    /// Refused 1 where memory is wanting, and then those that were kept stay too.
     pub fn list_contacts(&mut self, alloc: Global) -> Result<(), Refusal>
         ensures contacts { OnOk result (self.new.contacts.items ≡ self.old.world.plain.contacts) }
         ensures kept { self.new ≡ record self.old { contacts = self.new.contacts } }
@@ -245,7 +252,7 @@ impl Desk {
         Ok(())
     }
 
-    /// The digest of the world. Refused 1 where memory is wanting.
+    /// The digest of the world.
     pub fn digest(&self) -> Result<[u8; 32], Refusal>
         ensures digest { IfOk result (λ bytes. bytes ≡ digest_of self.now.world.plain (totals_of (book_of self.now.world))) }
         ensures memory_only { IsOkUnless result Refusal.NoMemory }

@@ -1,8 +1,8 @@
-//! A world at somebody's desk: beside it the text of its last save, the lists that the last questions found, the tags of its bodies, and the
-//! events of step after step.
+//! A world at somebody's desk: beside it the text of its last save, the lists that the last questions found, the tags
+//! of its bodies, and the events of step after step.
 //!
-//! Callers that can't be handed a list of their own, as programs in C, ask first and fetch then: a question keeps what it found, until the
-//! next of its kind.
+//! Callers that can't be handed a list of their own, as programs in C, ask first and fetch then: a question keeps what
+//! it found, until the next of its kind.
 #![tactic(auto)]
 
 mod desk;

@@ -104,7 +104,7 @@ fn rested(slept: bool, tags: &[Tagged], world: &WorldCore, body: Handle) -> Step
     }
 }
 
-/// The shapes that began to touch, or those that ceased to. Refused 1 where memory is wanting.
+/// The shapes that began to touch, or those that ceased to.
 fn list_touches(
     alloc: Global,
     world: &WorldCore,
@@ -123,7 +123,7 @@ fn list_touches(
     Ok(events)
 }
 
-/// The bodies that fell asleep, or those that woke. Refused 1 where memory is wanting.
+/// The bodies that fell asleep, or those that woke.
 fn list_rests(
     alloc: Global,
     world: &WorldCore,
@@ -141,7 +141,7 @@ fn list_rests(
     Ok(events)
 }
 
-/// The events of the last step. Refused 1 where memory is wanting.
+/// The events of the last step.
 pub(crate) fn events_of(
     alloc: Global,
     world: &WorldCore,

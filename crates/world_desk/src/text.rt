@@ -12,8 +12,8 @@ use saved_text::write_text;
 use std::alloc::Global;
 use world_core::WorldCore;
 
-/// The text of a saved world: what is printed of the value that `WorldCore::save` makes, which isn't made for it. Refused 1 where memory is wanting,
-/// for a copy of the plain lists and for the text.
+/// The text of a saved world: what is printed of the value that `WorldCore::save` makes, which isn't made for it.
+/// Refused 1 where memory is wanting, for a copy of the plain lists and for the text.
 pub fn text_of(alloc: Global, world: &WorldCore) -> Result<String, Refusal>
     ensures text { IfOk result (λ text. IsTextOf (value_of world.now.plain (totals_of (book_of world.now))) (string_bytes text)) }
     ensures memory_only { IsOkUnless result Refusal.NoMemory }

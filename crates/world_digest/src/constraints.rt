@@ -110,7 +110,7 @@ impl Words for Member<Constraint> {
     }
 }
 
-/// The constraints of a colour. Refused 1 where memory is wanting.
+/// The constraints of a colour.
 fn feed_colour(colours: &Colours<Constraint>, colour: u8, sums: &mut Sums) -> Result<(), Refusal>
     requires { colour ≤ OVERFLOW }
     ensures fed { OnOk result (sums.new ≡ absorbed_all sums.old (list_words (λ m. constraint_words m.id) (list_at colours.now.lists colour))) }
@@ -121,7 +121,7 @@ fn feed_colour(colours: &Colours<Constraint>, colour: u8, sums: &mut Sums) -> Re
     Ok(())
 }
 
-/// The constraints of each colour, those in the overflow last. Refused 1 where memory is wanting.
+/// The constraints of each colour, those in the overflow last.
 pub(crate) fn feed_colours(colours: &Colours<Constraint>, sums: &mut Sums) -> Result<(), Refusal>
     ensures fed { OnOk result (sums.new ≡ absorbed_all sums.old (colours_words (ids_of colours.now.lists) (COLOURS + 1))) }
     ensures memory_only { IsOkUnless result Refusal.NoMemory }

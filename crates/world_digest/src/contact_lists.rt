@@ -60,7 +60,8 @@ fn is_before(first: &ContactEntry, second: &ContactEntry) -> bool
     first.key.number() < second.key.number()
 }
 
-/// The words of those contacts of the short list from a place on that come before `entry`. Answers the place of the first that doesn't.
+/// The words of those contacts of the short list from a place on that come before `entry`. Answers the place of the
+/// first that doesn't.
 fn feed_below(short: &ShortList, place: usize, entry: &ContactEntry, sums: &mut Sums) -> usize
     requires { place ≤ length short.now.entries }
     ensures within { result ≤ length short.now.entries }
@@ -97,8 +98,8 @@ fn feed_from(short: &ShortList, place: usize, sums: &mut Sums)
     }
 }
 
-/// The words of the contact at a place of the long list, if it counts, and before them those of the contacts of the short list from the place
-/// `next` on that come before it. Answers the place of the first that doesn't.
+/// The words of the contact at a place of the long list, if it counts, and before them those of the contacts of the
+/// short list from the place `next` on that come before it. Answers the place of the first that doesn't.
 fn feed_at(
     contacts: &SplitContacts,
     short: &ShortList,

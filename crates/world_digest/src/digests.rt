@@ -48,7 +48,7 @@ fn feed_slots(world: &WorldCore, sums: &mut Sums)
     feed_all(world.joints().joints(), sums);
 }
 
-/// Contacts, islands and colours. Refused 1 where memory is wanting.
+/// Contacts, islands and colours.
 fn feed_links(world: &WorldCore, sums: &mut Sums) -> Result<(), Refusal>
     ensures fed { OnOk result (sums.new ≡ absorbed_all sums.old (links_words world.now.plain)) }
     ensures memory_only { IsOkUnless result Refusal.NoMemory }
@@ -68,12 +68,13 @@ fn feed_counts(world: &WorldCore, sums: &mut Sums)
     sums.natural(world.calls());
 }
 
-/// The digest of a world: SHA-256 of the four sums of the words of its plain lists, its counts and the totals of its ledger. So worlds with
-/// the same lists, counts and totals have the same digest, whatever calls they came from. Its events and its entries have no part in it. It
-/// costs by the lists, which are read where they lie. Refused 1 where memory is wanting, for the constraints of one colour at a time.
+/// The digest of a world: SHA-256 of the four sums of the words of its plain lists, its counts and the totals of its
+/// ledger. So worlds with the same lists, counts and totals have the same digest, whatever calls they came from. Its
+/// events and its entries have no part in it. It costs by the lists, which are read where they lie. Refused 1 where
+/// memory is wanting, for the constraints of one colour at a time.
 ///
-/// Worlds that differ have different digests but for chance: one in 2^64 where the difference was not made on purpose. The sums are
-/// no defence against somebody who looks for two worlds with one digest.
+/// Worlds that differ have different digests but for chance: one in 2^64 where the difference was not made on purpose.
+/// The sums are no defence against somebody who looks for two worlds with one digest.
 pub fn digest(world: &WorldCore) -> Result<[u8; 32], Refusal>
     ensures digest { IfOk result (λ bytes. bytes ≡ digest_of world.now.plain (totals_of (book_of world.now))) }
     ensures memory_only { IsOkUnless result Refusal.NoMemory }

@@ -7,8 +7,8 @@ ghost use Rattle.world_digest.specs.Sums.{absorbed, bytes_of, first_sums, mixed,
 
 use sha2::{Digest, Sha256};
 
-/// What a sum is multiplied by: an odd number, so that no two sums become one (the golden ratio times 2^64, from Knuth, 'The Art of
-/// Computer Programming', volume 3, section 6.4).
+/// What a sum is multiplied by: an odd number, so that no two sums become one (the golden ratio times 2^64, from Knuth,
+/// 'The Art of Computer Programming', volume 3, section 6.4).
 pub(crate) const FACTOR: u64 = 0x9E37_79B9_7F4A_7C15;
 
 /// Four sums. The first one takes the next word and becomes the last.
@@ -20,8 +20,8 @@ pub(crate) struct Sums {
     fourth: u64,
 }
 
-/// A sum with one word more: both joined by exclusive or, times an odd number, and the halves exchanged. Each of the three can be undone, so
-/// that different words make different sums.
+/// A sum with one word more: both joined by exclusive or, times an odd number, and the halves exchanged. Each of the
+/// three can be undone, so that different words make different sums.
 #[inline(always)]
 #[tactic(auto, unfolding(crate::specs::Sums::mixed))]
 fn mixed(sum: u64, word: u64) -> u64
@@ -30,8 +30,8 @@ fn mixed(sum: u64, word: u64) -> u64
     (sum ^ word).wrapping_mul(FACTOR).rotate_left(32)
 }
 
-/// The law of the factor: the number that the definition of a sum takes from the code, in digits. The function does nothing; its contract is
-/// the law.
+/// The law of the factor: the number that the definition of a sum takes from the code, in digits. The function does
+/// nothing; its contract is the law.
 pub fn factor_in_digits()
     ensures { FACTOR ≡ 11400714819323198485 }
 {}

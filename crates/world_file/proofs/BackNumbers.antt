@@ -1,4 +1,5 @@
--- Values that are written of numbers, vectors, truths and texts are read again as these, and nothing that is asked of them is broken.
+-- Values that are written of numbers, vectors, truths and texts are read again as these, and nothing that is asked of
+-- them is broken.
 use Rattle.std.proofs.Common.{◌≡◌, ℕ, zero, suc, ◌+◌, ◌-◌, ◌*◌, ◌/◌, ◌%◌, ◌^◌, ◌<◌, ◌≤◌, ◌==◌, ◌&&◌, ◌++◌, ◌⊎◌, Bool, true, false, not, cond, nat_le, nat_lt, List, [], ◌∷◌, length, drop, slice_index, Option, Some, None, is_some, option_and_then, unwrap_or, bytes_eq, ℤ, pos, negsuc, neg_ℤ, ◌≤ℤ◌, unsigned_abs, int_le, inl, inr, refl, ap, ◌∙◌, arith, le-leb, lt-ltb, length-append}
 use Rattle.std.specs.Fmt.{decimal, signed_decimal}
 use Rattle.std.specs.List.{list_all}

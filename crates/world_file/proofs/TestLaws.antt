@@ -1,4 +1,5 @@
--- Questions by their tests: after a question no clause up to a number is broken, just if none was before and its tests up to this number hold.
+-- Questions by their tests: after a question no clause up to a number is broken, just if none was before and its tests
+-- up to this number hold.
 use Rattle.std.proofs.Common.{◌≡◌, ℕ, zero, suc, ◌<◌, ◌≤◌, ◌&&◌, ◌||◌, Bool, true, false, cond, nat_lt, List, [], ◌∷◌, Option, Some, None, refl, sym, ap, ◌∙◌, subst, arith}
 use Rattle.std.proofs.lemmas.Bool.{false≢true}
 use Rattle.std.proofs.lemmas.Bool.Decides.{nat_tests}

@@ -1,4 +1,5 @@
--- Inner: what is asked of the parts of a saved world and of their fitting, one question after another, and what that finds.
+-- Inner: what is asked of the parts of a saved world and of their fitting, one question after another, and what that
+-- finds.
 use Rattle.std.specs.Prelude.{[], ◌∷◌, codes, is_some, unsigned_abs, ◌≡◌, Option, Some}
 use Rattle.std.specs.List.{list_all}
 use Rattle.serde_json.specs.Data.{Data}
@@ -60,7 +61,8 @@ others_asks s = all_asked (
     ∷ asked (momentum_keeps s) Momentum
     ∷ [])
 
--- what the questions find broken that are asked of a value: those of its parts one after the other, and then those of the whole
+-- what the questions find broken that are asked of a value: those of its parts one after the other, and then those of
+-- the whole
 abbrev pub found_broken : Data → Option Clause
 found_broken d = (fitting_asks (saved_in d) (parts_asks d no_asks)).broken
 

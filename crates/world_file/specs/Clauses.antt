@@ -1,5 +1,6 @@
--- Trusted: The ten clauses of a saved world. Each is a test over the whole value, and the first that a value breaks is the one of the least number whose test fails.
--- A part that isn't there, or that breaks an early clause, is read as some value of its type. So a later test has an answer then too, and nobody asks for it.
+-- Trusted: The ten clauses of a saved world. Each is a test over the whole value, and the first that a value breaks is
+-- the one of the least number whose test fails. A part that isn't there, or that breaks an early clause, is read as
+-- some value of its type. So a later test has an answer then too, and nobody asks for it.
 use Rattle.std.specs.Prelude.{ℕ, ◌&&◌, ◌||◌, Bool, true, not, List, [], ◌∷◌, Option, Some, None, codes, find, is_some}
 use Rattle.std.specs.List.{list_all}
 use Rattle.serde_json.specs.Data.{Data}

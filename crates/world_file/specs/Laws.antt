@@ -38,7 +38,8 @@ pub record IsMadeAgain (w : World) : Type 0 where
 abbrev pub WhatIsWrittenFits : Type 0
 WhatIsWrittenFits = (w : World) → IsSound w → IsMadeAgain w
 
--- what a sound world has to have beside, so that it is read again: the totals of its ledger are within what a file may have
+-- what a sound world has to have beside, so that it is read again: the totals of its ledger are within what a file may
+-- have
 abbrev pub HasSmallTotals : World → Type 0
 HasSmallTotals w = AreSmall (2 ^ 126) (book_of w)
 
@@ -46,10 +47,12 @@ HasSmallTotals w = AreSmall (2 ^ 126) (book_of w)
 abbrev pub WhatIsWrittenIsReadAgain : Type 0
 WhatIsWrittenIsReadAgain = (w : World) → IsSound w → HasSmallTotals w → read_of (value_of w.plain (totals_of_world w)) ≡ Ok (w.plain, totals_of_world w)
 
--- The totals of a world that is read are small, so that it can be written again, and so is read once more as the same world.
+-- The totals of a world that is read are small, so that it can be written again, and so is read once more as the same
+-- world.
 abbrev pub WhatIsReadHasSmallTotals : Type 0
 WhatIsReadHasSmallTotals = (d : Data) (p : Plain) (t : Totals) → read_of d ≡ Ok (p, t) → HasSmallTotals (settled_world p t)
 
--- It is the world that was written, but for its entries and events, and so goes on as that does: all commands have the same answers, and its plain lists are the same after them.
+-- It is the world that was written, but for its entries and events, and so goes on as that does: all commands have the
+-- same answers, and its plain lists are the same after them.
 abbrev pub WhatIsReadAgainGoesOnTheSame : Type 0
 WhatIsReadAgainGoesOnTheSame = (w : World) (p : Plain) (t : Totals) → IsSound w → HasSmallTotals w → read_of (value_of w.plain (totals_of_world w)) ≡ Ok (p, t) → GoOnTheSame (settled_world p t) w

@@ -1,4 +1,5 @@
--- Trusted: The first clause: a saved world has the keys of its form and no others, and what stands under a key has its type.
+-- Trusted: The first clause: a saved world has the keys of its form and no others, and what stands under a key has its
+-- type.
 use Rattle.std.specs.Prelude.{ℕ, ◌==◌, ◌&&◌, ◌||◌, Bool, true, List, Option, Some, None, codes, is_some, option_and_then}
 use Rattle.serde_json.specs.Data.{Data, Items, no_items, item}
 use Rattle.serde_json.specs.Events.{items_len}

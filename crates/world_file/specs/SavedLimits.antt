@@ -1,4 +1,5 @@
--- Trusted: The second clause: each number of a saved world is within its limits, there are not too many slots, and each body may have its shapes.
+-- Trusted: The second clause: each number of a saved world is within its limits, there are not too many slots, and each
+-- body may have its shapes.
 use Rattle.std.specs.Prelude.{ℕ, ◌^◌, ◌-◌, ◌&&◌, ◌||◌, Bool, true, nat_le, List, Option, Some, None, codes, is_some, option_and_then, ℤ, pos, neg_ℤ, int_le, unsigned_abs}
 use Rattle.std.specs.Option.{is_none}
 use Rattle.serde_json.specs.Data.{Data}

@@ -1,9 +1,9 @@
 //! Saved worlds: a world as one JSON value, and a world that is read from one.
 //!
-//! A saved world is an object. `write` makes one of a plain world and the totals of its ledger, in version 2 of the form. `read`
-//! takes one of version 1 or 2, each by its own limits, and answers the first of the ten clauses (`Clause`) that it breaks, or the world.
-//! The clauses are asked in their order over the whole value. What is read costs by its size: no clause is tested by comparing
-//! all with all.
+//! A saved world is an object. `write` makes one of a plain world and the totals of its ledger, in version 2 of the
+//! form. `read` takes one of version 1 or 2, each by its own limits, and answers the first of the ten clauses
+//! (`Clause`) that it breaks, or the world. The clauses are asked in their order over the whole value. What is read
+//! costs by its size: no clause is tested by comparing all with all.
 #![tactic(auto)]
 
 mod colours;

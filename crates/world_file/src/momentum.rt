@@ -10,7 +10,8 @@ use fixed_geom::{Vec2, ZERO_VECTOR, fdiv};
 use impulse_ledger::{Total, Totals};
 use plain_world::Body;
 
-/// A number as eight times a whole one, and a rest. The sum of the totals of all causes, which 128 bits may not hold, is kept so.
+/// A number as eight times a whole one, and a rest. The sum of the totals of all causes, which 128 bits may not hold,
+/// is kept so.
 #[derive(Clone, Copy, Debug, PartialEq, Eq)]
 struct Eighths {
     whole: i128,

@@ -30,7 +30,7 @@ fn put_colour(
     Ok(())
 }
 
-/// The colours of a world's constraints by their numbers. Refused 1 where memory is wanting.
+/// The colours of a world's constraints by their numbers.
 pub fn colours_by_number(alloc: Global, plain: &Plain) -> Result<HashMap<u128, u8>, Refusal>
     requires few { length plain.now.colours ≤ most_colours + 1 }
     ensures colours { IfOk result (λ by_number. (number : ℕ) → get nat_eq by_number number ≡ colour_numbered number plain.now.colours) }

@@ -64,7 +64,8 @@ pub(crate) fn are_joints_fitting(slot_entries: &[SlotEntry], joints: &[Option<Sa
     true
 }
 
-/// Whether these are the first two of so many points as a contact that touches has: of two different candidates if it has two.
+/// Whether these are the first two of so many points as a contact that touches has: of two different candidates if it
+/// has two.
 fn are_points(first: Option<ContactPoint>, second: Option<ContactPoint>, count: usize) -> bool
     ensures { result ≡ are_points first second count }
 {
@@ -125,7 +126,8 @@ fn is_dynamic_body(bodies: &[Option<Body>], slot: usize) -> bool
     }
 }
 
-/// Whether a contact is of shapes of two enabled bodies, the lesser first, one of them dynamic, and has the points that it needs.
+/// Whether a contact is of shapes of two enabled bodies, the lesser first, one of them dynamic, and has the points that
+/// it needs.
 fn is_contact_fitting(bodies: &[Option<Body>], saved: &SavedContact) -> bool
     ensures { result ≡ is_contact_fitting bodies.now saved.now }
 {

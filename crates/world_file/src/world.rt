@@ -199,7 +199,8 @@ fn plain_of(saved: Saved, parts: Parts) -> Plain
     )
 }
 
-/// Holds the parts of a saved world against one another, and lists what they make. The first clause that is broken is answered.
+/// Holds the parts of a saved world against one another, and lists what they make. The first clause that is broken is
+/// answered.
 fn fitted(alloc: Global, reader: Reader, saved: &Saved) -> Result<Parts, Broken>
     requires few { length saved.now.bodies.memberships.items ≤ 2 ^ 32 }
     requires few_joints { length saved.now.joints.slot_entries.items ≤ 2 ^ 32 }
@@ -219,8 +220,8 @@ fn fitted(alloc: Global, reader: Reader, saved: &Saved) -> Result<Parts, Broken>
     list_parts(alloc, saved, &ties)
 }
 
-/// Reads a saved world of version 1 or 2: the world, and the totals of its ledger. The first of the clauses that the value breaks is
-/// answered, or that memory was wanting.
+/// Reads a saved world of version 1 or 2: the world, and the totals of its ledger. The first of the clauses that the
+/// value breaks is answered, or that memory was wanting.
 pub fn read(alloc: Global, value: &Value) -> Result<(Plain, Totals), Broken>
     ensures read { IfOk result (λ read. read_of (view value.now) ≡ Ok (read.0, read.1)) }
     ensures colours { IfOk result (λ read. length read.0.colours ≡ most_colours + 1) }
@@ -234,8 +235,8 @@ pub fn read(alloc: Global, value: &Value) -> Result<(Plain, Totals), Broken>
     Ok((plain_of(saved, parts), totals))
 }
 
-/// The world of the parts of a saved one, and the totals of its ledger, where no clause is broken by what each part is read of. The first
-/// of the clauses that the parts break together is answered, or that memory was wanting.
+/// The world of the parts of a saved one, and the totals of its ledger, where no clause is broken by what each part is
+/// read of. The first of the clauses that the parts break together is answered, or that memory was wanting.
 pub fn fit(alloc: Global, saved: Saved) -> Result<(Plain, Totals), Broken>
     requires few { length saved.bodies.memberships.items ≤ 2 ^ 32 }
     requires few_joints { length saved.joints.slot_entries.items ≤ 2 ^ 32 }
@@ -250,8 +251,7 @@ pub fn fit(alloc: Global, saved: Saved) -> Result<(Plain, Totals), Broken>
     Ok((plain_of(saved, parts), totals))
 }
 
-/// A world of at most 24 colours and an overflow, with the totals of its ledger, as a value of version 2. Refused 1 where memory is
-/// wanting.
+/// A world of at most 24 colours and an overflow, with the totals of its ledger, as a value of version 2.
 #[tactic(auto, unfolding(crate::specs::Files::value_of))]
 pub fn write(alloc: Global, plain: &Plain, totals: &Totals) -> Result<Value, Refusal>
     requires colours { length plain.now.colours ≤ most_colours + 1 }

@@ -79,7 +79,8 @@ membership_asks d = all_asked (
 abbrev pub is_pose : Pose → Bool
 is_pose pose = is_within (unsigned_abs MAX_POSITION) pose.x && is_facing pose.rot
 
--- The body may have its shapes, and they lie in their fat boxes. The second is asked of shapes and of a pose that are within their limits.
+-- The body may have its shapes, and they lie in their fat boxes. The second is asked of shapes and of a pose that are
+-- within their limits.
 unfoldable pub fit_asks : Kind → Pose → List ShapeDef → List Box2 → Ask
 fit_asks kind pose defs fats reader =
     cond (is_none (shapes_refusal (is_static kind) defs))

@@ -17,7 +17,8 @@ abbrev pub overflow_of : Version → ℕ
 overflow_of First = 12
 overflow_of Second = OVERFLOW
 
--- The colour that a number stands for. What is in the overflow stays there, also where the world has more colours than the version.
+-- The colour that a number stands for. What is in the overflow stays there, also where the world has more colours than
+-- the version.
 abbrev pub colour_of_number : Version → ℕ → Option ℕ
 colour_of_number version number = cond (nat_lt number (overflow_of version)) (Some number) (cond (number == overflow_of version) (Some OVERFLOW) None)
 

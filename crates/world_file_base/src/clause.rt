@@ -9,15 +9,15 @@ use std::alloc::{AllocError, AllocFailed};
 /// What a saved world has to keep, in the order in which it is asked.
 #[derive(Clone, Copy, Debug, PartialEq, Eq)]
 pub enum Clause {
-    /// The value is an object with just the keys that it needs, whose values have the types that they need, and so on in all of its
-    /// parts; and the version is one that is read.
+    /// The value is an object with just the keys that it needs, whose values have the types that they need, and so on
+    /// in all of its parts; and the version is one that is read.
     Form,
     /// Each number is within its limits, and each body has shapes that it may have.
     Limits,
     /// A slot's generation is 1 to 4294967295, and at the last one nothing is in the slot.
     Generations,
-    /// A joint is between two bodies that are there. Contacts ascend by their shapes, which are those of two enabled bodies, one of them
-    /// dynamic; one has a point or two if it touches, and none if it doesn't.
+    /// A joint is between two bodies that are there. Contacts ascend by their shapes, which are those of two enabled
+    /// bodies, one of them dynamic; one has a point or two if it touches, and none if it doesn't.
     References,
     /// Each shape lies in its fat box.
     FatBoxes,
@@ -25,7 +25,8 @@ pub enum Clause {
     Memberships,
     /// Two movers that a joint or a touching contact links are in one island.
     Links,
-    /// An island that isn't loose is all that its links join; one that sleeps isn't loose; and what isn't an awake mover is at rest.
+    /// An island that isn't loose is all that its links join; one that sleeps isn't loose; and what isn't an awake
+    /// mover is at rest.
     Islands,
     /// Just those constraints have a colour whose movers are awake, and no two of one colour share a mover.
     Colours,

@@ -1,8 +1,9 @@
 //! What a saved world is made of: the values of its keys, and its parts, each read and written for itself.
 //!
-//! A `Reader` reads the value of a key, and keeps the first of the clauses (`Clause`) that any of the values breaks. `Members` is an object
-//! that is written. The parts are shapes, bodies, joints and contacts, and the totals of the ledger. What is read of a part hangs on nothing
-//! but its value and the version. Whether the parts fit together is asked above.
+//! A `Reader` reads the value of a key, and keeps the first of the clauses (`Clause`) that any of the values breaks.
+//! `Members` is an object that is written. The parts are shapes, bodies, joints and contacts, and the totals of the
+//! ledger. What is read of a part hangs on nothing but its value and the version. Whether the parts fit together is
+//! asked above.
 #![tactic(auto)]
 
 mod bodies;

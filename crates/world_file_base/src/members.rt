@@ -37,7 +37,7 @@ impl Members {
         }
     }
 
-    /// Gives a key this value. Refused 1 where memory is wanting.
+    /// Gives a key this value.
     pub fn put(&mut self, key: &str, value: Value) -> Result<(), Refusal>
         ensures put { OnOk result (written self.new ≡ with_member key.now (view value) (written self.old)) }
         ensures memory_only { IsOkUnless result Refusal.NoMemory }

@@ -56,7 +56,8 @@ use body_handles::{Handle, NO_HANDLE, handle_of};
 use fixed_geom::{Box2, Vec2, ZERO_VECTOR, is_within};
 use serde_json::Value;
 
-/// Reads the values of keys, and keeps the first clause that any of them breaks. What is read in place of a value that breaks one means nothing.
+/// Reads the values of keys, and keeps the first clause that any of them breaks. What is read in place of a value that
+/// breaks one means nothing.
 #[derive(Clone, Copy)]
 pub struct Reader {
     pub broken: Option<Clause>,

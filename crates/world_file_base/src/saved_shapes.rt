@@ -137,7 +137,8 @@ pub struct SavedShape {
     pub fat: Box2,
 }
 
-/// Reads a shape. Its numbers may have any size that their types have: whether a body may have it is asked of all of its shapes together.
+/// Reads a shape. Its numbers may have any size that their types have: whether a body may have it is asked of all of
+/// its shapes together.
 #[tactic(auto, unfolding(crate::specs::SavedShapes::shape_in, crate::specs::AskedShapes::shape_asks))]
 pub(crate) fn read_shape(reader: &mut Reader, value: &Value) -> SavedShape
     ensures value { result ≡ shape_in (view value.now) }

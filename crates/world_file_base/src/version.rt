@@ -54,8 +54,8 @@ impl Version {
         }
     }
 
-    /// The colour that a number stands for, if it stands for one. A constraint in the overflow stays there, also where the world has
-    /// more colours than the version.
+    /// The colour that a number stands for, if it stands for one. A constraint in the overflow stays there, also where
+    /// the world has more colours than the version.
     pub fn colour(self, number: u8) -> Option<u8>
         ensures { result ≡ colour_of_number self number }
     {

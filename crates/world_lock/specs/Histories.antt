@@ -25,8 +25,8 @@ Known = book.Known Command Reply
 
 -- ---- what lies under the lock
 
--- a world with its journal and the totals at the opening, how many entries of the history were settled, what each seat did, also as it was when the last
--- were settled, and the history: all calls since the world was opened
+-- a world with its journal and the totals at the opening, how many entries of the history were settled, what each seat
+-- did, also as it was when the last were settled, and the history: all calls since the world was opened
 pub record SeatStanding : Type 0 where
   pub world : World
   pub opening : World
@@ -41,7 +41,8 @@ abbrev pub standing : Journalled → ℕ → List Tally → List Tally → List 
 standing j settled tallies settled_tallies history =
     record { world = j.world; opening = j.opening; opening_totals = j.opening_totals; journal = j.journal; settled = settled; tallies = tallies; settled_tallies = settled_tallies; history = history }
 
--- A call leaves the world after it. The journal and the history are longer by just the call, which its seat's tally counts; all else stays.
+-- A call leaves the world after it. The journal and the history are longer by just the call, which its seat's tally
+-- counts; all else stays.
 abbrev pub with_line : SeatStanding → Line → SeatStanding
 with_line s e = record s {
   world = after s.world (command_of e);
@@ -50,8 +51,8 @@ with_line s e = record s {
   history = s.history ++ e ∷ [];
 }
 
--- Settling leaves the world with its ledger's entries settled. The journal begins anew there, with the totals of its ledger; the calls of the old one are
--- settled, with what each seat did; all else stays.
+-- Settling leaves the world with its ledger's entries settled. The journal begins anew there, with the totals of its
+-- ledger; the calls of the old one are settled, with what each seat did; all else stays.
 abbrev pub with_settled : SeatStanding → SeatStanding
 with_settled s = record s {
   world = with_ledger_settled s.world;
@@ -66,8 +67,9 @@ with_settled s = record s {
 abbrev pub IsSeated : ℕ → Line → Type 0
 IsSeated seats e = e.seat < seats
 
--- The history is legal from the world at `open`, and its replay gives the world, but for entries that were settled; the journal is what of it wasn't settled.
--- Each accepted call counted, and each is of one of the seats; the tallies are those of the history.
+-- The history is legal from the world at `open`, and its replay gives the world, but for entries that were settled; the
+-- journal is what of it wasn't settled. Each accepted call counted, and each is of one of the seats; the tallies are
+-- those of the history.
 pub record IsHeld (seats : ℕ) (first : World) (s : SeatStanding) : Type 0 where
   pub legal : IsLegal first s.history
   pub like : IsLike (replayed first s.history) s.world
@@ -82,7 +84,8 @@ pub record IsHeld (seats : ℕ) (first : World) (s : SeatStanding) : Type 0 wher
 
 -- ---- what a call tells
 
--- A past of a seat is a list of calls, legal from the world at `open`, that begins with what the seat had seen and goes on with calls of other seats alone.
+-- A past of a seat is a list of calls, legal from the world at `open`, that begins with what the seat had seen and goes
+-- on with calls of other seats alone.
 abbrev pub IsPastOf : World → Known → List Line → Type 0
 IsPastOf first k past = IsPast k.seat k.seen past × IsLegal first past
 
@@ -94,7 +97,8 @@ next_number k = suc (length (calls_of k.seat k.seen))
 abbrev pub Met : World → Known → Known → Type 0
 Met first before after = (past : List Line) × IsPastOf first before past × (after ≡ known before.seat past)
 
--- the seat has then seen one past of it, followed by just this command, with its reply and next number, at the receipt's place, the whole legal
+-- the seat has then seen one past of it, followed by just this command, with its reply and next number, at the
+-- receipt's place, the whole legal
 abbrev pub Called : World → Known → Command → Reply → Receipt → Known → Type 0
 Called first before command reply receipt after =
     (past : List Line) × IsPastOf first before past × (after ≡ known before.seat (past ++ line before.seat (next_number before) command reply ∷ []))
@@ -110,7 +114,8 @@ Refused first before command refusal after =
 abbrev pub Shown : World → Known → View → Known → Type 0
 Shown first before frame after = (past : List Line) × IsPastOf first before past × (after ≡ known before.seat past) × (frame ≡ frame_of (replayed first past))
 
--- the seat has then seen one past of it, of whose last step these are the events; where it has none, they are those at `open`
+-- the seat has then seen one past of it, of whose last step these are the events; where it has none, they are those at
+-- `open`
 abbrev pub EventsShown : World → Known → EventLists → Known → Type 0
 EventsShown first before events after = (past : List Line) × IsPastOf first before past × (after ≡ known before.seat past) × (events ≡ (replayed first past).events)
 
@@ -132,8 +137,9 @@ pub record IsPastFor (count : ℕ) (history : List Line) (k : Known) : Type 0 wh
   pub seated : k.seat < count
   pub past : IsPast k.seat k.seen history
 
--- The history begins with what the seat had seen. The calls of its own in the journal are the last of the seat's calls, and what had been settled of it are
--- those before: their number and their pushes, with those in the journal, are all that the seat did.
+-- The history begins with what the seat had seen. The calls of its own in the journal are the last of the seat's calls,
+-- and what had been settled of it are those before: their number and their pushes, with those in the journal, are all
+-- that the seat did.
 pub record IsAllOf (history journal : List Line) (settled : ℕ) (tallies : List Tally) (k : Known) : Type 0 where
   pub past : IsPast k.seat k.seen history
   pub own : calls_of k.seat k.seen ≡ calls_of k.seat (take settled history) ++ calls_of k.seat journal
@@ -141,9 +147,10 @@ pub record IsAllOf (history journal : List Line) (settled : ℕ) (tallies : List
   pub pushed_x_is : (slice_index_or tallies k.seat no_calls).pushed.x +ℤ (pushed_sum (calls_of k.seat journal)).x ≡ (pushed_sum (calls_of k.seat k.seen)).x
   pub pushed_y_is : (slice_index_or tallies k.seat no_calls).pushed.y +ℤ (pushed_sum (calls_of k.seat journal)).y ≡ (pushed_sum (calls_of k.seat k.seen)).y
 
--- The headline holds of the closed world, with the totals that were kept of the opening. The history is legal from the world at `open`, and its replay gives the closed world, but for entries that were
--- settled; the journal is what of it wasn't settled, each call of it is of one of the seats, the settled tallies are those of its settled calls, and of each
--- seat all is there.
+-- The headline holds of the closed world, with the totals that were kept of the opening. The history is legal from the
+-- world at `open`, and its replay gives the closed world, but for entries that were settled; the journal is what of it
+-- wasn't settled, each call of it is of one of the seats, the settled tallies are those of its settled calls, and of
+-- each seat all is there.
 pub record IsClosing (count : ℕ) (first : World) (seats : List Known) (b : Beginning) (w : World) (journal : List Line) (tallies : List Tally) (settled : ℕ) (history : List Line) : Type 0 where
   pub headline : KeepsHeadline (journalled b w journal)
   pub legal : IsLegal first history

@@ -65,16 +65,17 @@ pub record Journalled : Type 0 where
   pub opening_totals : Totals
   pub journal : List Line
 
--- The world is sound, from which each part of the headline on its solver sets, colours, islands and momentum follows (`Headline`). The world, with its
--- ledger and its events, is the replay of the journal on one thread, which gives the journal's replies. Each cause's total is the opening one, with the
--- entries of the cause that this replay adds.
+-- The world is sound, from which each part of the headline on its solver sets, colours, islands and momentum follows
+-- (`Headline`). The world, with its ledger and its events, is the replay of the journal on one thread, which gives the
+-- journal's replies. Each cause's total is the opening one, with the entries of the cause that this replay adds.
 pub record KeepsHeadline (j : Journalled) : Type 0 where
   pub sound : IsSound j.world
   pub replay : j.world ≡ replayed j.opening j.journal
   pub replies : IsLegal j.opening j.journal
   pub totals : AreTotalsSince j.opening_totals (booked_by j.opening (commands_of j.journal)) j.world
 
--- what is kept of the world that a journal begins with: the plain world, the events, the totals of the ledger, and how many entries the ledger had
+-- what is kept of the world that a journal begins with: the plain world, the events, the totals of the ledger, and how
+-- many entries the ledger had
 pub record Beginning : Type 0 where
   pub plain : Plain
   pub events : EventLists

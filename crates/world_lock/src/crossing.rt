@@ -18,8 +18,8 @@ fn shows_sync<T: Sync>()
     ensures { IsSync T.row }
 {}
 
-/// A shared world may be shared by threads: a law, for whoever starts some. It is shown part by part, once; a caller that is generic in what its
-/// threads share asks for no more.
+/// A shared world may be shared by threads: a law, for whoever starts some. It is shown part by part, once; a caller
+/// that is generic in what its threads share asks for no more.
 pub fn may_be_shared<N: Opened + Send + Sync>()
     ensures { IsSync (the_row N.row N.Named (record { opening = N.opening })) }
 {

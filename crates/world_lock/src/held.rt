@@ -30,7 +30,8 @@ use world_rules::{
     what_acts_has_a_colour,
 };
 
-/// What the lock of a shared world guards: the world with its journal, what each seat did, and the keeper of the history.
+/// What the lock of a shared world guards: the world with its journal, what each seat did, and the keeper of the
+/// history.
 #[derive(Drop)]
 pub struct Held<N: Opened> {
     journalled: JournalledWorld,
@@ -75,12 +76,13 @@ impl<N: Opened> Held<N> {
         }
     }
 
-    /// The journal. Its contract is the headline, which holds whenever the lock is free: each body, joint and contact stands in exactly
-    /// one solver set; no two constraints of a colour share a mover, what acts has a colour, and each just one; touching or jointed
-    /// movers share an island, awake or asleep together; each sleeping set is one connected component, and one island that isn't
-    /// loose; what isn't an awake mover has no momentum; the movers' momentum is the ledger's total; and the world is the
-    /// one-thread replay of the journal from the opening world, which gives the journal's replies, and whose entries are the
-    /// ledger's since the opening. Each cause's total is what it was at the opening, and with it the sum of these entries.
+    /// The journal. Its contract is the headline, which holds whenever the lock is free: each body, joint and contact
+    /// stands in exactly one solver set; no two constraints of a colour share a mover, what acts has a colour, and each
+    /// just one; touching or jointed movers share an island, awake or asleep together; each sleeping set is one
+    /// connected component, and one island that isn't loose; what isn't an awake mover has no momentum; the movers'
+    /// momentum is the ledger's total; and the world is the one-thread replay of the journal from the opening world,
+    /// which gives the journal's replies, and whose entries are the ledger's since the opening. Each cause's total is
+    /// what it was at the opening, and with it the sum of these entries.
     pub fn headline(&self) -> &[JournalEntry]
         ensures journal { result.now ≡ self.now.journal }
         ensures each_stands_in_one_set { EachStandsInOneSet self.now.world }
@@ -108,10 +110,10 @@ impl<N: Opened> Held<N> {
         self.journalled.journal()
     }
 
-    /// A call of a seat. The world applies the command, the journal and the history grow by just the seat's next call, which its
-    /// tally counts, and all else stays; the receipt names this entry. The seat has then seen all calls up to it. A refused call
-    /// changes nothing and takes no number, and the seat has then seen all calls before. Refused as this world refuses the
-    /// command, or 1 where memory is wanting.
+    /// A call of a seat. The world applies the command, the journal and the history grow by just the seat's next call,
+    /// which its tally counts, and all else stays; the receipt names this entry. The seat has then seen all calls up to
+    /// it. A refused call changes nothing and takes no number, and the seat has then seen all calls before. Refused as
+    /// this world refuses the command, or 1 where memory is wanting.
     pub fn call(
         &mut self,
         book: &Book<N, Command, Reply>,
@@ -186,9 +188,9 @@ impl<N: Opened> Held<N> {
         }
     }
 
-    /// Begins a new journal at the present world, and answers how many entries the old one had, which is put into `old`, so that
-    /// the caller drops it where it likes. The ledger's entries are settled, and no total changes. Refused 1 with nothing changed
-    /// where memory is wanting.
+    /// Begins a new journal at the present world, and answers how many entries the old one had, which is put into
+    /// `old`, so that the caller drops it where it likes. The ledger's entries are settled, and no total changes.
+    /// Refused 1 with nothing changed where memory is wanting.
     pub fn settle(&mut self, old: &mut Option<Vec<JournalEntry>>) -> Result<u64, Refusal>
         ensures settled { OnOk result (self.new ≡ with_settled self.old) }
         ensures totals { OnOk result (HaveSameTotals (book_of self.new.world) (book_of self.old.world)) }
@@ -205,7 +207,7 @@ impl<N: Opened> Held<N> {
         Ok(count)
     }
 
-    /// What the world shows, as the seat then has seen it, to be shared without a copy. Refused 1 where memory is wanting.
+    /// What the world shows, as the seat then has seen it, to be shared without a copy.
     pub fn frame(
         &mut self,
         book: &Book<N, Command, Reply>,
@@ -219,7 +221,7 @@ impl<N: Opened> Held<N> {
         Ok(Arc::new(*self.tallies.allocator(), frame)?)
     }
 
-    /// The events of the world's last step, as the seat then has seen it. Refused 1 where memory is wanting.
+    /// The events of the world's last step, as the seat then has seen it.
     pub fn events(
         &mut self,
         book: &Book<N, Command, Reply>,

@@ -20,9 +20,9 @@ use world_core::{Command, Reply, StepSolver, WorldCore};
 /// An accepted call: its seat, which of the seat's calls it is, what was asked, and what was answered.
 pub type JournalEntry = Entry<Command, Reply>;
 
-/// A world, with the calls that it accepted since its journal began. Whenever it is whole, the headline holds of it: the world is
-/// sound, it is the one-thread replay of the journal from the world that the journal began with, and each cause's total is the one
-/// that its ledger had then, with what the journal's calls added.
+/// A world, with the calls that it accepted since its journal began. Whenever it is whole, the headline holds of it:
+/// the world is sound, it is the one-thread replay of the journal from the world that the journal began with, and each
+/// cause's total is the one that its ledger had then, with what the journal's calls added.
 #[derive(Drop)]
 pub struct JournalledWorld {
     world: WorldCore,
@@ -95,8 +95,9 @@ impl JournalledWorld {
         let _ = &self.journal;
     }
 
-    /// A call of a seat: the world applies the command, with this solver for the ticks of a step, and the journal grows by just this. A
-    /// refusal changes nothing; the room for the journal's entry is made before all else, so want of it is answered first.
+    /// A call of a seat: the world applies the command, with this solver for the ticks of a step, and the journal grows
+    /// by just this. A refusal changes nothing; the room for the journal's entry is made before all else, so want of it
+    /// is answered first.
     pub fn call<S: StepSolver>(
         &mut self,
         solver: &mut S,
@@ -117,8 +118,8 @@ impl JournalledWorld {
         Ok(reply)
     }
 
-    /// Begins a new journal at the present world, whose ledger's entries are settled, and gives the old one. Refused 1 with
-    /// nothing changed where memory is wanting.
+    /// Begins a new journal at the present world, whose ledger's entries are settled, and gives the old one. Refused 1
+    /// with nothing changed where memory is wanting.
     #[tactic(auto, using(crate::proofs::Replaying::begun_settled))]
     pub fn settle(&mut self) -> Result<Vec<JournalEntry>, Refusal>
         ensures settled { OnOk result (self.new ≡ record { world = with_ledger_settled self.old.world; opening = with_ledger_settled self.old.world; opening_totals = totals_of (book_of self.old.world); journal = [] }) }

@@ -3,8 +3,8 @@
 use seat_book::Named;
 use std::marker::Brand;
 
-/// Names a shared world: its roster, and the world that it was opened with. It has no calls: whoever opens a world is generic
-/// in its name, and is called at `Brand`.
+/// Names a shared world: its roster, and the world that it was opened with. It has no calls: whoever opens a world is
+/// generic in its name, and is called at `Brand`.
 pub trait Opened: Named {
     ghost use Rattle.world_rules.specs.World.{World};
 

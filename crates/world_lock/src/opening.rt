@@ -30,7 +30,7 @@ impl Model for Opening {
 }
 
 impl Opening {
-    /// This world as it is now. Refused 1 where memory is wanting.
+    /// This world as it is now.
     pub(crate) fn at(world: &WorldCore) -> Result<Opening, Refusal>
         ensures beginning { IfOk result (λ opening. opening ≡ beginning_at world.now) }
         ensures sound { IsSound world.now }

@@ -6,8 +6,8 @@ use seat_book::{Named, Pass};
 use std::marker::Model;
 use world_core::{Command, Reply};
 
-/// The entry of an accepted call: its seat, which of the seat's calls it is, counted from 1, and its place in the history,
-/// counted from 0 at `open`.
+/// The entry of an accepted call: its seat, which of the seat's calls it is, counted from 1, and its place in the
+/// history, counted from 0 at `open`.
 #[derive(Clone, Copy, Debug, PartialEq, Eq)]
 pub struct Receipt {
     pub seat: u64,

@@ -21,8 +21,8 @@ use std::alloc::Global;
 use std::sync::{Arc, Mutex, Wait};
 use world_core::{Command, Events, Frame, Reply, StepSolver, WorldCore};
 
-/// A world that seats share. Each accepted call takes the lock, applies one command, appends one entry to the journal, and gives
-/// the lock back.
+/// A world that seats share. Each accepted call takes the lock, applies one command, appends one entry to the journal,
+/// and gives the lock back.
 #[derive(Drop)]
 pub struct SharedWorld<N: Opened> {
     book: Book<N, Command, Reply>,
@@ -151,8 +151,8 @@ fn has_all<N: Opened>(seats: &[Seat<N>], count: u64) -> bool
 }
 
 impl<N: Opened> SharedWorld<N> {
-    /// Opens a world to the seats of a roster, which stand in the order of their numbers and have seen nothing. Refused 1 where
-    /// memory is wanting, and then the world comes back as it was.
+    /// Opens a world to the seats of a roster, which stand in the order of their numbers and have seen nothing. Refused
+    /// 1 where memory is wanting, and then the world comes back as it was.
     pub fn open(
         alloc: Global,
         world: WorldCore,
@@ -167,9 +167,9 @@ impl<N: Opened> SharedWorld<N> {
         }
     }
 
-    /// Makes a call through a seat. The seat has then seen one past of it, followed by just this call, which the receipt names;
-    /// of a refused call it has seen the past alone, and the call takes no number. Refused as that past's world refuses the
-    /// command, or 1 where memory is wanting.
+    /// Makes a call through a seat. The seat has then seen one past of it, followed by just this call, which the
+    /// receipt names; of a refused call it has seen the past alone, and the call takes no number. Refused as that
+    /// past's world refuses the command, or 1 where memory is wanting.
     pub fn call<R: Wait>(
         &self,
         rt: &R,
@@ -194,8 +194,7 @@ impl<N: Opened> SharedWorld<N> {
         self.lock.lock(rt).step(&self.book, seat, solver, ticks)
     }
 
-    /// Settles the journal, which begins anew at the present world, and answers how many entries it had. Refused 1 where
-    /// memory is wanting.
+    /// Settles the journal, which begins anew at the present world, and answers how many entries it had.
     pub fn settle<R: Wait>(&self, rt: &R) -> Result<u64, Refusal>
         ensures { IsOkUnless result Refusal.NoMemory }
     {
@@ -206,16 +205,16 @@ impl<N: Opened> SharedWorld<N> {
         Ok(count)
     }
 
-    /// What the world shows, to be shared without a copy. The seat has then seen one past of it, and the frame is that of the
-    /// past's world. Refused 1 where memory is wanting.
+    /// What the world shows, to be shared without a copy. The seat has then seen one past of it, and the frame is that
+    /// of the past's world.
     pub fn frame<R: Wait>(&self, rt: &R, seat: &mut Seat<N>) -> Result<Arc<Frame, Global>, Refusal>
         ensures { MatchResult result (λ frame. Shown N.opening seat.old (arc_value frame) seat.new) (λ refusal. (refusal ≡ Refusal.NoMemory) × Met N.opening seat.old seat.new) }
     {
         self.lock.lock(rt).frame(&self.book, seat)
     }
 
-    /// The events of the last step. The seat has then seen one past of it, and these are the events of the past's last step, or
-    /// those at `open` where it has none. Refused 1 where memory is wanting.
+    /// The events of the last step. The seat has then seen one past of it, and these are the events of the past's last
+    /// step, or those at `open` where it has none.
     pub fn events<R: Wait>(&self, rt: &R, seat: &mut Seat<N>) -> Result<Events, Refusal>
         ensures { MatchResult result (λ events. EventsShown N.opening seat.old events seat.new) (λ refusal. (refusal ≡ Refusal.NoMemory) × Met N.opening seat.old seat.new) }
     {

@@ -39,7 +39,7 @@ impl Tally {
     }
 }
 
-/// The tallies of so many seats that made no calls. Refused 1 where memory is wanting.
+/// The tallies of so many seats that made no calls.
 pub(crate) fn no_tallies(alloc: Global, seats: u64) -> Result<Vec<Tally>, Refusal>
     ensures none { IfOk result (λ tallies. tallies.items ≡ replicate seats no_calls) }
     ensures memory_only { IsOkUnless result Refusal.NoMemory }

@@ -72,7 +72,7 @@ fn count_touching(contacts: &[ContactEntry]) -> usize
         .count()
 }
 
-/// The same of all that are kept. Refused 1 where memory is wanting.
+/// The same of all that are kept.
 fn count_kept(alloc: Global, table: &ContactTable) -> Result<(usize, usize), Refusal>
     ensures all { IfOk result (λ counted. counted.0 ≡ length table.now.contacts) }
     ensures touching { IfOk result (λ counted. counted.1 ≡ count_by is_touching table.now.contacts) }
@@ -105,7 +105,7 @@ fn count_islands(labels: &[Option<Label>]) -> usize
         .count()
 }
 
-/// How many colours some constraint has. Refused 1 where memory is wanting.
+/// How many colours some constraint has.
 fn count_colours(colours: &Colours<Constraint>) -> Result<usize, Refusal>
     ensures colours { IfOk result (λ count. count ≡ count_by has_some (ids_of colours.now.lists)) }
     ensures memory_only { IsOkUnless result Refusal.NoMemory }
@@ -120,7 +120,7 @@ fn count_colours(colours: &Colours<Constraint>) -> Result<usize, Refusal>
     Ok(count)
 }
 
-/// How much there is of a world. It looks at all bodies, joints, contacts and constraints. Refused 1 where memory is wanting.
+/// How much there is of a world. It looks at all bodies, joints, contacts and constraints.
 pub fn count(alloc: Global, world: &WorldCore) -> Result<Counts, Refusal>
     ensures counts { IfOk result (λ counts. counts ≡ counts_of world.now.plain) }
     ensures memory_only { IsOkUnless result Refusal.NoMemory }

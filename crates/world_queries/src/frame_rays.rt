@@ -38,9 +38,9 @@ fn hit_in_slot(cast: &RayCast, shown: &Option<FrameBody>) -> Option<Hit>
     }
 }
 
-/// The ray's first hit on the shapes of all bodies that a frame shows: the least by its fraction, in 2^24ths of the way, and
-/// then by the shape's name. It is what [`ray`](crate::ray) hits first in the world that the frame is of. The start, in u, is
-/// within 2^36 in each coordinate, the way within 2^28. It looks at each shape, and takes no memory.
+/// The ray's first hit on the shapes of all bodies that a frame shows: the least by its fraction, in 2^24ths of the
+/// way, and then by the shape's name. It is what [`ray`](crate::ray) hits first in the world that the frame is of. The
+/// start, in u, is within 2^36 in each coordinate, the way within 2^28. It looks at each shape, and takes no memory.
 pub fn frame_ray(frame: &Frame, from: Vec2, along: Vec2) -> Option<Hit>
     requires { IsBeam (beam_of from along) }
     ensures { result ≡ first_hit (beam_of from along) (framed_shapes frame.now.bodies) }

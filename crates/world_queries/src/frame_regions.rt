@@ -14,7 +14,7 @@ use shapes::MAX_SHAPES;
 use std::alloc::Global;
 use world_core::{Frame, FrameBody};
 
-/// Adds the shapes of a body that lie over the region. Refused 1 where memory is wanting.
+/// Adds the shapes of a body that lie over the region.
 fn add_body(found: &mut Vec<ShapeId>, bounds: &Box2, body: &FrameBody) -> Result<(), Refusal>
     requires { IsFrameBody body.now.handle.slot body.now }
     ensures found { OnOk result (found.new.items ≡ found.old.items ++ region bounds.now (framed_at (Some body.now))) }
@@ -29,7 +29,7 @@ fn add_body(found: &mut Vec<ShapeId>, bounds: &Box2, body: &FrameBody) -> Result
     Ok(())
 }
 
-/// Adds the shapes of what is shown in a slot that lie over the region. Refused 1 where memory is wanting.
+/// Adds the shapes of what is shown in a slot that lie over the region.
 fn add_shown(
     found: &mut Vec<ShapeId>,
     bounds: &Box2,
@@ -45,9 +45,9 @@ fn add_shown(
     }
 }
 
-/// All shapes of the bodies that a frame shows whose tight box overlaps the region, ascending by name; a box that only touches it
-/// does. They are what [`region`](crate::region) finds in the world that the frame is of. It looks at each shape. Refused 1 where
-/// memory is wanting.
+/// All shapes of the bodies that a frame shows whose tight box overlaps the region, ascending by name; a box that only
+/// touches it does. They are what [`region`](crate::region) finds in the world that the frame is of. It looks at each
+/// shape.
 pub fn frame_region(alloc: Global, frame: &Frame, bounds: &Box2) -> Result<Vec<ShapeId>, Refusal>
     ensures shapes { IfOk result (λ found. found.items ≡ region bounds.now (framed_shapes frame.now.bodies)) }
     ensures memory_only { IsOkUnless result Refusal.NoMemory }

@@ -1,4 +1,5 @@
-//! All hits of a ray, in order (Box2D: `b2World_CastRay`). A ray whose way is zero hits the shapes that its start lies in.
+//! All hits of a ray, in order (Box2D: `b2World_CastRay`). A ray whose way is zero hits the shapes that its start lies
+//! in.
 
 ghost use Rattle.std.specs.Prelude.{◌≡◌, ◌+◌, ◌*◌, ◌^◌, IfErr, IfOk, None, OnOk};
 ghost use Rattle.std.specs.List.{filter_map};
@@ -28,7 +29,7 @@ fn hit_named(world: &WorldCore, cast: &RayCast, filter: &QueryFilter, id: ShapeI
     }
 }
 
-/// The ray's hits on the shapes of these names that the filter lets through, in the order of the names. Refused 1 where memory is wanting.
+/// The ray's hits on the shapes of these names that the filter lets through, in the order of the names.
 fn hits_among(
     alloc: Global,
     world: &WorldCore,
@@ -70,9 +71,10 @@ fn put_in_order(hits: &mut Vec<Hit>)
     hits.sort_unstable_by_key(|hit| hit_number(hit));
 }
 
-/// All hits of a ray on the shapes of enabled bodies that the filter lets through: one for each shape that it hits, the nearest first, and those as near by
-/// the shapes' names. The start, in u, is within 2^36 in each coordinate, the way within 2^28. It looks at the shapes whose tight boxes overlap the box
-/// round the way. Refused 2 where the filter leaves out a body that doesn't live, else 1 where memory is wanting.
+/// All hits of a ray on the shapes of enabled bodies that the filter lets through: one for each shape that it hits, the
+/// nearest first, and those as near by the shapes' names. The start, in u, is within 2^36 in each coordinate, the way
+/// within 2^28. It looks at the shapes whose tight boxes overlap the box round the way. Refused 2 where the filter
+/// leaves out a body that doesn't live, else 1 where memory is wanting.
 pub fn all_hits(
     alloc: Global,
     world: &WorldCore,

@@ -12,8 +12,8 @@ use plain_world::{BodyJoint, item_at};
 use std::alloc::Global;
 use world_core::{Handle, Joint, WorldCore};
 
-/// What can be seen of a joint: the ids of its two bodies, whether they may collide, and its anchors (u, from each body's centre
-/// in the body's own axes), its length (u) and the impulse that it keeps (mass·u/tick).
+/// What can be seen of a joint: the ids of its two bodies, whether they may collide, and its anchors (u, from each
+/// body's centre in the body's own axes), its length (u) and the impulse that it keeps (mass·u/tick).
 #[derive(Clone, Copy, Debug, PartialEq, Eq)]
 pub struct JointView {
     pub a: Handle,
@@ -46,8 +46,7 @@ pub fn joint(world: &WorldCore, handle: Handle) -> Option<JointView>
     }
 }
 
-/// The ids of the joints that have the body in a slot as an end, ascending by their slots. Costs by how many there are. Refused 1
-/// where memory is wanting.
+/// The ids of the joints that have the body in a slot as an end, ascending by their slots. Costs by how many there are.
 pub fn joints_of(alloc: Global, world: &WorldCore, slot: u32) -> Result<Vec<Handle>, Refusal>
     ensures joints { IfOk result (λ joints. joints.items ≡ joints_at slot world.now.plain) }
     ensures memory_only { IsOkUnless result Refusal.NoMemory }
@@ -56,7 +55,7 @@ pub fn joints_of(alloc: Global, world: &WorldCore, slot: u32) -> Result<Vec<Hand
     list_handles(alloc, world.joint_entries(), &slots)
 }
 
-/// The ids at which these slots were given out. Refused 1 where memory is wanting.
+/// The ids at which these slots were given out.
 fn list_handles(
     alloc: Global,
     slot_entries: &[SlotEntry],

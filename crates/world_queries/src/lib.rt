@@ -1,6 +1,6 @@
-//! Questions about a world. About its shapes: what a ray hits first, and which shapes lie over a region, where only enabled bodies are
-//! seen. The same may be asked of a frame, with the answers that the frame's world would give. And about its bodies and joints: what one is,
-//! which joints and contacts a body has, and how many there are of each.
+//! Questions about a world. About its shapes: what a ray hits first, and which shapes lie over a region, where only
+//! enabled bodies are seen. The same may be asked of a frame, with the answers that the frame's world would give. And
+//! about its bodies and joints: what one is, which joints and contacts a body has, and how many there are of each.
 //!
 //! A question changes nothing, and is no call of the world.
 #![tactic(auto)]

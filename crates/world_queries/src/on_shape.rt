@@ -24,9 +24,10 @@ fn hit_of(found: Option<PosedShape>, from: Vec2, along: Vec2) -> Result<Option<S
     }
 }
 
-/// The ray's first hit on the shape of this name: the fraction, in 2^24ths of the way, the point, in u, and the normal, times 2^30, from the shape
-/// outwards; `None` where the ray misses it. So what is told of a hit is its shape's here, as the shape lies now. Refused 2 where the name is of no shape
-/// of an enabled body. The start, in u, is within 2^36 in each coordinate, the way within 2^28. It takes no memory.
+/// The ray's first hit on the shape of this name: the fraction, in 2^24ths of the way, the point, in u, and the normal,
+/// times 2^30, from the shape outwards; `None` where the ray misses it. So what is told of a hit is its shape's here,
+/// as the shape lies now. Refused 2 where the name is of no shape of an enabled body. The start, in u, is within 2^36
+/// in each coordinate, the way within 2^28. It takes no memory.
 pub fn ray_on_shape(
     world: &WorldCore,
     from: Vec2,

@@ -16,7 +16,7 @@ fn has_slot(entry: &ContactEntry, slot: u32) -> bool
     entry.key.first.slot == slot || entry.key.second.slot == slot
 }
 
-/// Those of these contacts that the body in a slot has. Refused 1 where memory is wanting.
+/// Those of these contacts that the body in a slot has.
 fn contacts_among(
     alloc: Global,
     contacts: &[ContactEntry],
@@ -34,7 +34,7 @@ fn contacts_among(
     Ok(found)
 }
 
-/// The contacts of the body in a slot, ascending by key. It looks at all contacts. Refused 1 where memory is wanting.
+/// The contacts of the body in a slot, ascending by key. It looks at all contacts.
 pub fn contacts_of(
     alloc: Global,
     world: &WorldCore,

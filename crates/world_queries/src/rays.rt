@@ -110,9 +110,9 @@ fn first_through(world: &WorldCore, from: Vec2, along: Vec2, filter: &QueryFilte
     }
 }
 
-/// The ray's first hit on the shapes of all enabled bodies: the least by its fraction, in 2^24ths of the way, and then by the
-/// shape's name. The start, in u, is within 2^36 in each coordinate, the way within 2^28. It looks at the bodies whose boxes the ray
-/// reaches, and takes no memory.
+/// The ray's first hit on the shapes of all enabled bodies: the least by its fraction, in 2^24ths of the way, and then
+/// by the shape's name. The start, in u, is within 2^36 in each coordinate, the way within 2^28. It looks at the bodies
+/// whose boxes the ray reaches, and takes no memory.
 pub fn ray(world: &WorldCore, from: Vec2, along: Vec2) -> Option<Hit>
     requires { IsBeam (beam_of from along) }
     ensures { result ≡ first_hit (beam_of from along) (posed_shapes world.now.plain.bodies) }
@@ -124,8 +124,8 @@ pub fn ray(world: &WorldCore, from: Vec2, along: Vec2) -> Option<Hit>
     first_through(world, from, along, &all)
 }
 
-/// The ray's first hit, as [`ray`] has it, on those of the shapes that the filter lets through. Refused 2 where the filter
-/// leaves out a body that doesn't live. It takes no memory.
+/// The ray's first hit, as [`ray`] has it, on those of the shapes that the filter lets through. Refused 2 where the
+/// filter leaves out a body that doesn't live. It takes no memory.
 pub fn filtered_ray(
     world: &WorldCore,
     from: Vec2,

@@ -18,7 +18,7 @@ use shapes::MAX_SHAPES;
 use std::alloc::Global;
 use world_core::WorldCore;
 
-/// Adds the shape if it lies over the region. Refused 1 where memory is wanting.
+/// Adds the shape if it lies over the region.
 pub(crate) fn add_over(
     found: &mut Vec<ShapeId>,
     bounds: &Box2,
@@ -34,7 +34,7 @@ pub(crate) fn add_over(
     Ok(())
 }
 
-/// Adds the shapes of the body in a slot that lie over the region. Refused 1 where memory is wanting.
+/// Adds the shapes of the body in a slot that lie over the region.
 fn add_at_slot(
     found: &mut Vec<ShapeId>,
     world: &WorldCore,
@@ -58,8 +58,8 @@ fn add_at_slot(
     Ok(())
 }
 
-/// All shapes of enabled bodies whose tight box overlaps the region, ascending by name; a box that only touches it does. It looks at the
-/// bodies whose boxes overlap the region. Refused 1 where memory is wanting.
+/// All shapes of enabled bodies whose tight box overlaps the region, ascending by name; a box that only touches it
+/// does. It looks at the bodies whose boxes overlap the region.
 pub fn region(alloc: Global, world: &WorldCore, bounds: &Box2) -> Result<Vec<ShapeId>, Refusal>
     ensures shapes { IfOk result (λ found. found.items ≡ region bounds.now (posed_shapes world.now.plain.bodies)) }
     ensures memory_only { IsOkUnless result Refusal.NoMemory }
@@ -72,7 +72,7 @@ pub fn region(alloc: Global, world: &WorldCore, bounds: &Box2) -> Result<Vec<Sha
     Ok(found)
 }
 
-/// Those of these names that the filter lets through, in their order. Refused 1 where memory is wanting.
+/// Those of these names that the filter lets through, in their order.
 fn names_through(
     alloc: Global,
     bodies: &[Option<Body>],
@@ -91,8 +91,8 @@ fn names_through(
     Ok(kept)
 }
 
-/// Those of the shapes over a region, as [`region`] has them, that the filter lets through. Refused 2 where the filter leaves out a body that doesn't live,
-/// else 1 where memory is wanting.
+/// Those of the shapes over a region, as [`region`] has them, that the filter lets through. Refused 2 where the filter
+/// leaves out a body that doesn't live, else 1 where memory is wanting.
 pub fn filtered_region(
     alloc: Global,
     world: &WorldCore,

@@ -1,4 +1,5 @@
--- Accepted commands that make and end parts of a world keep it, in the words of what `apply` leaves: a body destroyed, disabled or enabled, a joint made or destroyed.
+-- Accepted commands that make and end parts of a world keep it, in the words of what `apply` leaves: a body destroyed,
+-- disabled or enabled, a joint made or destroyed.
 use Rattle.std.proofs.Common.{◌≡◌, ◌<◌, ◌^◌, ◌++◌, List, [], Option, Some, None, Result, Ok, Err, Bool, true, false, cond, nat_lt, ltb-true, refl, sym, subst, ◌∷◌}
 use Rattle.std.proofs.lemmas.List.{append-nil}
 use Rattle.fixed_geom.specs.declared.refusal.Refusal.{Refusal}

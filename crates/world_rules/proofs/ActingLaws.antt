@@ -1,4 +1,5 @@
--- The constraints, islands and colours that a command leaves, put into the world with its bodies told: they are those of the new world, and it is consistent.
+-- The constraints, islands and colours that a command leaves, put into the world with its bodies told: they are those
+-- of the new world, and it is consistent.
 use Rattle.std.proofs.Common.{◌≡◌, ℕ, ◌+◌, ◌*◌, ◌^◌, ◌≤◌, List, [], ◌∷◌, length, All, Bool, true, false, cond, is_some, Option, Some, None, refl, sym, ap, ◌∙◌, subst}
 use Rattle.std.specs.Prelude.{Contains, not}
 use Rattle.std.specs.Option.{is_none, option_map_or}

@@ -1,4 +1,5 @@
--- A slot gets another body, or none: what its contacts and its joints leave stays in order, and so do the bodies in other slots.
+-- A slot gets another body, or none: what its contacts and its joints leave stays in order, and so do the bodies in
+-- other slots.
 use Rattle.std.proofs.Common.{◌≡◌, ◌≢◌, ℕ, zero, suc, ◌*◌, ◌<◌, ◌≤◌, ◌==◌, ◌||◌, Bool, true, false, not, cond, List, [], ◌∷◌, length, Option, Some, None, is_some, All, inl, inr, refl, sym, ap, ap₂, ◌∙◌, subst, arith}
 use Rattle.std.specs.Prelude.{option_map, pos, slice_set}
 use Rattle.std.proofs.lemmas.Bool.{cases_eq, eqb-false}

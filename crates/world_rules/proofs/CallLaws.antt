@@ -1,4 +1,5 @@
--- What the sets ask for at each of their calls, where a command makes or ends a part of the world: it holds of a kept world.
+-- What the sets ask for at each of their calls, where a command makes or ends a part of the world: it holds of a kept
+-- world.
 use Rattle.std.proofs.Common.{◌≡◌, ℕ, ◌<◌, true, false, List, [], ◌∷◌, Some, None, ◌∙◌}
 use Rattle.std.specs.Prelude.{Contains, filter}
 use Rattle.body_handles.specs.declared.handle.Handle.{Handle}

@@ -1,4 +1,5 @@
--- A body that goes, or takes no part any more, leaves what acts consistent: its ties end, and a mover leaves its island.
+-- A body that goes, or takes no part any more, leaves what acts consistent: its ties end, and a mover leaves its
+-- island.
 use Rattle.std.proofs.Common.{◌≡◌, ◌≢◌, ℕ, ◌+◌, ◌<◌, ◌==◌, Bool, true, false, not, List, [], ◌∷◌, length, Option, Some, None, is_some, refl, sym, ap, ◌∙◌, subst}
 use Rattle.std.proofs.lemmas.List.{length-set}
 use Rattle.std.specs.Prelude.{Contains, filter, slice_set}

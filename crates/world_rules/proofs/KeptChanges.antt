@@ -78,7 +78,8 @@ IsRoomy-same b new entries settled r = record {
 
 -- ---- a command that changes one body
 
--- The body b in a slot becomes the body c, which is a mover, is enabled and sleeps just as b, and has the same shapes. Its momentum grows by (x, y).
+-- The body b in a slot becomes the body c, which is a mover, is enabled and sleeps just as b, and has the same shapes.
+-- Its momentum grows by (x, y).
 pub record IsChanged (bodies : List (Option Body)) (slot : ℕ) (b c : Body) (x y : ℤ) : Type 0 where
   pub at : body_at bodies slot ≡ Some b
   pub body : IsBody c
@@ -173,7 +174,8 @@ found_at false o b e = cc
 pub named_at : (w : Plain) (h : Handle) (b : Body) → body_named w h ≡ Some b → body_at w.bodies h.slot ≡ Some b
 named_at w h b e = found_at (is_live w.slot_entries h) (body_at w.bodies h.slot) b e
 
--- what is known of a body in a world in which some islands were woken first: it is the body that was there, but for its momenta and its sleep
+-- what is known of a body in a world in which some islands were woken first: it is the body that was there, but for its
+-- momenta and its sleep
 pub record IsThere (w : World) (movers : List ℕ) (slot : ℕ) (b : Body) : Type 0 where
   pub label : Option Label
   pub at : body_at (with_woken w.plain movers).bodies slot ≡ Some (told_body label b)

@@ -1,4 +1,5 @@
--- What the code leaves of a world in which a part was made or has ended, computed from what acts in it: it is what the definitions leave, and it is kept.
+-- What the code leaves of a world in which a part was made or has ended, computed from what acts in it: it is what the
+-- definitions leave, and it is kept.
 use Rattle.std.proofs.Common.{◌≡◌, ℕ, ◌+◌, ◌<◌, ◌^◌, ◌++◌, List, [], ◌∷◌, Bool, true, false, cond, Option, Some, None, refl, sym, ap, ◌∙◌, subst}
 use Rattle.std.specs.Prelude.{option_map, slice_set, filter, filter_map}
 use Rattle.std.proofs.lemmas.List.{append-nil}

@@ -1,4 +1,5 @@
--- The impulses that the ticks give back: the ends of the joints, the keys of the contacts and which of them touch are as they were.
+-- The impulses that the ticks give back: the ends of the joints, the keys of the contacts and which of them touch are
+-- as they were.
 use Rattle.std.proofs.Common.{◌≡◌, ℕ, zero, suc, ◌≤◌, ◌^◌, Bool, true, false, cond, List, [], ◌∷◌, map, Option, Some, None, All, ℤ, refl, sym, ap, ◌∙◌, subst}
 use Rattle.std.specs.Prelude.{◌==◌, filter, option_map, slice_set}
 use Rattle.std.specs.Option.{ForSome}
@@ -133,7 +134,8 @@ has_bodies_rows bodies contacts rows all =
 
 -- ---- what the arrays of a step leave
 
--- the motions of the states and the impulses of the rows, where they leave bodies, joints and contacts within their limits
+-- the motions of the states and the impulses of the rows, where they leave bodies, joints and contacts within their
+-- limits
 pub ticked_of : (w : World) (states : List BodyState) (rows : List ConstraintRow) (sums : StepSums) → IsKept w
     → let new : List (Option Body) = renewed_bodies (with_motions w.plain.bodies states) in
     AreBodies new → HaveSameSlots w.plain.bodies new → AreSums (2 ^ 83) sums → momentum new ≡ plus (momentum w.plain.bodies) (added sums)

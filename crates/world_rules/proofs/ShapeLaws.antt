@@ -1,4 +1,5 @@
--- The shapes of bodies that change: where each slot's body has the shapes that were there, its filters and the surfaces of contacts stay.
+-- The shapes of bodies that change: where each slot's body has the shapes that were there, its filters and the surfaces
+-- of contacts stay.
 use Rattle.std.proofs.Common.{◌≡◌, ℕ, zero, suc, Bool, cond, List, [], ◌∷◌, ◌++◌, Option, Some, None, refl, sym, ap, ap₂, ◌∙◌, subst}
 use Rattle.std.specs.Prelude.{slice_get, slice_set}
 use Rattle.std.proofs.lemmas.List.Elements.{All-nil}

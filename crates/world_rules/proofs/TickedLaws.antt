@@ -1,4 +1,5 @@
--- Bodies that ticks have moved: who is a mover and who is enabled is as it was, and each has been slow for as many ticks longer at most.
+-- Bodies that ticks have moved: who is a mover and who is enabled is as it was, and each has been slow for as many
+-- ticks longer at most.
 use Rattle.std.proofs.Common.{◌≡◌, ℕ, zero, suc, ◌+◌, ◌*◌, ◌≤◌, Bool, true, false, cond, is_some, List, [], ◌∷◌, length, Option, Some, None, refl, sym, ap, ap₂, ◌∙◌, subst, arith}
 use Rattle.std.specs.Prelude.{option_map}
 use Rattle.std.proofs.lemmas.Option.{none-some, same_Some}

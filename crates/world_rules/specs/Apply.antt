@@ -63,7 +63,8 @@ use Rattle.world_rules.specs.Collide.{Collided, collided}
 use Rattle.world_rules.specs.Sets.{acting_of, body_come, body_gone, stirred, with_acting, with_woken}
 use Rattle.world_rules.specs.World.{World, body_named, joints_in_slots}
 
--- what an accepted command leaves: the plain world, the reply, the ledger's new entries, and the events where it is a step
+-- what an accepted command leaves: the plain world, the reply, the ledger's new entries, and the events where it is a
+-- step
 pub record Applied : Type 0 where
   pub plain : Plain
   pub reply : Reply
@@ -179,7 +180,8 @@ apply_unjoin w h = where_named (joint_of w.joint_entries w.joints h) (λ j. Ok (
 
 -- ---- Push and PushAt
 
--- the momenta of a body with the impulse j, given at the offset r: the angular momentum grows by the moment r × j, if the body turns
+-- the momenta of a body with the impulse j, given at the offset r: the angular momentum grows by the moment r × j, if
+-- the body turns
 abbrev pub with_impulse : Vec2 → Vec2 → Body → Momenta
 with_impulse j r b = record { p = plus b.motion.p j; l = turned_by b.mass.inertia b.motion.l (cross r j) }
 
@@ -312,11 +314,13 @@ apply_sleep w h = unless_refused (mover_refusal (body_named w h)) (Ok (put_to_sl
 
 -- ---- Step
 
--- the contacts that began and that ended, each in its turn: sleepers wake, islands merge and get loose, colours are taken and given up
+-- the contacts that began and that ended, each in its turn: sleepers wake, islands merge and get loose, colours are
+-- taken and given up
 abbrev pub acting_after_changes : Plain → Collided → Acting Constraint
 acting_after_changes w c = after_changes constraint_number (key_changes w.bodies c.begin c.end) (acting_of w)
 
--- the ticks and the restitution, over the bodies by slot, those awake that the collide has woken, and over the constraints in solve order
+-- the ticks and the restitution, over the bodies by slot, those awake that the collide has woken, and over the
+-- constraints in solve order
 abbrev pub solved_after : Plain → ℕ → Collided → Acting Constraint → Solving
 solved_after w n c s = solved n w.gravity (solve_order (ids_of s.lists)) (told s.labels w.bodies) w.joints c.now
 

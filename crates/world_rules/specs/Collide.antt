@@ -52,8 +52,8 @@ pub record Collided : Type 0 where
   pub begin : List ContactKey
   pub end : List ContactKey
 
--- Every near pair of shapes, whose bodies no joint keeps from colliding, has a contact: evaluated anew, with its kept impulses, if one of the two
--- bodies stirs, and else as it was.
+-- Every near pair of shapes, whose bodies no joint keeps from colliding, has a contact: evaluated anew, with its kept
+-- impulses, if one of the two bodies stirs, and else as it was.
 unfoldable pub contacts_after : List (Option Body) → List (Option BodyJoint) → List ContactEntry → List ContactEntry
 contacts_after bodies joints old = contacts_between (forbidden_pairs joints) (proxies_of bodies) old
 

@@ -14,8 +14,8 @@ use Rattle.world_core_base.specs.ContactBodies.{AreContactsOf}
 use Rattle.world_core_base.specs.Solving.{solve_order}
 use Rattle.world_core_base.specs.SolvingArrays.{CanSolve}
 
--- Joints and contacts are of bodies that are there, and the keys of the contacts ascend. Of each constraint in these lists, one for each colour, a body is an
--- awake mover; none stands twice, and the bodies of each are there.
+-- Joints and contacts are of bodies that are there, and the keys of the contacts ascend. Of each constraint in these
+-- lists, one for each colour, a body is an awake mover; none stands twice, and the bodies of each are there.
 pub record CanGather (bodies : List (Option Body)) (joints : List (Option BodyJoint)) (contacts : List ContactEntry) (lists : List (List (Member Constraint))) : Type 0 where
   pub joints_there : AreJoints bodies joints
   pub rising : AreKeysRising contacts

@@ -106,6 +106,7 @@ pub record GoOnTheSame (v w : World) : Type 0 where
   pub answers : (commands : List Command) → answers_to v commands ≡ answers_to w commands
   pub plains : (commands : List Command) → (replay v commands).plain ≡ (replay w commands).plain
 
--- What becomes of a world, and what is answered, rests on its plain lists alone: not on its ledger, and not on its events.
+-- What becomes of a world, and what is answered, rests on its plain lists alone: not on its ledger, and not on its
+-- events.
 abbrev pub PlainListsDetermineAll : Type 0
 PlainListsDetermineAll = (v w : World) → v.plain ≡ w.plain → GoOnTheSame v w

@@ -1,4 +1,5 @@
--- Trusted: The constraints, islands and colours of a world, taken together: what commands do to them, and the world that they leave.
+-- Trusted: The constraints, islands and colours of a world, taken together: what commands do to them, and the world
+-- that they leave.
 use Rattle.std.specs.Prelude.{ℕ, Bool, cond, List}
 use Rattle.contacts.specs.Constraints.{constraint_number}
 use Rattle.contacts.specs.declared.constraint.Constraint.{Constraint}
@@ -27,8 +28,8 @@ with_acting s w = record w { bodies = told s.labels w.bodies; islands = s.labels
 abbrev pub with_woken : Plain → List ℕ → Plain
 with_woken w slots = with_acting (islands_woken constraint_number (sleeping_names w.islands slots) (acting_of w)) w
 
--- the world in which those were woken whom a change of the body in a slot wakes: a mover's own island, and for an enabled body that is no mover those
--- that touch it or are joined to it
+-- the world in which those were woken whom a change of the body in a slot wakes: a mover's own island, and for an
+-- enabled body that is no mover those that touch it or are joined to it
 abbrev pub stirred : Plain → ℕ → Plain
 stirred w slot = with_woken w (stirred_by w.bodies w.joints w.contacts slot)
 

@@ -19,32 +19,34 @@ pub enum Command {
     CreateBody(BodyDef),
     /// Takes a body away with its joints; the momentum that a mover had is booked as departed. Refused 2.
     DestroyBody(Handle),
-    /// Joins two bodies, one of which at least moves if the joint is to do anything but keep them from colliding. Refused 2, 7, 8, 5 or 3,
-    /// in this order.
+    /// Joins two bodies, one of which at least moves if the joint is to do anything but keep them from colliding.
+    /// Refused 2, 7, 8, 5 or 3, in this order.
     CreateJoint(JointDef),
     /// Takes a joint away. Refused 2.
     DestroyJoint(Handle),
-    /// Adds an impulse, in mass·u/tick, to the momentum of a mover, whose island wakes first. Refused 2, 6, 8, 5 or 9, in this order.
+    /// Adds an impulse, in mass·u/tick, to the momentum of a mover, whose island wakes first. Refused 2, 6, 8, 5 or 9,
+    /// in this order.
     Push(Handle, Vec2),
-    /// Adds an impulse, in mass·u/tick, given at an offset from the centre, in u: the angular momentum of a mover that turns
-    /// grows by its moment. Refused 2, 6, 8, 5 or 9, in this order.
+    /// Adds an impulse, in mass·u/tick, given at an offset from the centre, in u: the angular momentum of a mover that
+    /// turns grows by its moment. Refused 2, 6, 8, 5 or 9, in this order.
     PushAt(Handle, Vec2, Vec2),
-    /// Puts a body of any kind, enabled or not, to another place with another facing. Its momenta and its contacts stay, until
-    /// the next step finds how its shapes touch there. Refused 2 or 5.
+    /// Puts a body of any kind, enabled or not, to another place with another facing. Its momenta and its contacts
+    /// stay, until the next step finds how its shapes touch there. Refused 2 or 5.
     SetPose(Handle, Pose),
     /// Gives a kinematic body another velocity and spin. Refused 2, 15, 8 or 5, in this order.
     SetVelocity(Handle, Course),
     /// Sets the gravity, in u/tick². Refused 5.
     SetGravity(Vec2),
-    /// Takes a body out of the play: its contacts go, its joints do nothing any more, a mover leaves its island, and the momentum that it had is
-    /// booked as departed. Refused 2 or 8, in this order.
+    /// Takes a body out of the play: its contacts go, its joints do nothing any more, a mover leaves its island, and
+    /// the momentum that it had is booked as departed. Refused 2 or 8, in this order.
     Disable(Handle),
-    /// Lets a body take part again: a mover as an awake island of its own, with its joints. An enabled one stays as it is. Refused 2.
+    /// Lets a body take part again: a mover as an awake island of its own, with its joints. An enabled one stays as it
+    /// is. Refused 2.
     Enable(Handle),
     /// Wakes the island of a mover, if it sleeps. Refused 2, 6 or 8, in this order.
     Wake(Handle),
-    /// Puts the island of a mover to rest, which is split first where it may have come apart; the momentum that its movers had is booked as
-    /// rest. One that sleeps stays as it is. Refused 2, 6 or 8, in this order.
+    /// Puts the island of a mover to rest, which is split first where it may have come apart; the momentum that its
+    /// movers had is booked as rest. One that sleeps stays as it is. Refused 2, 6 or 8, in this order.
     Sleep(Handle),
     /// Lets 1 to 8 ticks pass. Refused 5.
     Step(i64),

@@ -1,4 +1,5 @@
-//! Laws of the commands and of sound worlds, for crates above. These functions do nothing; their contracts are the laws.
+//! Laws of the commands and of sound worlds, for crates above. These functions do nothing; their contracts are the
+//! laws.
 
 ghost use Rattle.world_rules.specs.Laws.{ColoursAreApart, EachCallCounts, EachStandsInOneSet, LinkedMoversStandTogether, PlainListsDetermineAll, PushesAreSmall, SleepingSetsAreComponents, WhatActsHasAColour};
 
@@ -8,12 +9,14 @@ pub fn each_call_counts()
     ensures pushes { PushesAreSmall }
 {}
 
-/// Two movers of a sound world that touch, or that a joint links, stand together: both are awake, or both sleep in one set.
+/// Two movers of a sound world that touch, or that a joint links, stand together: both are awake, or both sleep in one
+/// set.
 pub fn linked_movers_stand_together()
     ensures { LinkedMoversStandTogether }
 {}
 
-/// A sleeping set of a sound world is one component: those that sleep in it are just those that contacts and joints link to one of them.
+/// A sleeping set of a sound world is one component: those that sleep in it are just those that contacts and joints
+/// link to one of them.
 pub fn sleeping_sets_are_components()
     ensures { SleepingSetsAreComponents }
 {}
@@ -23,12 +26,14 @@ pub fn colours_are_apart()
     ensures { ColoursAreApart }
 {}
 
-/// The constraints of a sound world that have a colour, or stand in the overflow, are just those whose movers are awake.
+/// The constraints of a sound world that have a colour, or stand in the overflow, are just those whose movers are
+/// awake.
 pub fn what_acts_has_a_colour()
     ensures { WhatActsHasAColour }
 {}
 
-/// Each body, each joint and each contact of a sound world stands in exactly one solver set, and the census lists it there, once.
+/// Each body, each joint and each contact of a sound world stands in exactly one solver set, and the census lists it
+/// there, once.
 pub fn each_stands_in_one_set()
     ensures { EachStandsInOneSet }
 {}

@@ -23,8 +23,9 @@ const STACK: usize = 262_144;
 /// The bytes between two touches, at most a page.
 const STRIDE: usize = 4_096;
 
-/// Touches the stack as far as requests will need it. Later a limit of all memory would leave it no room to grow, and the system would end the
-/// program by a signal. The answer depends on all that was written, so that no compiler leaves the writes out.
+/// Touches the stack as far as requests will need it. Later a limit of all memory would leave it no room to grow, and
+/// the system would end the program by a signal. The answer depends on all that was written, so that no compiler leaves
+/// the writes out.
 #[inline(never)]
 fn touch_stack(seed: usize) -> usize
     ensures { result < 256 }

@@ -10,7 +10,8 @@ use plain_world::{Body, BodyView, Plain, SetName};
 use shape_rays::Hit;
 use std::fmt;
 
-/// What a seat of a crowd did: how many of its calls were accepted, and the sum of the impulses that they gave, in mass·u/tick.
+/// What a seat of a crowd did: how many of its calls were accepted, and the sum of the impulses that they gave, in
+/// mass·u/tick.
 #[derive(Clone, Copy)]
 pub struct SeatReport {
     pub accepted: u64,
@@ -25,8 +26,8 @@ pub struct BodyList<'a> {
     pub awake: bool,
 }
 
-/// What is told of a joint: where in the world its two ends are (u), the length that it is to hold, by how much the distance of its ends
-/// exceeds it now (u), the impulse that it keeps (mass·u/tick), and the set in which it stands.
+/// What is told of a joint: where in the world its two ends are (u), the length that it is to hold, by how much the
+/// distance of its ends exceeds it now (u), the impulse that it keeps (mass·u/tick), and the set in which it stands.
 #[derive(Clone, Copy)]
 pub struct JointReport {
     pub joint: Handle,

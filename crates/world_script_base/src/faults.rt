@@ -83,7 +83,8 @@ impl fmt::Display for Reason {
     }
 }
 
-/// What is wrong with a line, and where: in which request and in which shape of their lists, counted from 0, and at which key.
+/// What is wrong with a line, and where: in which request and in which shape of their lists, counted from 0, and at
+/// which key.
 #[derive(Clone, Copy)]
 pub struct Fault<'a> {
     pub each: Option<usize>,

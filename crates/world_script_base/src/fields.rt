@@ -14,9 +14,9 @@ const MOST_KEYS: usize = 16;
 /// How many shapes of a line are kept: one more than a body may have, so that the world refuses what the line means.
 const MOST_SHAPES: usize = 9;
 
-/// The keys of an object, each once, with the value that stood last. Each key that is allowed is taken; what is left then is
-/// unknown. What is wrong is noted, the first of it alone, and what is taken from then on means nothing: so whoever reads
-/// an object takes all of its keys, and asks once, at the end, whether it was well.
+/// The keys of an object, each once, with the value that stood last. Each key that is allowed is taken; what is left
+/// then is unknown. What is wrong is noted, the first of it alone, and what is taken from then on means nothing: so
+/// whoever reads an object takes all of its keys, and asks once, at the end, whether it was well.
 #[derive(Drop)]
 pub struct Fields<'a> {
     values: Vec<Value<'a>>,

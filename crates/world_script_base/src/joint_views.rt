@@ -15,8 +15,8 @@ use plain_world::{Body, BodyJoint, SetName, item_at};
 use shapes::transformed;
 use solver_sets::standing_of_joint;
 
-/// What can be seen of a joint: where in the world the two points are that it holds (u), by how much their distance, rounded down, exceeds
-/// the joint's length now (u; below 0 where they are nearer), and the set in which it stands.
+/// What can be seen of a joint: where in the world the two points are that it holds (u), by how much their distance,
+/// rounded down, exceeds the joint's length now (u; below 0 where they are nearer), and the set in which it stands.
 #[derive(Clone, Copy, Debug, PartialEq, Eq)]
 pub struct JointView {
     pub from: Vec2,
@@ -93,8 +93,8 @@ pub fn joint_view(
     }
 }
 
-/// The stretch of a joint is what a step that begins now begins with: that of the row which its solver makes of the joint. The function
-/// does nothing; its contract is the law.
+/// The stretch of a joint is what a step that begins now begins with: that of the row which its solver makes of the
+/// joint. The function does nothing; its contract is the law.
 pub fn stretch_is_what_a_step_begins_with()
     ensures { IsStretchOfTheRow }
 {}

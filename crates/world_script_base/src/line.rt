@@ -132,8 +132,8 @@ impl<'a> Line<'a> {
         }
     }
 
-    /// Reads a line, with or without its end. What is wrong is noted in its own object. The scratch grows to the longest
-    /// line that was read.
+    /// Reads a line, with or without its end. What is wrong is noted in its own object. The scratch grows to the
+    /// longest line that was read.
     pub fn read(&mut self, alloc: Global, bytes: &'a [u8], scratch: &'a mut Scratch) {
         match std::str::from_utf8(bytes) {
             Ok(text) => match check_json(text, scratch) {
@@ -175,7 +175,8 @@ impl<'a> Line<'a> {
         }
     }
 
-    /// Reads the value of a key of the line's object. That of the key `world` is a saved world, which is kept as its text.
+    /// Reads the value of a key of the line's object. That of the key `world` is a saved world, which is kept as its
+    /// text.
     fn read_own_value(&mut self, tokens: &mut Tokens<'a>, key: &'a str) {
         let content = if key == "world" {
             tokens.json()

@@ -1,7 +1,8 @@
 //! Whether a text may be a saved world, told by its tokens before a value is made of it.
 //!
-//! A value of JSON takes many times its text: an object of one key some hundred times. So what isn't a saved world at the first look is
-//! found here, and nothing of the text is kept. Each object of a saved world has its own keys, and each key a value of its own kind.
+//! A value of JSON takes many times its text: an object of one key some hundred times. So what isn't a saved world at
+//! the first look is found here, and nothing of the text is kept. Each object of a saved world has its own keys, and
+//! each key a value of its own kind.
 
 use crate::saved_scan::{Field, Form, Kind, Scan};
 use json::{Reader, Scratch};
@@ -248,8 +249,8 @@ impl Form for Ledger {
     }
 }
 
-/// Whether a text of JSON may be a saved world. Where it can't be one, it breaks the first clause. Where it may, all clauses are still to be
-/// asked. The scratch grows to the text's length, and nothing else of the text is kept.
+/// Whether a text of JSON may be a saved world. Where it can't be one, it breaks the first clause. Where it may, all
+/// clauses are still to be asked. The scratch grows to the text's length, and nothing else of the text is kept.
 pub fn may_be_world(text: &str, scratch: &mut Scratch) -> Result<bool, AllocError> {
     let reader = Reader::new(text, scratch)?;
     Ok(Scan::new(reader).read_object::<World>())

@@ -1,8 +1,8 @@
 //! Where a saved world breaks a clause, for whoever has to mend it.
 //!
-//! `world_file` answers the clause alone. Its first four ask much of each body, joint and contact by itself. So each of them is read
-//! here in a list of its own, by the readers that `world_file` has. Which value of it is to blame is found by putting another one in
-//! its place, that would do, and reading it again.
+//! `world_file` answers the clause alone. Its first four ask much of each body, joint and contact by itself. So each of
+//! them is read here in a list of its own, by the readers that `world_file` has. Which value of it is to blame is found
+//! by putting another one in its place, that would do, and reading it again.
 
 use crate::saved_ways::{BODY, CONTACT, JOINT, Mend, POINT, Part, SHAPE, SHAPES, SLOT, Way};
 use fixed_geom::Refusal;
@@ -40,7 +40,8 @@ impl SavedList {
     }
 }
 
-/// A place of a saved world: an item of one of its lists, counted from 0, and within it the value that is to blame, where it is a single one.
+/// A place of a saved world: an item of one of its lists, counted from 0, and within it the value that is to blame,
+/// where it is a single one.
 #[derive(Clone, Copy, Debug, PartialEq, Eq)]
 pub struct SavedPath {
     pub list: SavedList,
@@ -233,9 +234,9 @@ fn broken_clause(alloc: Global, world: &Value) -> Option<Clause> {
     }
 }
 
-/// The first item of a text's saved world, in the order bodies, joints, contacts, that breaks by itself the clause that the world breaks first. Its
-/// way leads to the first value by which another one would mend it, if there is such a value. `None` where the clause isn't one item's doing, where
-/// the world breaks none, and where the text is no JSON. Refused 1 where memory is wanting.
+/// The first item of a text's saved world, in the order bodies, joints, contacts, that breaks by itself the clause that
+/// the world breaks first. Its way leads to the first value by which another one would mend it, if there is such a
+/// value. `None` where the clause isn't one item's doing, where the world breaks none, and where the text is no JSON.
 pub fn broken_path(alloc: Global, text: &str) -> Result<Option<SavedPath>, Refusal> {
     let Ok(world) = Value::from_str(alloc, text) else {
         return Ok(None);

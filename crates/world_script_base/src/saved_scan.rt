@@ -38,8 +38,8 @@ pub(crate) trait Form {
     fn read_parts(scan: &mut Scan<'_>, bit: u32) -> bool;
 }
 
-/// What was read of an object: the keys that it has, those whose last value isn't what it has to be, and whether it has a key that isn't of
-/// its form.
+/// What was read of an object: the keys that it has, those whose last value isn't what it has to be, and whether it has
+/// a key that isn't of its form.
 #[derive(Clone, Copy)]
 struct Seen {
     keys: u32,

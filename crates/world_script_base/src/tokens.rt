@@ -1,7 +1,7 @@
 //! The tokens of a line, and what of them has a meaning in any object.
 //!
-//! A value is kept as far as a request can have it, and the rest is passed by: a line takes a byte for each of its own, in
-//! which texts with escapes are written out, and beside that no more than its request means.
+//! A value is kept as far as a request can have it, and the rest is passed by: a line takes a byte for each of its own,
+//! in which texts with escapes are written out, and beside that no more than its request means.
 
 use crate::faults::{LineFault, Reason};
 use crate::pairs::{Item, NO_ITEMS, Pair};
@@ -11,8 +11,8 @@ use json::{Reader, Token};
 use serde_json::Value;
 use std::alloc::Global;
 
-/// The tokens of a line that was found to be JSON, and what is wrong with them all the same: a number that no float is near,
-/// or want of memory. After that no token follows.
+/// The tokens of a line that was found to be JSON, and what is wrong with them all the same: a number that no float is
+/// near, or want of memory. After that no token follows.
 #[derive(Drop)]
 pub(crate) struct Tokens<'a> {
     alloc: Global,

@@ -3,7 +3,8 @@
 use crate::faults::Fault;
 use fixed_geom::Vec2;
 
-/// What a value is, as far as a request can have it. Shapes and requests stand beside the values, in the lists of their own.
+/// What a value is, as far as a request can have it. Shapes and requests stand beside the values, in the lists of their
+/// own.
 #[derive(Clone, Copy)]
 pub(crate) enum Content<'a> {
     /// A whole number that 64 bits hold, with a sign or without.

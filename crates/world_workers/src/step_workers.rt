@@ -15,8 +15,9 @@ use std::sync::Wait;
 use std::thread::{Scope, Threads};
 use world_core::{Reply, WorldCore, is_tick_count};
 
-/// The workers of a caller's steps, of which the caller is one. They are started in its scope by the first step that is worth them, and stay until
-/// they are ended: its type sees to that, since it can't be let go otherwise. Contracts see how many workers there are to be.
+/// The workers of a caller's steps, of which the caller is one. They are started in its scope by the first step that is
+/// worth them, and stay until they are ended: its type sees to that, since it can't be let go otherwise. Contracts see
+/// how many workers there are to be.
 pub struct StepWorkers<'s, 'e, E, R, G: Gate> {
     scope: &'e Scope<'s, E>,
     rt: &'s R,
@@ -55,7 +56,8 @@ impl<'s, 'e, E, R: Threads + Wait + Sync, G: Gate + Sync> StepWorkers<'s, 'e, E,
         }
     }
 
-    /// The workers, started where none are. Refused 5 where they aren't 1 to 64, 1 where memory is wanting, and 11 where a thread can't be started.
+    /// The workers, started where none are. Refused 5 where they aren't 1 to 64, 1 where memory is wanting, and 11
+    /// where a thread can't be started.
     fn hired(&mut self) -> Result<PartCrew<'s, R, G>, Refusal>
         ensures refused { IfErr result (MayRefuseStart self.old) }
         ensures workers { self.new ≡ self.old }
@@ -82,8 +84,9 @@ impl<'s, 'e, E, R: Threads + Wait + Sync, G: Gate + Sync> StepWorkers<'s, 'e, E,
         }
     }
 
-    /// Lets 1 to 8 ticks pass, solved by the workers where that is worth it. It is what `step_one` does. Refused 10 or 5, 1 where memory is wanting,
-    /// or 11 where a thread can't be started, with nothing changed: the next step tries it again.
+    /// Lets 1 to 8 ticks pass, solved by the workers where that is worth it. It is what `step_one` does. Refused 10 or
+    /// 5, 1 where memory is wanting, or 11 where a thread can't be started, with nothing changed: the next step tries
+    /// it again.
     pub fn step(&mut self, world: &mut WorldCore, ticks: i64) -> Result<Reply, Refusal>
         ensures answer { AnswersByThreads (step_due self.old world.old.plain ticks) world.old result world.new }
         ensures workers { self.new ≡ self.old }

@@ -95,8 +95,8 @@ fn step_scoped<R: Threads + Wait + Sync, G: Gate + Sync>(
     )
 }
 
-/// Makes a step with workers that start for it. Another world stands in this one's place meanwhile, since what a scope changes behind a
-/// reference can't be told.
+/// Makes a step with workers that start for it. Another world stands in this one's place meanwhile, since what a scope
+/// changes behind a reference can't be told.
 fn step_apart<R: Threads + Wait + Sync, G: Gate + Sync>(
     world: &mut WorldCore,
     aside: WorldCore,
@@ -123,8 +123,9 @@ fn step_apart<R: Threads + Wait + Sync, G: Gate + Sync>(
     answer
 }
 
-/// Lets 1 to 8 ticks pass, solved by 1 to 64 workers, of which the caller is one; each enters the gate before each of its pieces. It is what
-/// `step_one` does. Refused 10 or 5, 1 where memory is wanting, or 11 where a thread can't be started, with nothing changed.
+/// Lets 1 to 8 ticks pass, solved by 1 to 64 workers, of which the caller is one; each enters the gate before each of
+/// its pieces. It is what `step_one` does. Refused 10 or 5, 1 where memory is wanting, or 11 where a thread can't be
+/// started, with nothing changed.
 pub fn step_with<R: AllocGlobal + Threads + Wait + Sync, G: Gate + Sync>(
     world: &mut WorldCore,
     rt: &R,

@@ -10,8 +10,8 @@ use fixed_geom::Refusal;
 use std::alloc::Global;
 
 impl Handles {
-    /// The handles of which these are the entries by slot. Those that are free are given out again lowest first, each at the
-    /// generation that it has here. Costs by their number. Refused for want of memory only.
+    /// The handles of which these are the entries by slot. Those that are free are given out again lowest first, each
+    /// at the generation that it has here. Costs by their number. Refused for want of memory only.
     pub fn from_slot_entries(alloc: Global, slot_entries: &[SlotEntry]) -> Result<Handles, Refusal>
         requires each { All IsSlotEntry slot_entries.now }
         requires few { length slot_entries.now ≤ MAX_SLOTS }

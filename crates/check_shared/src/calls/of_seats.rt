@@ -76,7 +76,8 @@ pub fn shown_by(frame: &Frame) -> Shown {
     }
 }
 
-/// The calls that seats of this type make of a world that they share. It asks for nothing more, so that threads may be given such a world.
+/// The calls that seats of this type make of a world that they share. It asks for nothing more, so that threads may be
+/// given such a world.
 pub trait Called<T> {
     fn call<R: Wait>(&self, rt: &R, seat: &mut T, command: Command) -> SeatAnswer;
 
@@ -103,7 +104,8 @@ pub trait Called<T> {
         along: Vec2,
     ) -> Result<(Shown, Option<Hit>), Refusal>;
 
-    /// All that a frame shows, as text, if there is memory for that. Memory may be refused to the frame alone, between the marks.
+    /// All that a frame shows, as text, if there is memory for that. Memory may be refused to the frame alone, between
+    /// the marks.
     fn frame_text<R: Wait>(
         &self,
         rt: &R,

@@ -19,7 +19,8 @@ fn first_p<W: World>(world: &W) -> Result<Option<Vec2>, Refusal> {
     }
 }
 
-/// What the seats told, and what is left of the world: how long its journal is, what was settled of its seats, what the first body has, and the ledger's total.
+/// What the seats told, and what is left of the world: how long its journal is, what was settled of its seats, what the
+/// first body has, and the ledger's total.
 fn print_left<W: World, R: Print>(rt: &R, left: &Left<W>) -> Result<(), Stop> {
     print!(rt; "{}", left.seen.told)?;
     let journal = left.journal.len();
@@ -46,7 +47,8 @@ fn print_journal<W: World, R: Print>(rt: &R, left: &Left<W>) -> Result<(), Stop>
     Ok(())
 }
 
-/// Tells whether the seats were told what they should be, whether each receipt's entry is in its place, and whether the replay gives the journal's replies and leaves the same world.
+/// Tells whether the seats were told what they should be, whether each receipt's entry is in its place, and whether the
+/// replay gives the journal's replies and leaves the same world.
 fn print_replay<W: World, R: Print>(
     rt: &R,
     alloc: Global,

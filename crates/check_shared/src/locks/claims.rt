@@ -10,8 +10,8 @@ pub const NONE: Handle = Handle {
     generation: 0,
 };
 
-/// What a command asks for: its kind, what it names, and its numbers. Of a body that is made it has the place, and all else of those bodies is the
-/// same.
+/// What a command asks for: its kind, what it names, and its numbers. Of a body that is made it has the place, and all
+/// else of those bodies is the same.
 #[derive(Clone, Copy, PartialEq, Eq)]
 pub struct Gist {
     kind: u8,

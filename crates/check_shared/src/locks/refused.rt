@@ -79,7 +79,8 @@ fn step() -> Command {
     Command::Step(TICKS)
 }
 
-/// What the seat is answered, as text; `None` where memory was refused to the call. Memory may be refused between the marks alone.
+/// What the seat is answered, as text; `None` where memory was refused to the call. Memory may be refused between the
+/// marks alone.
 fn answer<T: Drop, S: Called<T>, R: Wait>(
     rt: &R,
     alloc: Global,
@@ -353,8 +354,9 @@ fn try_in<R: Threads + Wait + Clock + Sync, W: World>(
     run(rt, alloc, worlds.reference.core(), &trial)
 }
 
-/// Makes a call in a shared world while memory may be refused to it. Tells `kept` where a refused call left everything as it was and then succeeded, `none` where it
-/// met no refusal, `outside` where something beside it met one, and else what differs.
+/// Makes a call in a shared world while memory may be refused to it. Tells `kept` where a refused call left everything
+/// as it was and then succeeded, `none` where it met no refusal, `outside` where something beside it met one, and else
+/// what differs.
 pub fn word_of_trial<R: Threads + Wait + Clock + Sync, W: World>(
     rt: &R,
     alloc: Global,

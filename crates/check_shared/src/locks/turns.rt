@@ -52,7 +52,8 @@ fn write_events<T: Drop, S: Called<T>, R: Wait>(
     Ok(())
 }
 
-/// The first seat pushes three times, the journal is settled, the second seat pushes twice, the first is refused, and both look.
+/// The first seat pushes three times, the journal is settled, the second seat pushes twice, the first is refused, and
+/// both look.
 fn write_turns<T: Drop, S: Called<T>, R: Wait>(
     rt: &R,
     told: &mut String,

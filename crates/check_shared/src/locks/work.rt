@@ -169,8 +169,8 @@ impl<N: Opened> Workplace<Seat<N>> for SharedWorld<N> {
     }
 }
 
-/// What the seats answer where each works on a thread of its own. It goes by any workplace and seats that may cross threads, so that whether those of
-/// a shared world may is asked by its caller, as a question of its own.
+/// What the seats answer where each works on a thread of its own. It goes by any workplace and seats that may cross
+/// threads, so that whether those of a shared world may is asked by its caller, as a question of its own.
 fn answers_at_once<T: Drop + Send, S: Workplace<T> + Sync, R: Threads + Wait + Sync>(
     rt: &R,
     alloc: Global,

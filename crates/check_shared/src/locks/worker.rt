@@ -7,8 +7,8 @@ use std::sync::Wait;
 use world_core::{Command, Reply};
 use world_lock::Receipt;
 
-/// A seat with its number, how many of its calls were accepted, from which place its next call may stand, how many calls its last frame counted, and
-/// what it was told.
+/// A seat with its number, how many of its calls were accepted, from which place its next call may stand, how many
+/// calls its last frame counted, and what it was told.
 #[derive(Drop)]
 pub struct Worker<T: Drop> {
     seat: T,

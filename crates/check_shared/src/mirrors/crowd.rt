@@ -13,8 +13,8 @@ use world_lock::{Opened, Seat, SharedWorld};
 /// How many frames the publisher tells of.
 const FRAMES: u64 = 20;
 
-/// The marks that a reader is to learn, whether there will be no more, how many it learnt, and whether it ever showed an older frame than before, or
-/// than one that it was told of.
+/// The marks that a reader is to learn, whether there will be no more, how many it learnt, and whether it ever showed
+/// an older frame than before, or than one that it was told of.
 #[derive(Drop)]
 pub struct Letters<K: Drop> {
     marks: Vec<K>,

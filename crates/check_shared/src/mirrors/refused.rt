@@ -135,8 +135,8 @@ fn told_of(is_right: Result<bool, Refusal>, right: &'static str) -> &'static str
     }
 }
 
-/// Makes the call after a push, and once more where memory was refused to it; then publishes. Tells `kept` where the refused call left all as it was, `none`
-/// where none was refused, and else what differs.
+/// Makes the call after a push, and once more where memory was refused to it; then publishes. Tells `kept` where the
+/// refused call left all as it was, `none` where none was refused, and else what differs.
 pub fn try_call<S: Called<T>, T: Drop, K: Told, P: Shows<S, T, K>, D: Reads<K>, R: Wait>(
     rt: &R,
     alloc: Global,

@@ -316,8 +316,8 @@ where
     }
 }
 
-/// Does the work with the publisher and the readers of a mirror. The other seats of the world go to those that are given back. Answers what there is to
-/// tell.
+/// Does the work with the publisher and the readers of a mirror. The other seats of the world go to those that are
+/// given back. Answers what there is to tell.
 pub fn do_work<
     N: Opened + Send + Sync,
     J: Mirrored + Send + Sync,

@@ -89,8 +89,8 @@ fn work_through<T: Drop, S: Called<T>, R: Threads + Wait + Sync>(
     give_back(rt, seat, back);
 }
 
-/// Starts a thread for each seat. It goes by any world and seats that may cross threads, so that whether those of a shared world may is asked by its
-/// caller, as a question of its own.
+/// Starts a thread for each seat. It goes by any world and seats that may cross threads, so that whether those of a
+/// shared world may is asked by its caller, as a question of its own.
 fn start_all<'s, E, T: Send + Drop + 's, S: Called<T> + Sync + 's, R: Threads + Wait + Sync>(
     scope: &Scope<'s, E>,
     rt: &'s R,

@@ -253,7 +253,8 @@ fn check_crews<R: Print + Threads + Wait + Sync, W: WholeWorld>(
     print_meeting(rt, "a pile", are_same, &meeting)
 }
 
-/// Checks steps of piles. They are so small that the calling thread solves them, but for a crew that is to solve each step by parts.
+/// Checks steps of piles. They are so small that the calling thread solves them, but for a crew that is to solve each
+/// step by parts.
 fn check_after<R: AllocGlobal + Print + Threads + Wait + Sync, W: WholeWorld>(
     rt: &R,
     piles: Piles,

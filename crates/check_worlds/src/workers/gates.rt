@@ -19,7 +19,8 @@ fn has_reached(word: &AtomicU64, number: u64) -> bool {
     false
 }
 
-/// Holds each piece of a map of two until the other one of the same map has entered. A solver that works one piece after the other meets the limit.
+/// Holds each piece of a map of two until the other one of the same map has entered. A solver that works one piece
+/// after the other meets the limit.
 #[derive(Drop)]
 pub struct Meeting {
     first: AtomicU64,
@@ -36,7 +37,8 @@ impl Meeting {
         }
     }
 
-    /// Enters by the one word, and waits for the other to be entered as often. After a wait in vain there is no further one.
+    /// Enters by the one word, and waits for the other to be entered as often. After a wait in vain there is no further
+    /// one.
     fn meet(&self, own: &AtomicU64, other: &AtomicU64) {
         let number = own.fetch_add(1, Ordering::SeqCst).saturating_add(1);
         if self.late.load(Ordering::SeqCst) == 0 && !has_reached(other, number) {

@@ -1,4 +1,5 @@
-//! Steps by workers, in functions that promise nothing. They are no methods of a trait, since a method of a trait starts no threads.
+//! Steps by workers, in functions that promise nothing. They are no methods of a trait, since a method of a trait
+//! starts no threads.
 
 use crew::Gate;
 use std::alloc::Global;

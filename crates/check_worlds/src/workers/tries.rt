@@ -50,7 +50,8 @@ impl Call {
 enum Verdict {
     /// It was answered what it was due, and has left what it was to leave.
     AsDue,
-    /// Memory or a thread was refused, and nothing has changed. It is told by this word, if the call succeeds once more.
+    /// Memory or a thread was refused, and nothing has changed. It is told by this word, if the call succeeds once
+    /// more.
     Refused(&'static str),
     /// This differs from what was to come.
     Differs(&'static str),
@@ -79,7 +80,8 @@ fn are_same<W: World>(alloc: Global, worlds: &Worlds<W>) -> Result<bool, Refusal
     Ok(text_of(alloc, &worlds.world)?.as_str() == text_of(alloc, &worlds.reference)?.as_str())
 }
 
-/// Looks what came of the call in a world. In the reference, which was equal to it before, one thread makes the step if the call wasn't refused.
+/// Looks what came of the call in a world. In the reference, which was equal to it before, one thread makes the step if
+/// the call wasn't refused.
 fn judge<W: WholeWorld>(
     alloc: Global,
     call: Call,
@@ -150,9 +152,9 @@ fn try_twice<R: AllocGlobal + Threads + Wait + Sync, W: WholeWorld>(
     }
 }
 
-/// Makes a call in a world while memory or threads may be refused to it. Tells `kept` where a call that was refused memory left everything as it
-/// was and then succeeded, `unstarted` where it was refused a thread, `none` where it met no refusal, `outside` where something beside it met one,
-/// and else what differs.
+/// Makes a call in a world while memory or threads may be refused to it. Tells `kept` where a call that was refused
+/// memory left everything as it was and then succeeded, `unstarted` where it was refused a thread, `none` where it met
+/// no refusal, `outside` where something beside it met one, and else what differs.
 pub fn word_of_try<R: AllocGlobal + Threads + Wait + Sync, W: WholeWorld>(
     rt: &R,
     call: Call,

@@ -1,4 +1,5 @@
-//! A check under way. What it asks for is told as it comes, and nothing ends it early, so that each check is a list of calls.
+//! A check under way. What it asks for is told as it comes, and nothing ends it early, so that each check is a list of
+//! calls.
 
 use crate::whole_world::{WholeWorld, first_static, over_in};
 use crate::worlds::making::create_of;
@@ -86,7 +87,8 @@ impl<W: WholeWorld> Check<W> {
         }
     }
 
-    /// Applies a command, and tells what it answers. The command is given away, so that whoever asks for many has none of them to drop.
+    /// Applies a command, and tells what it answers. The command is given away, so that whoever asks for many has none
+    /// of them to drop.
     pub fn ask(&mut self, command: Command) {
         let answer = self.world.apply(&command);
         self.see(Seen::Answer(answer));
@@ -462,7 +464,8 @@ impl<W: WholeWorld> Check<W> {
         }
     }
 
-    /// Tells what a frame shows: where the first body is, how many shapes it has, the momentum, the total and the number of calls.
+    /// Tells what a frame shows: where the first body is, how many shapes it has, the momentum, the total and the
+    /// number of calls.
     pub fn see_frame(&mut self, handle: Handle) {
         match self.world.frame() {
             Ok(frame) => {

@@ -63,8 +63,8 @@ fn sleep_by_command_splits_first<W: WholeWorld>(check: &mut Check<W>) {
     check.see_islands(3);
 }
 
-/// Two circles that touch; the second is put far away and to rest, so that both sleep with a contact that is over. The next collide
-/// finds that.
+/// Two circles that touch; the second is put far away and to rest, so that both sleep with a contact that is over. The
+/// next collide finds that.
 fn a_contact_of_sleepers_that_ends_wakes_both<W: WholeWorld>(check: &mut Check<W>) {
     check.begin("a contact of sleepers that ends wakes both", NO_GRAVITY);
     check.add(1, ORIGIN, circle(100));

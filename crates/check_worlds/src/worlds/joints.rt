@@ -82,8 +82,8 @@ fn see_a_tick<W: WholeWorld>(check: &mut Check<W>) {
     check.see_events();
 }
 
-/// The meetings of a tick, those of the next once the bodies are joined by a joint that leaves them where they are, and those of a
-/// third once they aren't any more.
+/// The meetings of a tick, those of the next once the bodies are joined by a joint that leaves them where they are, and
+/// those of a third once they aren't any more.
 fn joined_bodies_do_not_collide<W: WholeWorld>(check: &mut Check<W>) {
     check.begin("joined bodies do not collide", NO_GRAVITY);
     add_pair(check, 1);
@@ -94,8 +94,8 @@ fn joined_bodies_do_not_collide<W: WholeWorld>(check: &mut Check<W>) {
     see_a_tick(check);
 }
 
-/// Two circles 1,000 u apart, which a joint of length 200 pulls together: an eighth of the error in the first tick, half of it by each;
-/// in the second the kept impulse is given once more, of which the solver takes most back.
+/// Two circles 1,000 u apart, which a joint of length 200 pulls together: an eighth of the error in the first tick,
+/// half of it by each; in the second the kept impulse is given once more, of which the solver takes most back.
 fn a_joint_pulls_and_keeps_its_impulse<W: WholeWorld>(check: &mut Check<W>) {
     check.begin("a joint pulls and keeps its impulse", NO_GRAVITY);
     check.add(1, ORIGIN, circle(100));

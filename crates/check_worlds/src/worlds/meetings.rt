@@ -1,5 +1,5 @@
-//! Shapes that meet: which colours their contacts have, and what is told and booked of them. The places and momenta that
-//! meetings leave are shown by the stored scripts of the repository.
+//! Shapes that meet: which colours their contacts have, and what is told and booked of them. The places and momenta
+//! that meetings leave are shown by the stored scripts of the repository.
 
 use crate::whole_world::WholeWorld;
 use crate::worlds::check::Check;
@@ -39,8 +39,8 @@ fn gravity_and_the_floor_are_booked<W: WholeWorld>(check: &mut Check<W>) {
     check.see_entries();
 }
 
-/// A great circle, as slot 0, that twenty-seven small ones lie in: their contacts have the colours in their order, the last three the
-/// overflow.
+/// A great circle, as slot 0, that twenty-seven small ones lie in: their contacts have the colours in their order, the
+/// last three the overflow.
 fn a_hub_takes_all_colours<W: WholeWorld>(check: &mut Check<W>) {
     check.begin("a hub takes all colours", NO_GRAVITY);
     check.add(1000, ORIGIN, circle(100_000));
@@ -54,8 +54,8 @@ fn a_hub_takes_all_colours<W: WholeWorld>(check: &mut Check<W>) {
     check.see_contacts();
 }
 
-/// A great circle, as slot 0, and fifteen small ones in it that don't touch one another: the contacts with it have the colours in the order of
-/// their keys. All sixteen are so near that each pair has a contact.
+/// A great circle, as slot 0, and fifteen small ones in it that don't touch one another: the contacts with it have the
+/// colours in the order of their keys. All sixteen are so near that each pair has a contact.
 fn a_hub_of_fifteen_circles<W: WholeWorld>(check: &mut Check<W>) {
     check.begin("a hub of fifteen circles", NO_GRAVITY);
     check.add(1000, ORIGIN, circle(100_000));

@@ -27,8 +27,9 @@ fn see_pair<W: WholeWorld>(check: &mut Check<W>) {
     check.see_islands(2);
 }
 
-/// The momentum departs, body and joint stand in disabled, where the joint does nothing, and the neighbour stays behind in a loose island. Enabled,
-/// the body is at rest, and its joint makes one loose island of both, which is split into itself before it sleeps.
+/// The momentum departs, body and joint stand in disabled, where the joint does nothing, and the neighbour stays behind
+/// in a loose island. Enabled, the body is at rest, and its joint makes one loose island of both, which is split into
+/// itself before it sleeps.
 fn a_disabled_body_leaves_and_comes_again<W: WholeWorld>(check: &mut Check<W>) {
     check.begin("a disabled body leaves and comes again", NO_GRAVITY);
     add_joined(check);
@@ -82,7 +83,8 @@ fn a_stale_handle_is_refused<W: WholeWorld>(check: &mut Check<W>) {
     check.see_counts();
 }
 
-/// Static and kinematic bodies can be disabled and enabled, and neither sleep nor wake, whether they are disabled or not.
+/// Static and kinematic bodies can be disabled and enabled, and neither sleep nor wake, whether they are disabled or
+/// not.
 fn bodies_that_do_not_move_are_refused<W: WholeWorld>(check: &mut Check<W>) {
     let none = MassData {
         mass: 0,

@@ -13,8 +13,8 @@ fn to_the_right(x: i64) -> Course {
     }
 }
 
-/// A kinematic circle shoves another one along by ten u a tick. Once it stands, the other falls asleep in the next step, since it was
-/// slow all the time; steered again, it wakes it.
+/// A kinematic circle shoves another one along by ten u a tick. Once it stands, the other falls asleep in the next
+/// step, since it was slow all the time; steered again, it wakes it.
 pub fn run<W: WholeWorld>(check: &mut Check<W>) {
     let none = MassData {
         mass: 0,

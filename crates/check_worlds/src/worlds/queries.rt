@@ -6,8 +6,8 @@ use crate::worlds::making::{SECOND, circle};
 use check_scenes::{FIRST, NO_GRAVITY, right};
 use world_core::{Command, Vec2};
 
-/// The circles have the radius 100, so that 900 u from the origin a box touches them, and one less doesn't. One that is disabled isn't there for
-/// them.
+/// The circles have the radius 100, so that 900 u from the origin a box touches them, and one less doesn't. One that is
+/// disabled isn't there for them.
 pub fn run<W: WholeWorld>(check: &mut Check<W>) {
     check.begin("two circles are seen", NO_GRAVITY);
     check.add(1, right(1_000), circle(100));

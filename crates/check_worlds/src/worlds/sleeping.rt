@@ -1,5 +1,5 @@
-//! How islands fall asleep and wake. A mover is slow at 205 u a tick and below, and an island falls asleep once each of its movers
-//! was slow for 128 ticks: sixteen steps of eight.
+//! How islands fall asleep and wake. A mover is slow at 205 u a tick and below, and an island falls asleep once each of
+//! its movers was slow for 128 ticks: sixteen steps of eight.
 
 use crate::whole_world::WholeWorld;
 use crate::worlds::check::Check;
@@ -42,7 +42,8 @@ fn a_slow_circle_falls_asleep<W: WholeWorld>(check: &mut Check<W>) {
     check.see_total();
 }
 
-/// The push wakes first, and is all that the circle has then. What a command wakes is no event: those of the last step stay.
+/// The push wakes first, and is all that the circle has then. What a command wakes is no event: those of the last step
+/// stay.
 fn a_push_wakes_a_sleeper<W: WholeWorld>(check: &mut Check<W>) {
     check.begin("a push wakes a sleeper", NO_GRAVITY);
     let_drift(check, 7, 16);
@@ -95,7 +96,8 @@ fn commands_put_to_rest_and_wake<W: WholeWorld>(check: &mut Check<W>) {
     check.see_counts();
 }
 
-/// A mover keeps its timer while it sleeps, and begins at 0 when it is woken: three steps of four ticks, and then sixteen of eight.
+/// A mover keeps its timer while it sleeps, and begins at 0 when it is woken: three steps of four ticks, and then
+/// sixteen of eight.
 fn a_woken_circle_begins_anew<W: WholeWorld>(check: &mut Check<W>) {
     check.begin("a woken circle begins anew", NO_GRAVITY);
     check.add(1, ORIGIN, circle(100));
@@ -118,8 +120,8 @@ fn see_pair<W: WholeWorld>(check: &mut Check<W>) {
     check.see_islands(2);
 }
 
-/// Two circles with a joint that neither pulls nor pushes fall asleep in one set. A push of the one wakes both, and the sleep of the
-/// other is that of both.
+/// Two circles with a joint that neither pulls nor pushes fall asleep in one set. A push of the one wakes both, and the
+/// sleep of the other is that of both.
 fn a_joint_keeps_two_asleep_together<W: WholeWorld>(check: &mut Check<W>) {
     check.begin("a joint keeps two asleep together", NO_GRAVITY);
     check.add(1, ORIGIN, circle(100));
@@ -136,8 +138,8 @@ fn a_joint_keeps_two_asleep_together<W: WholeWorld>(check: &mut Check<W>) {
     check.see_entries();
 }
 
-/// A circle lies on a floor and falls asleep in the thirty-second step of four ticks. A second one, made beside it, touches it and
-/// the floor: the sleeper wakes, both are one island, and the contacts with the floor have one colour.
+/// A circle lies on a floor and falls asleep in the thirty-second step of four ticks. A second one, made beside it,
+/// touches it and the floor: the sleeper wakes, both are one island, and the contacts with the floor have one colour.
 fn a_touch_wakes_a_sleeper<W: WholeWorld>(check: &mut Check<W>) {
     check.begin("a touch wakes a sleeper", PULL);
     check.add(0, ORIGIN, floor());

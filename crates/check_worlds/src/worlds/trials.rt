@@ -1,4 +1,5 @@
-//! Calls of a world to which memory may be refused. What refuses it is beside the program: `tests/faults/run`, which also has the worlds.
+//! Calls of a world to which memory may be refused. What refuses it is beside the program: `tests/faults/run`, which
+//! also has the worlds.
 
 mod compare;
 mod differences;
@@ -15,7 +16,8 @@ use differences::compare;
 pub use stop::Stop;
 pub use trial::{Outcome, try_call};
 
-/// A circle on the ground, two sleepers with a joint, a body that is disabled, a platform, and two movers with a joint that have not moved yet.
+/// A circle on the ground, two sleepers with a joint, a body that is disabled, a platform, and two movers with a joint
+/// that have not moved yet.
 pub const SCENE: &str = "gravity 0 -157
 floor 0 0 1048576
 circle 256 0 0 65536 65536

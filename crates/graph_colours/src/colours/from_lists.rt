@@ -45,7 +45,7 @@ fn set_all_bits<C: ConstraintId>(words: &mut Vec<u32>, lists: &[Vec<Member<C>>])
     }
 }
 
-/// The bits of these lists, for slots below `slots`. Refused 1 where memory is wanting.
+/// The bits of these lists, for slots below `slots`.
 fn bits_of<C: ConstraintId>(
     alloc: Global,
     lists: &[Vec<Member<C>>],
@@ -62,7 +62,7 @@ fn bits_of<C: ConstraintId>(
     Ok(words)
 }
 
-/// A list of each list's members. Refused 1 where memory is wanting.
+/// A list of each list's members.
 fn edited_lists<C: ConstraintId>(
     alloc: Global,
     lists: &[Vec<Member<C>>],
@@ -80,8 +80,8 @@ fn edited_lists<C: ConstraintId>(
 }
 
 impl<C: ConstraintId> Colours<C> {
-    /// The colours of which these are the members, those in the overflow last; `count` says how many they are in all. The movers' slots are below
-    /// `slots`. Has no room for more. Refused 1 where memory is wanting.
+    /// The colours of which these are the members, those in the overflow last; `count` says how many they are in all.
+    /// The movers' slots are below `slots`. Has no room for more.
     pub fn from_lists(
         alloc: Global,
         lists: &[Vec<Member<C>>],

@@ -14,7 +14,7 @@ use fixed_geom::Refusal;
 use std::alloc::Global;
 
 impl Islands {
-    /// So many slots, with no movers yet and room for one in each. Refused 1 where memory is wanting.
+    /// So many slots, with no movers yet and room for one in each.
     fn without_movers(alloc: Global, slots: usize) -> Result<Islands, Refusal>
         requires { slots ≤ 2 ^ 32 }
         ensures labels { IfOk result (λ made. made.labels ≡ replicate slots None) }
@@ -72,7 +72,7 @@ impl Islands {
         }
     }
 
-    /// The islands of movers that have these labels by slot, with room for a mover in each. Costs by their number. Refused 1 where memory is wanting.
+    /// The islands of movers that have these labels by slot, with room for a mover in each. Costs by their number.
     pub fn from_labels(alloc: Global, labels: &[Option<Label>]) -> Result<Islands, Refusal>
         requires partition { IsPartition labels.now }
         requires few { length labels.now ≤ 2 ^ 32 }

@@ -39,8 +39,8 @@ fn part(islands: &mut Islands, movers: Movers)
 impl<C: ConstraintId> Sets<C> {
     // ---- one begins or ends
 
-    /// A constraint comes whose movers are awake: the islands of two movers are merged, and it takes the least colour that is
-    /// free.
+    /// A constraint comes whose movers are awake: the islands of two movers are merged, and it takes the least colour
+    /// that is free.
     pub fn begin(&mut self, member: Member<C>)
         requires fresh { has_id C.number member.id self.old.acting.ties ≡ false }
         requires awake { are_awake self.old.acting.labels member.movers ≡ true }
@@ -140,8 +140,9 @@ impl<C: ConstraintId> Sets<C> {
         }
     }
 
-    /// Constraints begin and end, each at its turn, as the contacts of a step do. The sleeping movers of each wake before it. The source tells
-    /// the constraints as they were before all of these: what has begun or ended has awake movers, so that no sleeping island has gained or lost one.
+    /// Constraints begin and end, each at its turn, as the contacts of a step do. The sleeping movers of each wake
+    /// before it. The source tells the constraints as they were before all of these: what has begun or ended has awake
+    /// movers, so that no sleeping island has gained or lost one.
     pub fn apply_changes<T: TieSource<C>>(&mut self, changes: &[Change<C>], source: &T)
         requires can { AreChanges C.number self.old.acting.labels self.old.acting.ties changes.now }
         requires room { length self.old.acting.ties + begin_count changes.now ≤ self.old.room }

@@ -16,8 +16,8 @@ use islands::{Islands, Label};
 use std::alloc::Global;
 
 impl<C: ConstraintId> Sets<C> {
-    /// The sets of these constraints, with the islands of their movers by slot, and the constraints of each colour, those in the overflow last; `count`
-    /// says how many have a colour. There is room for no more of them. Refused 1 where memory is wanting.
+    /// The sets of these constraints, with the islands of their movers by slot, and the constraints of each colour,
+    /// those in the overflow last; `count` says how many have a colour. There is room for no more of them.
     pub fn from_parts(
         alloc: Global,
         ties: &[Member<C>],

@@ -133,7 +133,7 @@ impl WorldCore {
         self.change_stirred(handle, &course)
     }
 
-    /// Makes a change to a body that is there, once the islands that this wakes are awake. Refused 1 where memory is wanting.
+    /// Makes a change to a body that is there, once the islands that this wakes are awake.
     fn change_stirred<C: BodyChange>(
         &mut self,
         handle: Handle,

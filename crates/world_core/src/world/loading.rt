@@ -34,7 +34,7 @@ use std::alloc::Global;
 use world_core_base::{BodyTable, JointTable, list_contact_stands, list_joint_stands};
 use world_file::{Broken, read};
 
-/// The contacts of a plain world. Refused 1 where memory is wanting.
+/// The contacts of a plain world.
 fn contacts_of(alloc: Global, plain: &Plain) -> Result<Contacts, Refusal>
     requires { AreContacts plain.now.contacts }
     ensures contacts { IfOk result (λ made. made ≡ plain.now.contacts) }
@@ -43,7 +43,7 @@ fn contacts_of(alloc: Global, plain: &Plain) -> Result<Contacts, Refusal>
     Ok(Contacts::from_entries(Vec::from_slice(alloc, plain.contacts())?))
 }
 
-/// The constraints of a plain world, the islands of their movers, and the colours of those that act. Refused 1 where memory is wanting.
+/// The constraints of a plain world, the islands of their movers, and the colours of those that act.
 fn sets_of(alloc: Global, plain: &Plain) -> Result<Sets<Constraint>, Refusal>
     requires consistent { IsConsistent constraint_number (acting_of plain.now) }
     requires joints { AreMatched plain.now.joint_entries plain.now.joints }
@@ -63,7 +63,7 @@ fn sets_of(alloc: Global, plain: &Plain) -> Result<Sets<Constraint>, Refusal>
     Sets::from_parts(alloc, &ties, plain.islands(), &lists, count)
 }
 
-/// The bodies of a plain world and their handles. Refused 1 where memory is wanting.
+/// The bodies of a plain world and their handles.
 fn load_bodies(alloc: Global, plain: &Plain) -> Result<BodyParts, Refusal>
     requires each { All IsSlotEntry plain.now.slot_entries }
     requires matched { AreMatched plain.now.slot_entries plain.now.bodies }
@@ -79,7 +79,7 @@ fn load_bodies(alloc: Global, plain: &Plain) -> Result<BodyParts, Refusal>
     })
 }
 
-/// The joints of a plain world, their handles, and the sets in which they stand. Refused 1 where memory is wanting.
+/// The joints of a plain world, their handles, and the sets in which they stand.
 fn load_joints(alloc: Global, plain: &Plain) -> Result<JointParts, Refusal>
     requires each { All IsSlotEntry plain.now.joint_entries }
     requires matched { AreMatched plain.now.joint_entries plain.now.joints }
@@ -96,7 +96,7 @@ fn load_joints(alloc: Global, plain: &Plain) -> Result<JointParts, Refusal>
     })
 }
 
-/// The contacts of a plain world, its islands, and the colours of its constraints. Refused 1 where memory is wanting.
+/// The contacts of a plain world, its islands, and the colours of its constraints.
 fn load_constraints(alloc: Global, plain: &Plain) -> Result<ConstraintParts, Refusal>
     requires contacts { AreContacts plain.now.contacts }
     requires consistent { IsConsistent constraint_number (acting_of plain.now) }
@@ -113,8 +113,8 @@ fn load_constraints(alloc: Global, plain: &Plain) -> Result<ConstraintParts, Ref
 }
 
 impl WorldCore {
-    /// The world of these plain lists, with these totals in its ledger, all settled; it has no events. Costs by their size. Refused 1 where
-    /// memory is wanting.
+    /// The world of these plain lists, with these totals in its ledger, all settled; it has no events. Costs by their
+    /// size.
     pub fn from_plain(alloc: Global, plain: &Plain, totals: Totals) -> Result<WorldCore, Refusal>
         requires sound { IsSound (settled_world plain.now totals) }
         ensures made { IfOk result (λ made. made ≡ settled_world plain.now totals) }
@@ -143,9 +143,9 @@ impl WorldCore {
         })
     }
 
-    /// The world that a value of version 1 or 2 saves: its plain lists, with the totals of its ledger, all settled; it has no events. What
-    /// `save` made of a world whose totals by cause are within ±2^126 comes back. The first of the clauses that the value breaks is
-    /// answered, or that memory was wanting.
+    /// The world that a value of version 1 or 2 saves: its plain lists, with the totals of its ledger, all settled; it
+    /// has no events. What `save` made of a world whose totals by cause are within ±2^126 comes back. The first of the
+    /// clauses that the value breaks is answered, or that memory was wanting.
     pub fn load(alloc: Global, value: &Value) -> Result<WorldCore, Broken>
         ensures loaded { IfOk result (λ made. read_of (view value.now) ≡ Ok (made.plain, made.settled)) }
         ensures settled { IfOk result (λ made. made ≡ settled_world made.plain made.settled) }

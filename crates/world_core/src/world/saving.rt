@@ -15,9 +15,9 @@ use serde_json::Value;
 use world_file::write;
 
 impl WorldCore {
-    /// The world as one JSON value of version 2: its plain lists, and the totals of its ledger. Its entries and its events aren't kept.
-    /// Where each total of a cause is within ±2^126, as in every world that grew from a new one, the value breaks no clause, and
-    /// `load` makes this world of it again. Refused 1 where memory is wanting.
+    /// The world as one JSON value of version 2: its plain lists, and the totals of its ledger. Its entries and its
+    /// events aren't kept. Where each total of a cause is within ±2^126, as in every world that grew from a new one,
+    /// the value breaks no clause, and `load` makes this world of it again.
     pub fn save(&self) -> Result<Value, Refusal>
         ensures value { IfOk result (λ value. view value ≡ value_of self.now.plain (totals_of (book_of self.now))) }
         ensures again { IfOk result (λ value. HasSmallTotals self.now → IsReadAs self.now (view value)) }

@@ -26,7 +26,7 @@ use std::alloc::Global;
 use world_rules::Reply;
 
 impl WorldCore {
-    /// Which islands wake with the movers in these slots. Refused 1 where memory is wanting.
+    /// Which islands wake with the movers in these slots.
     pub(super) fn plan_waking(&self, slots: &[u32]) -> Result<Waking, Refusal>
         ensures names { IfOk result (λ waking. waking.names.items ≡ sleeping_names self.now.plain.islands slots.now) }
         ensures movers { IfOk result (λ waking. HasIslands self.now.plain.islands waking.names.items waking.movers.items) }
@@ -35,7 +35,7 @@ impl WorldCore {
         plan_waking(self.bodies.allocator(), &self.sets, slots)
     }
 
-    /// Which islands wake when the body in a slot is changed. Refused 1 where memory is wanting.
+    /// Which islands wake when the body in a slot is changed.
     pub(super) fn plan_stir(&self, slot: u32) -> Result<Waking, Refusal>
         ensures names { IfOk result (λ waking. waking.names.items ≡ sleeping_names self.now.plain.islands (stirred_by self.now.plain.bodies self.now.plain.joints self.now.plain.contacts slot)) }
         ensures movers { IfOk result (λ waking. HasIslands self.now.plain.islands waking.names.items waking.movers.items) }
@@ -48,7 +48,7 @@ impl WorldCore {
         self.plan_stir_by_ties(slot, &ties)
     }
 
-    /// The same, where the constraints of the body are at hand. Refused 1 where memory is wanting.
+    /// The same, where the constraints of the body are at hand.
     pub(super) fn plan_stir_by_ties(
         &self,
         slot: u32,
@@ -66,8 +66,8 @@ impl WorldCore {
         self.plan_waking(&slots)
     }
 
-    /// The constraints of the body in a slot, ascending: those of its joints, and then those of its contacts. Costs by how many joints and contacts it has.
-    /// Refused 1 where memory is wanting.
+    /// The constraints of the body in a slot, ascending: those of its joints, and then those of its contacts. Costs by
+    /// how many joints and contacts it has.
     pub(super) fn ties_at(&self, slot: u32) -> Result<Vec<Member<Constraint>>, Refusal>
         ensures ties { IfOk result (λ ties. ties.items ≡ ties_at slot self.now.plain.bodies (joints_in_slots self.now.plain) self.now.plain.contacts) }
         ensures memory_only { IsOkUnless result Refusal.NoMemory }
@@ -129,7 +129,7 @@ impl WorldCore {
     }
 }
 
-/// The first mover of each of these constraints. Refused 1 where memory is wanting.
+/// The first mover of each of these constraints.
 fn list_first(alloc: Global, ties: &[Member<Constraint>]) -> Result<Vec<u32>, Refusal>
     ensures slots { IfOk result (λ slots. slots.items ≡ first_movers ties.now) }
     ensures memory_only { IsOkUnless result Refusal.NoMemory }

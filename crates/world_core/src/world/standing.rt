@@ -32,8 +32,8 @@ fn set_if(live: bool, stand: Option<Stand>) -> Option<SetName>
 }
 
 impl WorldCore {
-    /// The one solver set in which an item stands; `None` where there is no such item. A body or a joint takes constant time, a contact a search for
-    /// its key.
+    /// The one solver set in which an item stands; `None` where there is no such item. A body or a joint takes constant
+    /// time, a contact a search for its key.
     pub fn stand(&self, item: Item) -> Option<SetName>
         ensures { result ≡ stand self.now.plain.slot_entries self.now.plain.bodies (joints_in_slots self.now.plain) self.now.plain.contacts item }
     {

@@ -19,7 +19,7 @@ use packed_sets::{Marks, SolverSets};
 use plain_world::{Body, copy_bodies};
 use std::alloc::Global;
 
-/// The bodies by slot as the ticks work on them. Refused 1 where memory is wanting.
+/// The bodies by slot as the ticks work on them.
 fn list_states(alloc: Global, bodies: &[Option<Body>]) -> Result<Vec<BodyState>, Refusal>
     ensures states { IfOk result (λ states. states.items ≡ states_of bodies.now) }
     ensures memory_only { IsOkUnless result Refusal.NoMemory }
@@ -44,7 +44,7 @@ fn add_stand(sets: &mut SolverSets, bodies: &[Option<Body>], slot: u32)
     }
 }
 
-/// The sets with each body where it stands. Refused 1 where memory is wanting.
+/// The sets with each body where it stands.
 fn list_stands(alloc: Global, bodies: &[Option<Body>]) -> Result<SolverSets, Refusal>
     requires few { length bodies.now ≤ MAX_SLOTS }
     requires named { AreNamedAsleep bodies.now }
@@ -62,7 +62,7 @@ fn list_stands(alloc: Global, bodies: &[Option<Body>]) -> Result<SolverSets, Ref
 }
 
 impl BodyTable {
-    /// The table with these bodies by slot, all marked, and no room for more. Refused 1 where memory is wanting.
+    /// The table with these bodies by slot, all marked, and no room for more.
     pub fn from_bodies(alloc: Global, bodies: &[Option<Body>]) -> Result<BodyTable, Refusal>
         requires few { length bodies.now ≤ MAX_SLOTS }
         requires named { AreNamedAsleep bodies.now }

@@ -13,7 +13,7 @@ use packed_sets::PackedSets;
 use plain_world::BodyJoint;
 use std::alloc::Global;
 
-/// Adds the ends of the joint in a slot. Refused 1 where memory is wanting.
+/// Adds the ends of the joint in a slot.
 fn add_ends(sets: &mut PackedSets<u32>, slot: u32, joint: &BodyJoint) -> Result<(), Refusal>
     requires few { slot < MAX_SLOTS }
     requires first { IsAbsent sets.old.sets (2 * slot) }
@@ -27,7 +27,7 @@ fn add_ends(sets: &mut PackedSets<u32>, slot: u32, joint: &BodyJoint) -> Result<
     Ok(())
 }
 
-/// Adds the ends of the joint in a slot, if there is one. Refused 1 where memory is wanting.
+/// Adds the ends of the joint in a slot, if there is one.
 fn add_ends_at(
     sets: &mut PackedSets<u32>,
     joints: &[Option<BodyJoint>],
@@ -45,7 +45,7 @@ fn add_ends_at(
     Ok(())
 }
 
-/// By body the ends of these joints. Refused 1 where memory is wanting.
+/// By body the ends of these joints.
 fn list_ends(alloc: Global, joints: &[Option<BodyJoint>]) -> Result<PackedSets<u32>, Refusal>
     requires { length joints.now ≤ MAX_SLOTS }
     ensures ends { IfOk result (λ sets. AreEnds joints.now sets.sets) }
@@ -59,7 +59,7 @@ fn list_ends(alloc: Global, joints: &[Option<BodyJoint>]) -> Result<PackedSets<u
 }
 
 impl JointTable {
-    /// The table with these joints by slot, and no room for more. Refused 1 where memory is wanting.
+    /// The table with these joints by slot, and no room for more.
     pub fn from_joints(alloc: Global, joints: &[Option<BodyJoint>]) -> Result<JointTable, Refusal>
         requires { length joints.now ≤ MAX_SLOTS }
         ensures joints { IfOk result (λ made. made.joints ≡ joints.now) }

@@ -34,8 +34,9 @@ impl fmt::Display for Outcome {
     }
 }
 
-/// Makes a call in the world of a text, and once more if memory was refused to it. The reference, the copy and whatever else needs memory
-/// come before the call. The call is one of these words, a line with a command, or lines with commands that are replayed.
+/// Makes a call in the world of a text, and once more if memory was refused to it. The reference, the copy and whatever
+/// else needs memory come before the call. The call is one of these words, a line with a command, or lines with
+/// commands that are replayed.
 pub fn try_call<W: WholeWorld>(alloc: Global, text: &str, call: &str) -> Result<Outcome, Stop> {
     let mut worlds: TrialWorlds<W> = TrialWorlds::of(alloc, text)?;
     try_in(alloc, &mut worlds, call)
@@ -247,8 +248,8 @@ fn replay_twice<W: WholeWorld>(
     replay_rest(alloc, worlds, commands, expected, made)
 }
 
-/// Stops where the commands before the refusal, so many, have left something else than in a world that met none; then the
-/// replay of the others.
+/// Stops where the commands before the refusal, so many, have left something else than in a world that met none; then
+/// the replay of the others.
 fn replay_rest<W: WholeWorld>(
     alloc: Global,
     worlds: &mut TrialWorlds<W>,
