@@ -1,5 +1,5 @@
 -- The least of a list is one of the list, and none of the list is less.
-use Rattle.std.proofs.Common.{◌≡◌, ℕ, true, false, cond, ℤ, List, [], ◌∷◌, Contains, Option, Some, IfSome, IfNone, option_map, ◌⊎◌, inl, inr, refl, sym, ap, subst, ◌∙◌, arith}
+use Rattle.std.proofs.Common.{◌≡◌, ℕ, true, false, cond, ℤ, List, [], ◌∷◌, Contains, Option, Some, IfSome, IfNone, map, option_map, ◌⊎◌, inl, inr, refl, sym, ap, subst, ◌∙◌, arith}
 use Rattle.std.specs.Prelude.{unwrap_or}
 use Rattle.std.proofs.lemmas.Int.{ints}
 use Rattle.std.proofs.lemmas.Bool.{cases_Bool}

@@ -1,5 +1,5 @@
 -- What holds of all spots of a list holds of the least, and of all that are kept.
-use Rattle.std.proofs.Common.{Bool, true, false, cond, List, [], ◌∷◌, All, Option, Some, None, IfSome}
+use Rattle.std.proofs.Common.{Bool, true, false, cond, List, [], ◌∷◌, map, All, Option, Some, None, IfSome}
 use Rattle.std.specs.List.{filter}
 use Rattle.std.specs.Prelude.{unwrap_or}
 use Rattle.std.proofs.lemmas.List.Elements.{All-nil, All-cons, All-head, All-tail}

@@ -1,6 +1,6 @@
 -- The contacts that a collide makes are of bodies that are there, one of them a mover, and their numbers are within
 -- their limits.
-use Rattle.std.proofs.Common.{◌≡◌, ℕ, suc, ◌+◌, ◌^◌, ◌<◌, ◌≤◌, Bool, true, false, cond, ℤ, pos, ◌≤ℤ◌, unsigned_abs, List, [], ◌∷◌, ◌++◌, length, Option, Some, None, option_map, IfSome, All, ◌⊎◌, inl, inr, arith, refl, sym, ap, ap₂, ◌∙◌, subst, is_some, le-leb, map}
+use Rattle.std.proofs.Common.{◌≡◌, ℕ, suc, ◌+◌, ◌^◌, ◌<◌, ◌≤◌, Bool, true, false, cond, not, ℤ, pos, ◌≤ℤ◌, unsigned_abs, List, [], ◌∷◌, ◌++◌, length, Option, Some, None, option_map, IfSome, All, ◌⊎◌, inl, inr, arith, refl, sym, ap, ap₂, ◌∙◌, subst, is_some, le-leb, map}
 use Rattle.std.specs.Prelude.{◌==◌, ◌&&◌, ◌||◌, ◌≢◌, filter, int_le, int_lt, nat_le, slice_get, unwrap_or}
 use Rattle.std.specs.List.{list_all}
 use Rattle.fixed_geom.specs.declared.refusal.Refusal.TheVariants.{BadShape, OutOfRange}
