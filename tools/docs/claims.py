@@ -73,6 +73,7 @@ OF_README = [
                     "dillmonth",
                     "dm_frame_take dm_frame_drop dm_frame_pose dm_frame_ray dm_frame_region dm_frame_total dm_frame_calls",
                 ),
+                Contract("library_on_shape", "dillmonth", "dm_ray_on_shape"),
                 Contract("library_questions", "dillmonth", "dm_*"),
             ],
         )
