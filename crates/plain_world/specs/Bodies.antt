@@ -34,7 +34,6 @@ is_mover b = cond b.enabled (is_dynamic b.kind) false
 abbrev pub is_mover_in : Option Body → Bool
 is_mover_in body = option_map_or is_mover body false
 
--- a mover is in the slot
 abbrev pub moves : List (Option Body) → ℕ → Bool
 moves bodies slot = is_mover_in (body_at bodies slot)
 

@@ -12,17 +12,14 @@ use Rattle.plain_world.specs.Kinds.{halted, is_dynamic}
 use Rattle.plain_world.specs.Fats.{renewed_boxes}
 use Rattle.plain_world.specs.Slots.{body_at}
 
--- the body in a slot changed
 abbrev pub changed_at : (Body → Body) → List (Option Body) → ℕ → List (Option Body)
 changed_at f bodies slot = slice_set bodies slot (option_map f (body_at bodies slot))
 
--- an awake mover is there
 abbrev pub is_awake_in : Option Body → Bool
 is_awake_in body = option_map_or is_awake body false
 
 -- ---- the changes
 
--- other momenta
 abbrev pub put_momenta : Momenta → Body → Body
 put_momenta m b = record b { motion = record b.motion { p = m.p; l = m.l } }
 
@@ -30,7 +27,6 @@ put_momenta m b = record b { motion = record b.motion { p = m.p; l = m.l } }
 abbrev pub put_pose : Pose → Body → Body
 put_pose o b = record b { motion = record b.motion { x = o.x; rot = o.rot }; fats = renewed_boxes o b.shapes b.fats }
 
--- another course, of a kinematic body
 abbrev pub put_course : Course → Body → Body
 put_course course b = record b { kind = Kinematic course }
 

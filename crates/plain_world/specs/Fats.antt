@@ -7,11 +7,9 @@ use Rattle.shapes.specs.declared.pose.Pose.{Pose}
 use Rattle.shapes.specs.declared.shape.Shape.{Shape}
 use Rattle.shapes.specs.declared.shape.ShapeDef.{ShapeDef}
 
--- the fat box of a shape of a body with the pose o
 abbrev pub fat_box_of : Shape → Pose → Box2
 fat_box_of s o = fat_box (tight_box s o)
 
--- those of a body's shapes, in their order
 abbrev pub fat_boxes : List ShapeDef → Pose → List Box2
 fat_boxes defs o = map (λ (d : ShapeDef). fat_box_of d.shape o) defs
 
@@ -37,7 +35,6 @@ EachIsFatBox o [] fats = Unit {0}
 EachIsFatBox o (d ∷ defs) [] = Unit {0}
 EachIsFatBox o (d ∷ defs) (fat ∷ fats) = IsFatBox o d.shape fat × EachIsFatBox o defs fats
 
--- each shape has a fat box
 pub record AreFatBoxes (o : Pose) (defs : List ShapeDef) (fats : List Box2) : Type 0 where
   pub long : length fats ≡ length defs
   pub each : EachIsFatBox o defs fats

@@ -21,7 +21,6 @@ pub record HasFilter (f : Filter) : Type 0 where
   pub least : negsuc (2 ^ 31 - 1) ≤ℤ f.group
   pub most : f.group ≤ℤ pos (2 ^ 31 - 1)
 
--- so are those of each of these shapes
 abbrev pub HaveFilters : List ShapeDef → Type 0
 HaveFilters shapes = All (λ (d : ShapeDef). HasFilter d.filter) shapes
 
@@ -31,11 +30,9 @@ AreFiltered bodies = (slot : ℕ) (b : Body) → body_at bodies slot ≡ Some b 
 
 -- ---- shapes by their names
 
--- the shape at an index of an enabled body, if there is one
 abbrev pub shape_of_body : Option Body → ℕ → Option ShapeDef
 shape_of_body body index = option_and_then (λ (b : Body). cond b.enabled (slice_get b.shapes index) None) body
 
--- the shape of this name
 abbrev pub shape_with_id : List (Option Body) → ShapeId → Option ShapeDef
 shape_with_id bodies id = shape_of_body (body_at bodies id.slot) id.index
 

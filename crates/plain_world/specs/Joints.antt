@@ -35,15 +35,12 @@ joint_made d = record { a = d.a.slot; b = d.b.slot; collide = d.collide; joint =
 
 -- ---- joints by slot
 
--- the joint in a slot
 abbrev pub joint_at : List (Option BodyJoint) → ℕ → Option BodyJoint
 joint_at joints slot = item_at joints slot
 
--- the joint that a handle names
 abbrev pub joint_of : List SlotEntry → List (Option BodyJoint) → Handle → Option BodyJoint
 joint_of slot_entries joints h = cond (is_live slot_entries h) (joint_at joints h.slot) None
 
--- one of the joint's ends is the body in the slot
 abbrev pub is_joint_of : ℕ → BodyJoint → Bool
 is_joint_of slot j = (j.a == slot) || (j.b == slot)
 

@@ -29,7 +29,6 @@ told_by (Some name) b = body_at_rest name b
 abbrev pub told_body : Option Label → Body → Body
 told_body o b = cond (is_mover b) (told_by (sleeping_name o) b) b
 
--- where the bodies begin with this slot
 abbrev pub told_from : ℕ → Labels → List (Option Body) → List (Option Body)
 told_from slot labels [] = []
 told_from slot labels (o ∷ bodies) = option_map (told_body (label_at labels slot)) o ∷ told_from (suc slot) labels bodies

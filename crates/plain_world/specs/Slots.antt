@@ -15,7 +15,6 @@ item_at items slot = option_flatten (slice_get items slot)
 abbrev pub with_item : {X : Type 0} → List (Option X) → ℕ → X → List (Option X)
 with_item items slot x = cond (nat_lt slot (length items)) (slice_set items slot (Some x)) (items ++ Some x ∷ [])
 
--- the body in a slot
 abbrev pub body_at : List (Option Body) → ℕ → Option Body
 body_at bodies slot = item_at bodies slot
 
@@ -26,7 +25,6 @@ with_body bodies slot b = with_item bodies slot b
 abbrev pub body_of : List SlotEntry → List (Option Body) → Handle → Option Body
 body_of slot_entries bodies h = cond (is_live slot_entries h) (body_at bodies h.slot) None
 
--- whether the slot is taken
 abbrev pub is_taken_entry : Option SlotEntry → Bool
 is_taken_entry entry = option_map_or (λ (p : SlotEntry). p.live) entry false
 

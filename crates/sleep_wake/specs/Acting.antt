@@ -20,7 +20,6 @@ pub record Acting (C : Type 0) : Type 0 where
   -- the colours of those that act
   pub lists : List (List (Member C))
 
--- the three together
 abbrev pub acting : {C : Type 0} → List (Member C) → Labels → List (List (Member C)) → Acting C
 acting ties labels lists = record { ties = ties; labels = labels; lists = lists }
 
@@ -53,8 +52,7 @@ pub record AreMovers (labels : Labels) (m : Movers) : Type 0 where
   pub first : (l : Label) × (label_at labels m.first ≡ Some l)
   pub second : (slot : ℕ) → m.second ≡ Some slot → (l : Label) × (label_at labels slot ≡ Some l)
 
--- The constraints ascend. Their movers are in the islands that their links make. Those that have a colour are just
--- those that act, and it is a colouring.
+-- The constraints ascend. Their links make the islands of their movers. Just those that act have a colour.
 pub record IsConsistent {C : Type 0} (number : C → ℕ) (s : Acting C) : Type 0 where
   pub rising : AreRising number s.ties
   pub movers : (m : Member C) → Contains s.ties m → AreMovers s.labels m.movers

@@ -43,7 +43,6 @@ abbrev pub after_change : {C : Type 0} → (C → ℕ) → Change C → Acting C
 after_change number (Begin m) s = begun number m (movers_woken number m.movers s)
 after_change number (End m) s = ended number m (movers_woken number m.movers s)
 
--- the changes one after the other
 abbrev pub after_changes : {C : Type 0} → (C → ℕ) → List (Change C) → Acting C → Acting C
 after_changes number changes s = fold (λ now c. after_change number c now) s changes
 

@@ -15,7 +15,6 @@ ticks_to_sleep = 128
 
 -- ---- a split
 
--- the links of an island
 abbrev pub edges_in : {C : Type 0} → Labels → ℕ → List (Member C) → Edges
 edges_in labels name ties = filter (λ e. is_in (label_at labels e.0) name) (links_of ties)
 
@@ -48,7 +47,6 @@ is_island false name (Some l) = (l.name == name) && (not (is_loose l.state) && n
 abbrev pub is_ready : Bool → Labels → List ℕ → ℕ → Option Label → Bool
 is_ready loose labels timers name o = is_island loose name o && is_time_to_sleep (least_timer name labels timers)
 
--- where the list begins with this slot
 abbrev pub ready_from : Bool → Labels → List ℕ → ℕ → Labels → List ℕ
 ready_from loose labels timers slot [] = []
 ready_from loose labels timers slot (o ∷ rest) = cond (is_ready loose labels timers slot o) (slot ∷ ready_from loose labels timers (suc slot) rest) (ready_from loose labels timers (suc slot) rest)

@@ -35,7 +35,6 @@ islands_woken number names s = fold (λ now name. woken_at number name now) s na
 abbrev pub split_if_loose : {C : Type 0} → Label → Acting C → Acting C
 split_if_loose l s = cond (is_loose l.state) (split_at l.name s) s
 
--- the island of the mover in the slot
 abbrev pub rested_at : {C : Type 0} → (C → ℕ) → ℕ → Acting C → Acting C
 rested_at number slot s = option_map_or (λ (l : Label). put_to_rest number l.name s) (label_at s.labels slot) s
 

@@ -18,7 +18,6 @@ second_in labels name second = option_map_or (λ slot. is_in (label_at labels sl
 abbrev pub are_in : Labels → ℕ → Movers → Bool
 are_in labels name m = is_in (label_at labels m.first) name || second_in labels name m.second
 
--- the constraint has a mover of the island
 abbrev pub has_mover_of : {C : Type 0} → Labels → ℕ → Member C → Bool
 has_mover_of labels name m = are_in labels name m.movers
 

@@ -74,6 +74,5 @@ abbrev pub timers_from : (ℕ → Bool) → ℕ → List (Option Body) → List 
 timers_from beside slot [] = []
 timers_from beside slot (o ∷ bodies) = timer_if (beside slot) o ∷ timers_from beside (suc slot) bodies
 
--- by slot
 unfoldable pub timers_of : List (Option Body) → List (Option BodyJoint) → List ContactEntry → List ℕ
 timers_of bodies joints contacts = timers_from (is_beside_moving bodies joints contacts) 0 bodies

@@ -19,7 +19,6 @@ use Rattle.solver_sets.specs.declared.census.Item.TheVariants as items
 
 -- ---- where joints and contacts stand
 
--- the set of a mover
 abbrev pub mover_set : Option Body → Option SetName
 mover_set body = option_and_then (λ (b : Body). cond (is_mover b) (Some (standing_of b)) None) body
 
@@ -36,7 +35,6 @@ standing_between bodies a b = cond (is_enabled bodies a && is_enabled bodies b) 
 abbrev pub standing_of_joint : List (Option Body) → BodyJoint → SetName
 standing_of_joint bodies j = standing_between bodies j.a j.b
 
--- an awake mover is in the slot
 abbrev pub is_awake_at : List (Option Body) → ℕ → Bool
 is_awake_at bodies slot = is_awake_in (body_at bodies slot)
 

@@ -22,12 +22,10 @@ use Rattle.solver_sets.specs.Ties.{JointSlots}
 abbrev pub is_same_shape : ShapeId → ShapeId → Bool
 is_same_shape a b = (a.slot == b.slot) && (a.index == b.index)
 
--- the contact is that of the key
 abbrev pub has_key : ContactKey → ContactEntry → Bool
 has_key key e = is_same_shape e.key.first key.first && is_same_shape e.key.second key.second
 
--- The one set in which an item stands: the body or the joint that a handle names, or the contact that a key names. It
--- is none where there is no such.
+-- the one set in which an item stands that a handle or a key names; none where there is no such
 abbrev pub stand : List SlotEntry → List (Option Body) → JointSlots → List ContactEntry → Item → Option SetName
 stand slot_entries bodies s contacts (items.Body h) = option_map standing_of (body_of slot_entries bodies h)
 stand slot_entries bodies s contacts (items.Joint h) = option_map (standing_of_joint bodies) (joint_of s.slot_entries s.joints h)

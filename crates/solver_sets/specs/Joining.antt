@@ -29,6 +29,5 @@ abbrev pub unjoined_up : ℕ → ℕ → JointSlots → JointSlots
 unjoined_up body zero s = s
 unjoined_up body (suc n) s = unjoined_if body n (unjoined_up body n s)
 
--- all joints of a body
 abbrev pub unjoined_all : ℕ → JointSlots → JointSlots
 unjoined_all body s = unjoined_up body (length s.joints) s

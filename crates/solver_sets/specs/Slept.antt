@@ -11,7 +11,6 @@ abbrev pub handles_where : (ℕ → Bool) → ℕ → List SlotEntry → List Ha
 handles_where test slot [] = []
 handles_where test slot (p ∷ slot_entries) = cond (test slot) (record { slot = slot; generation = p.generation } ∷ handles_where test (suc slot) slot_entries) (handles_where test (suc slot) slot_entries)
 
--- the mover in the slot sleeps
 abbrev pub sleeps : Labels → ℕ → Bool
 sleeps labels slot = option_map_or (λ (l : Label). is_asleep l.state) (label_at labels slot) false
 

@@ -39,7 +39,6 @@ slots_of slot_entries joints = record { slot_entries = slot_entries; joints = jo
 abbrev pub is_enabled_in : Option Body → Bool
 is_enabled_in body = option_map_or (λ (b : Body). b.enabled) body false
 
--- an enabled body is in the slot
 abbrev pub is_enabled : List (Option Body) → ℕ → Bool
 is_enabled bodies slot = is_enabled_in (body_at bodies slot)
 
@@ -59,7 +58,6 @@ joint_movers bodies j = movers_with bodies j.a j.b
 abbrev pub contact_movers : List (Option Body) → ContactKey → Option Movers
 contact_movers bodies key = movers_with bodies key.first.slot key.second.slot
 
--- a constraint with its movers
 abbrev pub tie_with : Constraint → Option Movers → Option (Member Constraint)
 tie_with id movers = option_map (λ (m : Movers). record { id = id; movers = m }) movers
 
@@ -81,25 +79,20 @@ contact_bond key = record { id = Contact key; a = key.first.slot; b = key.second
 abbrev pub bond_before : Handle → Option BodyJoint → List Bond → List Bond
 bond_before h joint bonds = option_map_or (λ (j : BodyJoint). joint_bond h j ∷ bonds) joint bonds
 
--- where the lists begin with this slot
 abbrev pub joint_bonds_from : ℕ → List SlotEntry → List (Option BodyJoint) → List Bond
 joint_bonds_from slot [] joints = []
 joint_bonds_from slot (p ∷ slot_entries) [] = []
 joint_bonds_from slot (p ∷ slot_entries) (o ∷ joints) = bond_before (record { slot = slot; generation = p.generation }) o (joint_bonds_from (suc slot) slot_entries joints)
 
--- those of the joints, by slot
 abbrev pub joint_bonds : JointSlots → List Bond
 joint_bonds s = joint_bonds_from 0 s.slot_entries s.joints
 
--- the keys of the contacts that touch
 abbrev pub touching_keys : List ContactEntry → List ContactKey
 touching_keys contacts = map (λ (e : ContactEntry). e.key) (filter (λ (e : ContactEntry). touches e.contact) contacts)
 
--- joints by slot, and then contacts by key
 abbrev pub bonds_of : JointSlots → List ContactEntry → List Bond
 bonds_of s contacts = joint_bonds s ++ map contact_bond (touching_keys contacts)
 
--- one of its bodies is the one in the slot
 abbrev pub is_bond_of : ℕ → Bond → Bool
 is_bond_of slot bond = (bond.a == slot) || (bond.b == slot)
 
@@ -108,7 +101,6 @@ is_bond_of slot bond = (bond.a == slot) || (bond.b == slot)
 abbrev pub tie_of : List (Option Body) → Bond → Option (Member Constraint)
 tie_of bodies bond = tie_with bond.id (movers_with bodies bond.a bond.b)
 
--- the ties among these
 abbrev pub ties_in : List (Option Body) → List Bond → List (Member Constraint)
 ties_in bodies bonds = filter_map (tie_of bodies) bonds
 

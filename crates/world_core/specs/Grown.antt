@@ -9,8 +9,7 @@ use Rattle.world_rules.specs.Sound.{AreSmall, IsSound}
 use Rattle.world_rules.specs.World.{World, book_of}
 use Rattle.world_rules.specs.declared.command.Command.{Command}
 
--- With each call that was accepted since, no total of a cause has grown by more than 2^83 in a component: what bounds
--- the totals of the old world bounds those of the new one, with as much more.
+-- With each call that was accepted since, no total of a cause has grown by more than 2^83 in a component.
 abbrev pub GrowsByCalls : World → World → Type 0
 GrowsByCalls old new = (n : ℕ) → AreSmall (n + old.plain.calls * 2 ^ 83) (book_of old) → AreSmall (n + new.plain.calls * 2 ^ 83) (book_of new)
 

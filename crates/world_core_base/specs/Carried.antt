@@ -8,8 +8,7 @@ use Rattle.plain_world.specs.Bodies.{is_awake, is_carried}
 use Rattle.plain_world.specs.declared.kind.Kind.TheVariants.{Kinematic}
 use Rattle.plain_world.specs.Kinds.{carried_by}
 
--- an awake mover has its own mass and motion; of any other body they say with which course it is carried along, and a
--- body without one stands
+-- that of an awake mover; of any other body one with which the momenta of its course are its velocity and its spin
 abbrev pub solver_mass : Body → MassData
 solver_mass b = cond (is_awake b) b.mass (cond (is_carried b) carrier standing)
 
@@ -23,7 +22,6 @@ solver_motion b = cond (is_awake b) b.motion (carried_motion b)
 abbrev pub carried_to : Motion → Body → Body
 carried_to m b = record b { kind = Kinematic (record { velocity = m.p; spin = m.l }); motion = record b.motion { x = m.x; rot = m.rot } }
 
--- an awake mover with the motion m, and a body that is carried along with the place and the course of it; any other
--- body as it was
+-- an awake mover with the motion m, and a body that is carried along with its place and course; any other as it was
 abbrev pub moved_to : Motion → Body → Body
 moved_to m b = cond (is_awake b) (record b { motion = m }) (cond (is_carried b) (carried_to m b) b)

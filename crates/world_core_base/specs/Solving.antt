@@ -31,14 +31,12 @@ use Rattle.plain_world.specs.Bodies.{is_awake, is_carried}
 use Rattle.plain_world.specs.Slots.{item_at}
 use Rattle.world_core_base.specs.Carried.{moved_to, solver_mass, solver_motion}
 
--- A body in a step: as it stood when the step began, and its motion now. The momenta of a body that isn't an awake
--- mover are its course: its velocity and its spin.
+-- A body as the step began, and its motion now. The momenta of one that isn't an awake mover are its course.
 pub record Moving : Type 0 where
   pub body : Body
   pub motion : Motion
 
--- The bodies by slot, the joints by slot, the contacts, ascending by key, and what was added to the movers' momentum
--- since the step began: by gravity, by immovable bodies, and by the speed limit with the edge of the world.
+-- bodies and joints by slot, contacts ascending by key, and what the step has added to the movers' momentum
 pub record Solving : Type 0 where
   pub bodies : List (Option Moving)
   pub joints : List (Option BodyJoint)
@@ -53,14 +51,12 @@ nothing = record { x = pos 0; y = pos 0 }
 abbrev pub gain_sum : Gain → Gain → Gain
 gain_sum a b = record { x = a.x +ℤ b.x; y = a.y +ℤ b.y }
 
--- what the momentum has gained from one motion to the other
 abbrev pub gain_between : Motion → Motion → Gain
 gain_between before after = record { x = after.p.x -ℤ before.p.x; y = after.p.y -ℤ before.p.y }
 
 -- ---- the bodies of a constraint
 
--- The body with a motion, as impulses act on it: those that aren't awake movers have the mass with which the momenta of
--- a course are its velocity and its spin.
+-- the body with a motion, as impulses act on it
 abbrev pub state_with : Body → Motion → BodyState
 state_with b motion = record { movable = is_awake b; mass = solver_mass b; motion = motion; start = b.motion.x; reciprocals = reciprocals_of (solver_mass b) }
 
@@ -82,8 +78,7 @@ given_by_immovable before after = cond before.a.movable (cond before.b.movable n
 
 -- ---- the visit of one constraint
 
--- What a pass does at a joint, and what at a contact: each is told how its bodies stood when the step began, and how
--- they are now.
+-- what a pass does at a joint and at a contact, told how its bodies stood when the step began and how they are now
 pub record Visits : Type 0 where
   pub joint : Joint → Ends → Ends → SolvedJoint
   pub contact : ContactEntry → Ends → Ends → SolvedContact
@@ -95,16 +90,14 @@ warm = record {
   contact = λ e start now. contact_warmed e.contact now;
 }
 
--- the impulses of the solver: a joint's along the line of its anchors, and at a contact each point's along its normal,
--- and then friction
+-- impulses: a joint's along the line of its anchors; at a contact each point's along its normal, and then friction
 abbrev pub solve : Visits
 solve = record {
   joint = λ j start now. joint_solved start j now;
   contact = λ e start now. contact_solved e.surface.friction e.contact now;
 }
 
--- restitution: a part of the speed at which the bodies of a contact came together when the step began is given back; a
--- joint has none
+-- restitution: a contact gives back a part of the speed at which its bodies came together; a joint has none
 abbrev pub bounce : Visits
 bounce = record {
   joint = λ j start now. record { joint = j; ends = now };
@@ -148,7 +141,6 @@ visit_between f s key (Some e) None b = s
 visit_between f s key (Some e) (Some a) None = s
 visit_between f s key (Some e) (Some a) (Some b) = put_back key a b (f.contact e (ends_then a b) (ends_now a b)) s
 
--- the visit of a constraint
 abbrev pub row_visit : Visits → Solving → Constraint → Solving
 row_visit f s (constraints.Joint h) = option_map_or (λ (j : BodyJoint). visit_joined f s h.slot j (item_at s.bodies j.a) (item_at s.bodies j.b)) (joint_at s.joints h.slot) s
 row_visit f s (constraints.Contact key) = visit_between f s key (lookup s.contacts key) (item_at s.bodies key.first.slot) (item_at s.bodies key.second.slot)
@@ -167,7 +159,6 @@ pass f order s = fold (row_visit f) s order
 abbrev pub motion_changed : (MassData → Motion → Motion) → Moving → Moving
 motion_changed f m = cond (is_awake m.body) (record m { motion = f m.body.mass m.motion }) m
 
--- a pass over the bodies
 abbrev pub all_changed : (MassData → Motion → Motion) → List (Option Moving) → List (Option Moving)
 all_changed f bodies = map (option_map (motion_changed f)) bodies
 
@@ -194,7 +185,6 @@ carry s = record s { bodies = map (option_map carried_on) s.bodies }
 
 -- ---- a tick, and a step
 
--- the passes of a tick, in their order
 abbrev pub passes : Vec2 → List Constraint → List (Solving → Solving)
 passes gravity order = pull gravity ∷ clamp speed_clamped ∷ pass warm order ∷ pass solve order ∷ clamp speed_clamped ∷ clamp advanced ∷ carry ∷ []
 
@@ -212,7 +202,6 @@ moving b = record { body = b; motion = solver_motion b }
 abbrev pub begin : List (Option Body) → List (Option BodyJoint) → List ContactEntry → Solving
 begin bodies joints contacts = record { bodies = map (option_map moving) bodies; joints = joints; contacts = contacts; sums = record { gravity = nothing; immovable = nothing; clamp = nothing } }
 
--- the ticks of a step, and then the restitution
 unfoldable pub solved : ℕ → Vec2 → List Constraint → List (Option Body) → List (Option BodyJoint) → List ContactEntry → Solving
 solved n gravity order bodies joints contacts = pass bounce order (ticks n gravity order (begin bodies joints contacts))
 
@@ -221,6 +210,5 @@ solved n gravity order bodies joints contacts = pass bounce order (ticks n gravi
 abbrev pub left : Moving → Body
 left m = moved_to m.motion m.body
 
--- the bodies as the step leaves them
 abbrev pub bodies_of : Solving → List (Option Body)
 bodies_of s = map (option_map left) s.bodies

@@ -21,14 +21,11 @@ use Rattle.solver_sets.specs.Ties.{IsConstraintWithin, movers_of}
 use Rattle.world_rules.specs.Laws.{AreLinked, SleepsIn, coloured_in, movers_awake, ties_of_world}
 use Rattle.world_rules.specs.World.{World, joints_in_slots}
 
--- the solver set in which an item stands: a body or a joint that a handle names, or a contact that a key names; none
--- where there is no such
 abbrev pub stand_in : World → Item → Option SetName
 stand_in w item = stand w.plain.slot_entries w.plain.bodies (joints_in_slots w.plain) w.plain.contacts item
 
--- Each body, joint and contact stands in exactly one solver set: just what is there stands in a set, and a function of
--- it says in which. What is in a slot has a live handle, and each contact a key of its own, so that no two items have
--- one name. A body stands in a sleeping set just if it sleeps under its name.
+-- Each body, joint and contact stands in exactly one solver set, by a live handle or a key that no other item has.
+-- A body stands in a sleeping set just if it sleeps under its name.
 pub record EachStandsInOneSet (w : World) : Type 0 where
   pub stands : (item : Item) → IsPresent w.plain.slot_entries (joints_in_slots w.plain) w.plain.contacts item ↔ IsSome (stand_in w item)
   pub bodies : AreMatched w.plain.slot_entries w.plain.bodies
@@ -44,9 +41,8 @@ NoColourSharesAMover w = (ids_of (coloured_in w) ≡ w.plain.colours) × All Are
 abbrev pub WhatActsIsColoured : World → Type 0
 WhatActsIsColoured w = (m : Member Constraint) → Contains (all_members (coloured_in w)) m ↔ (Contains (ties_of_world w) m × (movers_awake w.plain.bodies m.movers ≡ true))
 
--- Each has one colour: there is a list for each colour and one for the overflow, in each of which constraints ascend by
--- number, and none stands twice in them all. Their names are within their ranges, so that no two have one number; and
--- each stands there with the movers that its bodies give it.
+-- Each has one colour: in the lists of the colours and that of the overflow constraints ascend by number, and none is
+-- twice in them all. No two have one number, and each stands there with the movers that its bodies give it.
 pub record EachHasOneColour (w : World) : Type 0 where
   pub colouring : IsColouring constraint_number (coloured_in w)
   pub named : (m : Member Constraint) → Contains (all_members (coloured_in w)) m → IsConstraintWithin m.id

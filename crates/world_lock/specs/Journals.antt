@@ -39,7 +39,6 @@ commands_of es = map command_of es
 abbrev pub IsLegal : World → List Line → Type 0
 IsLegal first es = answers_to first (commands_of es) ≡ map reply_of es
 
--- the world that this replay leaves
 abbrev pub replayed : World → List Line → World
 replayed first es = replay first (commands_of es)
 

@@ -63,8 +63,7 @@ use Rattle.world_rules.specs.Collide.{Collided, collided}
 use Rattle.world_rules.specs.Sets.{acting_of, body_come, body_gone, stirred, with_acting, with_woken}
 use Rattle.world_rules.specs.World.{World, body_named, joints_in_slots}
 
--- what an accepted command leaves: the plain world, the reply, the ledger's new entries, and the events where it is a
--- step
+-- what an accepted command leaves: the plain world, the reply, the ledger's new entries, and a step's events
 pub record Applied : Type 0 where
   pub plain : Plain
   pub reply : Reply
@@ -75,7 +74,6 @@ pub record Applied : Type 0 where
 abbrev pub booked : ℕ → cause.Cause → ℤ → ℤ → List Entry
 booked call why x y = cond (nat_le (unsigned_abs x) 0 && nat_le (unsigned_abs y) 0) [] (record { call = call; cause = why; x = x; y = y } ∷ [])
 
--- one call more was accepted
 abbrev pub counted : Plain → Plain
 counted w = record w { calls = w.calls + 1 }
 
@@ -101,7 +99,6 @@ map_ok f r = result_map_both f (λ e. e) r
 
 -- ---- CreateBody
 
--- the lists with the body in its slot
 abbrev pub with_made : ℕ → Body → Plain → Plain
 with_made slot b w = record w { slot_entries = slot_entries_with w.slot_entries slot; bodies = with_body w.bodies slot b }
 
@@ -122,7 +119,6 @@ apply_create w d = unless_refused (def_refusal d) (need (nat_lt (lowest w.slot_e
 abbrev pub with_joints : JointSlots → Plain → Plain
 with_joints joints w = record w { joint_entries = joints.slot_entries; joints = joints.joints }
 
--- the lists without a body, its joints and its contacts
 abbrev pub without_body : Handle → JointSlots → Plain → Plain
 without_body h joints w = with_joints joints (record w {
   slot_entries = slot_entries_without w.slot_entries h;
@@ -156,7 +152,6 @@ join_refusal (Some a) (Some b) d =
     refused_unless b.enabled BodyDisabled (
     joint_refusal d)))
 
--- the joint comes, and begins
 abbrev pub joint_come : Handle → BodyJoint → Plain → Plain
 joint_come h j w = with_acting (begun_with (Joint h) (joint_movers w.bodies j) (acting_of w)) (with_joints (joined_with j (joints_in_slots w)) w)
 
@@ -170,7 +165,6 @@ apply_join w d =
     need (nat_lt (lowest w.joint_entries) MAX_SLOTS) TooMany (
     Ok (joined w d (handle_at w.joint_entries (lowest w.joint_entries)))))
 
--- the joint ends, and goes
 abbrev pub joint_gone : Handle → BodyJoint → Plain → Plain
 joint_gone h j w = with_acting (ended_with (Joint h) (joint_movers w.bodies j) (acting_of w)) (with_joints (unjoined h (joints_in_slots w)) w)
 
@@ -180,12 +174,10 @@ apply_unjoin w h = where_named (joint_of w.joint_entries w.joints h) (λ j. Ok (
 
 -- ---- Push and PushAt
 
--- the momenta of a body with the impulse j, given at the offset r: the angular momentum grows by the moment r × j, if
--- the body turns
+-- the momenta of a body with the impulse j at the offset r: the angular momentum of one that turns grows by r × j
 abbrev pub with_impulse : Vec2 → Vec2 → Body → Momenta
 with_impulse j r b = record { p = plus b.motion.p j; l = turned_by b.mass.inertia b.motion.l (cross r j) }
 
--- they are within their limits
 abbrev pub are_momenta : Momenta → Bool
 are_momenta m = is_within (unsigned_abs MAX_MOMENTUM) m.p && nat_le (unsigned_abs m.l) (unsigned_abs MAX_ANGULAR_MOMENTUM)
 
@@ -202,7 +194,6 @@ pushed named j r = where_named named (λ b.
     need (are_momenta (with_impulse j r b)) TooFast (
     Ok (with_impulse j r b))))))
 
--- the body in the slot changed
 abbrev pub body_changed : (Body → Body) → ℕ → Plain → Plain
 body_changed f slot w = record w { bodies = changed_at f w.bodies slot }
 
@@ -230,7 +221,6 @@ posed named o = where_named named (λ b.
 abbrev pub apply_pose : Plain → Handle → Pose → Result Applied Refusal
 apply_pose w h o = map_ok (λ given. with_body_changed w h (put_pose given)) (posed (body_named w h) o)
 
--- the course that a body gets, or the first reason why it gets none
 abbrev pub steered : Option Body → Course → Result Course Refusal
 steered named course = where_named named (λ b.
     need (is_kinematic b.kind) NotKinematic (
@@ -314,13 +304,11 @@ apply_sleep w h = unless_refused (mover_refusal (body_named w h)) (Ok (put_to_sl
 
 -- ---- Step
 
--- the contacts that began and that ended, each in its turn: sleepers wake, islands merge and get loose, colours are
--- taken and given up
+-- contacts begin and end, each in its turn: sleepers wake, islands merge and get loose, colours come and go
 abbrev pub acting_after_changes : Plain → Collided → Acting Constraint
 acting_after_changes w c = after_changes constraint_number (key_changes w.bodies c.begin c.end) (acting_of w)
 
--- the ticks and the restitution, over the bodies by slot, those awake that the collide has woken, and over the
--- constraints in solve order
+-- the ticks and the restitution, over the bodies as the collide has woken them, and the constraints in solve order
 abbrev pub solved_after : Plain → ℕ → Collided → Acting Constraint → Solving
 solved_after w n c s = solved n w.gravity (solve_order (ids_of s.lists)) (told s.labels w.bodies) w.joints c.now
 
@@ -429,7 +417,6 @@ apply w c = cond (nat_lt w.calls (2 ^ 40)) (apply_accepted w c) (Err WornOut)
 
 -- ---- what a call of the code may answer, and leave, given what is due
 
--- the world with what an accepted command leaves
 abbrev pub world_with : World → Applied → World
 world_with old a = record old { plain = a.plain; entries = old.entries ++ a.entries; events = unwrap_or a.events old.events }
 

@@ -36,7 +36,6 @@ shape_proxies slot dynamic stirs pose index (d ∷ defs) (fat ∷ fats) =
 abbrev pub body_proxies : ℕ → Body → List Proxy
 body_proxies slot b = cond b.enabled (shape_proxies slot (is_dynamic b.kind) (stirs b) (pose_of b) 0 b.shapes b.fats) []
 
--- where the list begins with this slot
 abbrev pub proxies_from : ℕ → List (Option Body) → List Proxy
 proxies_from slot [] = []
 proxies_from slot (o ∷ bodies) = option_map_or (body_proxies slot) o [] ++ proxies_from (suc slot) bodies
@@ -52,8 +51,7 @@ pub record Collided : Type 0 where
   pub begin : List ContactKey
   pub end : List ContactKey
 
--- Every near pair of shapes, whose bodies no joint keeps from colliding, has a contact: evaluated anew, with its kept
--- impulses, if one of the two bodies stirs, and else as it was.
+-- Each near pair that no joint keeps apart has a contact: evaluated anew if one of its bodies stirs, else as it was.
 unfoldable pub contacts_after : List (Option Body) → List (Option BodyJoint) → List ContactEntry → List ContactEntry
 contacts_after bodies joints old = contacts_between (forbidden_pairs joints) (proxies_of bodies) old
 

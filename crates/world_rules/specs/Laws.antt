@@ -85,7 +85,6 @@ coloured_in w = members_of w.plain.bodies (joints_in_slots w.plain) w.plain.colo
 abbrev pub ColoursAreApart : Type 0
 ColoursAreApart = (w : World) → IsSound w → (ids_of (coloured_in w) ≡ w.plain.colours) × All AreApart (take COLOURS (coloured_in w))
 
--- all movers of a constraint are awake
 abbrev pub movers_awake : List (Option Body) → Movers → Bool
 movers_awake bodies m = is_awake_in (body_at bodies m.first) && option_map_or (λ (slot : ℕ). is_awake_in (body_at bodies slot)) m.second true
 

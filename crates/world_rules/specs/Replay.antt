@@ -23,7 +23,6 @@ abbrev pub replay : World → List Command → World
 replay w [] = w
 replay w (c ∷ cs) = replay (after w c) cs
 
--- the answers to a list of commands
 abbrev pub answers_to : World → List Command → List (Result Reply Refusal)
 answers_to w [] = []
 answers_to w (c ∷ cs) = answer_of (apply w.plain c) ∷ answers_to (after w c) cs

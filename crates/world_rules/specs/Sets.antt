@@ -28,8 +28,7 @@ with_acting s w = record w { bodies = told s.labels w.bodies; islands = s.labels
 abbrev pub with_woken : Plain → List ℕ → Plain
 with_woken w slots = with_acting (islands_woken constraint_number (sleeping_names w.islands slots) (acting_of w)) w
 
--- the world in which those were woken whom a change of the body in a slot wakes: a mover's own island, and for an
--- enabled body that is no mover those that touch it or are joined to it
+-- the world in which those were woken whom a change of the body in a slot wakes
 abbrev pub stirred : Plain → ℕ → Plain
 stirred w slot = with_woken w (stirred_by w.bodies w.joints w.contacts slot)
 
@@ -37,7 +36,6 @@ stirred w slot = with_woken w (stirred_by w.bodies w.joints w.contacts slot)
 abbrev pub body_come : ℕ → Body → Acting Constraint → Acting Constraint
 body_come slot b s = cond (is_mover b) (mover_made slot s) s
 
--- the constraints of the body in a slot end, each in turn
 abbrev pub ties_ended : ℕ → Plain → Acting Constraint
 ties_ended slot w = each_ended constraint_number (ties_at slot w.bodies (joints_in_slots w) w.contacts) (acting_of w)
 

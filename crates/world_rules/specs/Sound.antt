@@ -27,8 +27,7 @@ pub record AreSmall (n : ℕ) (b : Book) : Type 0 where
   pub x : (cause : Cause) → unsigned_abs (total_of cause b).x ≤ n
   pub y : (cause : Cause) → unsigned_abs (total_of cause b).y ≤ n
 
--- The bodies of both its shapes are there, the shapes are theirs, and the one in the lesser slot is the first. Its
--- surface is what those of the two shapes mix to. Their names are within their ranges, and so are its points.
+-- Its shapes are those of two bodies that are there, the lesser slot's first. Its surface is what those of both mix to.
 pub record HasBodies (bodies : List (Option Body)) (e : ContactEntry) : Type 0 where
   pub first : is_some (body_at bodies e.key.first.slot) ≡ true
   pub second : is_some (body_at bodies e.key.second.slot) ≡ true
@@ -41,7 +40,6 @@ pub record HasBodies (bodies : List (Option Body)) (e : ContactEntry) : Type 0 w
 
 -- ---- what a world promises
 
--- a body that isn't an awake mover is at rest
 abbrev pub AreAtRest : List (Option Body) → Type 0
 AreAtRest bodies = (slot : ℕ) (b : Body) → body_at bodies slot ≡ Some b → is_awake b ≡ false → IsAtRest b.motion
 
@@ -49,9 +47,7 @@ AreAtRest bodies = (slot : ℕ) (b : Body) → body_at bodies slot ≡ Some b �
 abbrev pub AreTold : List (Option Body) → Labels → Type 0
 AreTold bodies labels = (slot : ℕ) (b : Body) → body_at bodies slot ≡ Some b → b.asleep ≡ sleeping_name (label_at labels slot)
 
--- The islands of the movers are those that its constraints' links make, and the constraints that have a colour are just
--- those whose movers are awake, no two of one colour with a mover in common. A mover sleeps just if its island does.
--- The movers' momentum is the ledger's total. What isn't an awake mover is at rest.
+-- Islands and colours are those of its constraints. The movers' momentum is the ledger's total.
 pub record KeepsPromises (w : World) : Type 0 where
   pub consistent : IsConsistent constraint_number (acting_of w.plain)
   pub tied : AreTied w.plain.bodies w.plain.islands
@@ -66,12 +62,8 @@ pub record KeepsPromises (w : World) : Type 0 where
 abbrev pub AreTimers : ℕ → List (Option Body) → Type 0
 AreTimers steps bodies = (slot : ℕ) (b : Body) → body_at bodies slot ≡ Some b → b.timer ≤ 8 * steps
 
--- There is a body just in the slots that are taken, whose generations are within their range, and its numbers, its
--- shapes with their filters, and their fat boxes are within their limits. There is a joint just in the joints' slots
--- that are taken, whose generations are within their range, between two different bodies that are there, with its
--- numbers within their limits. The contacts' keys ascend; each is of two bodies that are there, one of them a mover,
--- and of shapes of theirs, with the surface that these mix to. There is a label of an island, or none, for each slot of
--- a body. Each constraint with a colour has movers. All sums have room.
+-- There are bodies and joints just in the slots that are taken. Joints and contacts are of bodies that are there. All
+-- numbers are within their limits. Each constraint with a colour has movers. All sums have room.
 pub record IsWellFormed (w : World) : Type 0 where
   pub matched : AreMatched w.plain.slot_entries w.plain.bodies
   pub slot_entries : All IsSlotEntry w.plain.slot_entries

@@ -17,11 +17,9 @@ pub record World : Type 0 where
   pub settled : Totals
   pub events : EventLists
 
--- the slots of its joints, and the joints in them
 abbrev pub joints_in_slots : Plain → JointSlots
 joints_in_slots w = record { slot_entries = w.joint_entries; joints = w.joints }
 
--- the body that a handle names
 abbrev pub body_named : Plain → Handle → Option Body
 body_named w h = slots.body_of w.slot_entries w.bodies h
 
