@@ -45,7 +45,6 @@ is_awake b = cond (is_mover b) (is_none b.asleep) false
 abbrev pub is_carried : Body → Bool
 is_carried b = cond b.enabled (is_kinematic b.kind) false
 
--- a body that a step may move
 abbrev pub can_move : Body → Bool
 can_move b = is_awake b || is_carried b
 

@@ -24,7 +24,6 @@ renewed_boxes o (d ∷ defs) (fat ∷ fats) = renewed d.shape o fat ∷ renewed_
 
 -- ---- what is kept of them
 
--- a fat box of a shape of a body with the pose o: it contains the tight box, and lies within 2^37
 pub record IsFatBox (o : Pose) (s : Shape) (fat : Box2) : Type 0 where
   pub contains : Contains fat (tight_box s o)
   pub within : IsBoxWithin (2 ^ 37) fat

@@ -62,13 +62,11 @@ idle_joints slot joints = map (option_map (idle_if slot)) joints
 abbrev pub forbidden_by : BodyJoint → Option BodyPair
 forbidden_by j = cond j.collide None (Some (record { a = j.a; b = j.b }))
 
--- all pairs of bodies that joints keep from colliding
 abbrev pub forbidden_pairs : List (Option BodyJoint) → List BodyPair
 forbidden_pairs joints = filter_map (option_and_then forbidden_by) joints
 
 -- ---- what must hold of joints
 
--- a joint between two different bodies that are there, with its numbers within their limits
 pub record IsBodyJoint (bodies : List (Option Body)) (j : BodyJoint) : Type 0 where
   pub first : is_some (body_at bodies j.a) ≡ true
   pub second : is_some (body_at bodies j.b) ≡ true

@@ -41,7 +41,6 @@ carried_by Static = no_course
 carried_by (Kinematic course) = course
 carried_by Dynamic = no_course
 
--- its velocity or its spin isn't 0
 abbrev pub is_moving : Course → Bool
 is_moving course = not (int_eq course.velocity.x (pos 0)) || (not (int_eq course.velocity.y (pos 0)) || not (int_eq course.spin (pos 0)))
 
@@ -51,7 +50,6 @@ halted Static = Static
 halted (Kinematic course) = Kinematic no_course
 halted Dynamic = Dynamic
 
--- velocity and spin are within their limits
 abbrev pub is_course : Course → Bool
 is_course course = is_within (unsigned_abs MAX_SPEED) course.velocity && nat_le (unsigned_abs course.spin) (unsigned_abs MAX_SPIN)
 

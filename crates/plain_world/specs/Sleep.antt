@@ -39,7 +39,6 @@ told labels bodies = told_from 0 labels bodies
 
 -- ---- how long a body has been slow
 
--- both components of the velocity and the spin are small
 unfoldable pub is_slow : MassData → Motion → Bool
 is_slow m s = is_within (unsigned_abs SLOW_SPEED) (velocity m.mass s.p) && nat_le (unsigned_abs (spin m.inertia s.l)) (unsigned_abs SLOW_SPIN)
 

@@ -7,7 +7,6 @@ use Rattle.body_handles.specs.declared.slot_table.TheConstants.{MAX_SLOTS}
 use Rattle.body_handles.specs.SlotEntries.{is_live}
 use Rattle.plain_world.specs.declared.body.Body.{Body}
 
--- what a slot contains
 abbrev pub item_at : {X : Type 0} → List (Option X) → ℕ → Option X
 item_at items slot = option_flatten (slice_get items slot)
 

@@ -14,7 +14,6 @@ use Rattle.sleep_wake.specs.Acting.{Acting}
 abbrev pub second_in : Labels → ℕ → Option ℕ → Bool
 second_in labels name second = option_map_or (λ slot. is_in (label_at labels slot) name) second false
 
--- one of the movers is in the island
 abbrev pub are_in : Labels → ℕ → Movers → Bool
 are_in labels name m = is_in (label_at labels m.first) name || second_in labels name m.second
 

@@ -6,7 +6,6 @@ use Rattle.contacts_base.specs.Limits.{IsContact}
 use Rattle.plain_world.specs.declared.body.Body.{Body}
 use Rattle.plain_world.specs.Bodies.{moves}
 
--- a contact of two different bodies, one of them a mover at least
 pub record IsContactOf (bodies : List (Option Body)) (e : ContactEntry) : Type 0 where
   pub first : e.key.first.slot < length bodies
   pub second : e.key.second.slot < length bodies

@@ -68,7 +68,6 @@ ends_now a b = record { a = state_with a.body a.motion; b = state_with b.body b.
 abbrev pub ends_then : Moving → Moving → Ends
 ends_then a b = record { a = state_with a.body (solver_motion a.body); b = state_with b.body (solver_motion b.body) }
 
--- the body with the motion that an impulse has left it
 abbrev pub after_impulse : BodyState → Moving → Moving
 after_impulse s m = record m { motion = s.motion }
 

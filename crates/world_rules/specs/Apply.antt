@@ -211,7 +211,6 @@ apply_push w h j r = map_ok (push_given w h j) (pushed (body_named w h) j r)
 abbrev pub with_body_changed : Plain → Handle → (Body → Body) → Applied
 with_body_changed w h f = quietly (body_changed f h.slot (stirred w h.slot))
 
--- the pose that a body gets, or the first reason why it gets none
 abbrev pub posed : Option Body → Pose → Result Pose Refusal
 posed named o = where_named named (λ b.
     need (is_within (unsigned_abs MAX_POSITION) o.x) OutOfRange (
@@ -287,7 +286,6 @@ mover_refusal (Some b) =
 abbrev pub apply_wake : Plain → Handle → Result Applied Refusal
 apply_wake w h = unless_refused (mover_refusal (body_named w h)) (Ok (quietly (with_woken w (h.slot ∷ []))))
 
--- what the movers' momentum has gained between two lists of bodies
 abbrev pub gained : List (Option Body) → List (Option Body) → Vec2
 gained before after = minus (momentum after) (momentum before)
 

@@ -57,7 +57,6 @@ PushesAreSmall = (w : Plain) (c : Command) (a : Applied) → apply w c ≡ Ok a 
 abbrev pub ties_of_world : World → List (Member Constraint)
 ties_of_world w = ties_of w.plain.bodies (joints_in_slots w.plain) w.plain.contacts
 
--- two movers between which a constraint is
 abbrev pub AreLinked : World → ℕ → ℕ → Type 0
 AreLinked w a b = Linked (links_of (ties_of_world w)) a b
 
@@ -65,7 +64,6 @@ AreLinked w a b = Linked (links_of (ties_of_world w)) a b
 abbrev pub LinkedMoversStandTogether : Type 0
 LinkedMoversStandTogether = (w : World) (a b : ℕ) (x y : Body) → IsSound w → AreLinked w a b → body_at w.plain.bodies a ≡ Some x → body_at w.plain.bodies b ≡ Some y → standing_of x ≡ standing_of y
 
--- a body sleeps in the set of this name
 pub record SleepsIn (bodies : List (Option Body)) (name slot : ℕ) : Type 0 where
   pub body : Body
   pub there : body_at bodies slot ≡ Some body

@@ -32,7 +32,6 @@ with_woken w slots = with_acting (islands_woken constraint_number (sleeping_name
 abbrev pub stirred : Plain → ℕ → Plain
 stirred w slot = with_woken w (stirred_by w.bodies w.joints w.contacts slot)
 
--- a body comes: a mover has an island of its own
 abbrev pub body_come : ℕ → Body → Acting Constraint → Acting Constraint
 body_come slot b s = cond (is_mover b) (mover_made slot s) s
 
