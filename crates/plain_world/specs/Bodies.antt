@@ -52,15 +52,10 @@ can_move b = is_awake b || is_carried b
 abbrev pub stirs : Body → Bool
 stirs b = is_awake b || cond (is_carried b) (is_moving (carried_by b.kind)) false
 
--- where a mover stands
-abbrev pub sleeping_set : Option ℕ → SetName
-sleeping_set None = sets.Awake
-sleeping_set (Some name) = sets.Sleeping name
-
 abbrev pub set_of : Kind → Option ℕ → SetName
 set_of Static asleep = sets.Static
 set_of (Kinematic course) asleep = sets.Awake
-set_of Dynamic asleep = sleeping_set asleep
+set_of Dynamic asleep = option_map_or (λ name. sets.Sleeping name) asleep sets.Awake
 
 abbrev pub standing_of : Body → SetName
 standing_of b = cond b.enabled (set_of b.kind b.asleep) sets.Disabled

@@ -1,5 +1,5 @@
 -- Trusted: How the shapes and the contacts of a world are formed.
-use Rattle.std.specs.Prelude.{◌≡◌, ℕ, ◌-◌, ◌^◌, ◌<◌, ◌≤◌, ◌==◌, ◌&&◌, Bool, false, cond, nat_le, All, List, slice_get, Option, Some, None, pos, negsuc, ◌≤ℤ◌, int_le, unsigned_abs, option_and_then}
+use Rattle.std.specs.Prelude.{◌≡◌, ℕ, ◌-◌, ◌^◌, ◌≤◌, ◌==◌, ◌&&◌, Bool, false, cond, nat_le, All, List, slice_get, Option, Some, None, pos, negsuc, ◌≤ℤ◌, int_le, unsigned_abs, option_and_then}
 use Rattle.std.specs.Option.{ForSome}
 use Rattle.contacts_base.specs.Surfaces.{mixed}
 use Rattle.contacts_base.specs.declared.contact.Contact.{Contact}
@@ -8,7 +8,7 @@ use Rattle.contacts_base.specs.declared.key.ShapeId.{ShapeId}
 use Rattle.contacts_base.specs.declared.limits.TheConstants.{MAX_FRICTION, MAX_RESTITUTION}
 use Rattle.contacts_base.specs.declared.surface.Surface.{Surface}
 use Rattle.plain_world.specs.declared.body.Body.{Body}
-use Rattle.plain_world.specs.Slots.{body_at, shapes_in}
+use Rattle.plain_world.specs.Slots.{body_at}
 use Rattle.shapes.specs.declared.filter.Filter.{Filter}
 use Rattle.shapes.specs.declared.shape.ShapeDef.{ShapeDef}
 
@@ -59,10 +59,6 @@ mixed_of (Some first) None = no_surface
 mixed_of (Some first) (Some second) = mixed_surface (surface_of first) (surface_of second)
 
 -- ---- contacts
-
--- the shape is one of an enabled body
-abbrev pub IsShapeOf : List (Option Body) → ShapeId → Type 0
-IsShapeOf bodies id = id.index < shapes_in (body_at bodies id.slot)
 
 -- each point is of one of four candidates; a second one stands beside a first, of another candidate
 pub record HasPoints (c : Contact) : Type 0 where

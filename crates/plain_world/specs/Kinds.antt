@@ -54,9 +54,7 @@ abbrev pub is_course : Course → Bool
 is_course course = is_within (unsigned_abs MAX_SPEED) course.velocity && nat_le (unsigned_abs course.spin) (unsigned_abs MAX_SPIN)
 
 abbrev pub is_course_allowed : Kind → Bool
-is_course_allowed Static = true
-is_course_allowed (Kinematic course) = is_course course
-is_course_allowed Dynamic = true
+is_course_allowed kind = is_course (carried_by kind)
 
 pub record IsCourse (course : Course) : Type 0 where
   pub velocity : IsWithin (unsigned_abs MAX_SPEED) course.velocity

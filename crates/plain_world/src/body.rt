@@ -2,7 +2,8 @@
 
 ghost use Rattle.std.specs.Prelude.{◌≡◌, IfOk, OnOk, IsTrue};
 ghost use Rattle.std.specs.Result.{IsOkUnless, result_err};
-ghost use Rattle.plain_world.specs.Bodies.{can_move, is_awake, is_carried, is_mover, is_no_mass, pose_of, sleeping_set, standing_of, stirs, view_of, is_mass_allowed, def_refusal, made, IsMassOf, IsAllowed, IsBody};
+ghost use Rattle.plain_world.specs.declared.kind.Kind.TheVariants.{Dynamic};
+ghost use Rattle.plain_world.specs.Bodies.{can_move, is_awake, is_carried, is_mover, is_no_mass, pose_of, set_of, standing_of, stirs, view_of, is_mass_allowed, def_refusal, made, IsMassOf, IsAllowed, IsBody};
 
 use crate::fats::FatBoxes;
 use crate::kind::{Course, Kind};
@@ -98,7 +99,7 @@ pub fn is_mass_allowed(kind: Kind, mass: MassData) -> bool
 
 /// Where a mover stands that sleeps with the island of this name, if it sleeps.
 fn sleeping_set(asleep: Option<u32>) -> SetName
-    ensures { result ≡ sleeping_set asleep }
+    ensures { result ≡ set_of Dynamic asleep }
 {
     match asleep {
         None => SetName::Awake,

@@ -30,7 +30,7 @@ use Rattle.sleep_wake.proofs.BetweenLemmas.{changes_are}
 use Rattle.plain_world.specs.declared.body.Body.{Body}
 use Rattle.solver_sets.specs.Laws as laws
 use Rattle.solver_sets.specs.Alike.{AreJointSlots}
-use Rattle.solver_sets.specs.Ties.{Bond, IsKeyWithin, IsConstraintWithin, IsHandleWithin, JointSlots, bonds_of, contact_bond, key_changes, key_ties, tie_of, ties_of}
+use Rattle.solver_sets.specs.Ties.{Bond, IsKeyWithin, IsConstraintWithin, JointSlots, bonds_of, contact_bond, key_changes, key_ties, tie_of, ties_of}
 use Rattle.solver_sets.proofs.BondLaws.{bond_number, bonds_in, contact_above, in_bonds, joint_below, joints_in, joints_rise, rises_from_keys}
 use Rattle.solver_sets.proofs.ListLaws.{Rises, filter_in, in_filter, in_map, in_mapped, length_map, map_in, mapped_in, only_one, pairs_from_rises, rises_map, rises_mapped, same_members}
 use Rattle.solver_sets.proofs.MemberLaws.{no_id}
@@ -53,18 +53,18 @@ same_key a b p q e =
     (same_id a.first b.first (omega (arith, i, j, k, x, y, z, e)) (omega (arith, i, j, k, x, y, z, e)))
     (same_id a.second b.second (omega (arith, i, j, k, x, y, z, e)) (omega (arith, i, j, k, x, y, z, e)))
 
-same_handle : (a b : Handle) → IsHandleWithin a → IsHandleWithin b → joint_number a ≡ joint_number b → a ≡ b
+same_handle : (a b : Handle) → (a.slot < 2 ^ 32) × (a.generation < 2 ^ 32) → (b.slot < 2 ^ 32) × (b.generation < 2 ^ 32) → joint_number a ≡ joint_number b → a ≡ b
 same_handle a b p q e =
-    let i = p.slot in
-    let j = p.generation in
-    let x = q.slot in
-    let y = q.generation in
+    let i = p.0 in
+    let j = p.1 in
+    let x = q.0 in
+    let y = q.1 in
     ap₂ (λ (slot generation : ℕ). record { slot = slot; generation = generation }) (omega (arith, i, j, x, y, e)) (omega (arith, i, j, x, y, e))
 
 pub same_constraint : (a b : Constraint) → IsConstraintWithin a → IsConstraintWithin b → constraint_number a ≡ constraint_number b → a ≡ b
 same_constraint (Joint h) (Joint k) p q e = ap Joint (same_handle h k p q e)
-same_constraint (Joint h) (Contact key) p q e = let i = p.slot in let j = p.generation in absurd (omega (arith, i, j, e))
-same_constraint (Contact key) (Joint h) p q e = let i = q.slot in let j = q.generation in absurd (omega (arith, i, j, e))
+same_constraint (Joint h) (Contact key) p q e = let i = p.0 in let j = p.1 in absurd (omega (arith, i, j, e))
+same_constraint (Contact key) (Joint h) p q e = let i = q.0 in let j = q.1 in absurd (omega (arith, i, j, e))
 same_constraint (Contact key) (Contact other) p q e = ap Contact (same_key key other p q (omega (arith, e)))
 
 -- ---- contacts by their keys

@@ -20,13 +20,13 @@ use Rattle.plain_world.specs.declared.kind.Kind.{Kind}
 use Rattle.plain_world.specs.declared.kind.Kind.TheVariants.{Static, Kinematic, Dynamic}
 use Rattle.plain_world.specs.declared.body.SetName.{SetName}
 use Rattle.plain_world.specs.declared.body.SetName.TheVariants as sets
-use Rattle.plain_world.specs.Bodies.{is_mover, set_of, sleeping_set, standing_of}
+use Rattle.plain_world.specs.Bodies.{is_mover, set_of, standing_of}
 use Rattle.plain_world.specs.Kinds.{is_dynamic}
 use Rattle.plain_world.specs.Slots.{AreMatched, body_at, item_at, is_taken_entry}
 use Rattle.solver_sets.specs.declared.census.Item.{Item}
 use Rattle.solver_sets.specs.declared.census.Item.TheVariants as items
 use Rattle.solver_sets.specs.Laws as laws
-use Rattle.solver_sets.specs.Census.{Standing, body_standings, census_in, census_of, contact_standing, contact_standings, in_set, is_awake_at, joint_standings, listed, mover_set, set_with, standing_apart, standing_between, standing_if, standing_of_contact, standing_of_joint, standings_from, standings_of}
+use Rattle.solver_sets.specs.Census.{Standing, body_standings, census_in, census_of, contact_standing, contact_standings, in_set, joint_standings, listed, mover_set, set_with, standing_apart, standing_between, standing_if, standing_of_contact, standing_of_joint, standings_from, standings_of}
 use Rattle.solver_sets.specs.EachOnce.{HasSleeper, IsPresent, ListsEachOnce, has_key, is_same_shape, list_of, sleeping_set_names, stand}
 use Rattle.solver_sets.specs.Alike.{OnlyMoversSleep}
 use Rattle.solver_sets.specs.Ties.{JointSlots, is_enabled}
@@ -417,7 +417,7 @@ differ n o p q = none-some n (sym p ∙ q)
 mover_by : (t : Bool) (k : Kind) (o : Option ℕ) (n : ℕ) → (cond t (is_dynamic k) false ≡ false → o ≡ None) → o ≡ Some n → cond t (set_of k o) sets.Disabled ≡ sets.Sleeping n
 mover_by true Static o n only e = absurd (differ n o (only refl) e)
 mover_by true (Kinematic course) o n only e = absurd (differ n o (only refl) e)
-mover_by true Dynamic o n only e = ap sleeping_set e
+mover_by true Dynamic o n only e = ap (λ (v : Option ℕ). set_of Dynamic v) e
 mover_by false k o n only e = absurd (differ n o (only refl) e)
 
 -- a mover that sleeps stands in the set of this name
@@ -453,7 +453,7 @@ awake_or_disabled false n e = cc
 
 contact_by : (bodies : List (Option Body)) (a b n : ℕ) (t : Bool) → cond t (standing_between bodies a b) (standing_apart bodies a b) ≡ sets.Sleeping n → HasSleeper bodies n
 contact_by bodies a b n true e = between bodies a b n e
-contact_by bodies a b n false e = absurd (awake_or_disabled (is_awake_at bodies a || is_awake_at bodies b) n e)
+contact_by bodies a b n false e = absurd (awake_or_disabled (is_awake_in (body_at bodies a) || is_awake_in (body_at bodies b)) n e)
 
 -- under the name of each sleeping set some body sleeps
 someone : (slot_entries : List SlotEntry) (bodies : List (Option Body)) (s : JointSlots) (contacts : List ContactEntry) (n : ℕ) → AreLists slot_entries bodies s contacts → IsNameOf (all slot_entries bodies s contacts) n → HasSleeper bodies n

@@ -71,7 +71,7 @@ joint_named s b are h =
     let within : h.slot < length s.slot_entries = slice_get_within s.slot_entries h.slot h.place h.at_place in
     let low : h.slot < 2 ^ 32 = omega (arith, slots, few, within) in
     let short : h.place.generation < 2 ^ 32 = omega (arith, bounded) in
-    subst (λ (v : Bond). IsConstraintWithin v.id) (sym h.is) (record { slot = low; generation = short })
+    subst (λ (v : Bond). IsConstraintWithin v.id) (sym h.is) (low, short)
 
 contact_named : (contacts : List ContactEntry) (b : Bond) → All (λ (e : ContactEntry). IsKeyWithin e.key) contacts → IsContactBond contacts b → IsConstraintWithin b.id
 contact_named contacts b all h = subst (λ (v : Bond). IsConstraintWithin v.id) (sym h.is) (All-contains (λ (e : ContactEntry). IsKeyWithin e.key) contacts h.entry all (contains_from_in contacts h.entry h.there))

@@ -35,12 +35,9 @@ standing_between bodies a b = cond (is_enabled bodies a && is_enabled bodies b) 
 abbrev pub standing_of_joint : List (Option Body) → BodyJoint → SetName
 standing_of_joint bodies j = standing_between bodies j.a j.b
 
-abbrev pub is_awake_at : List (Option Body) → ℕ → Bool
-is_awake_at bodies slot = is_awake_in (body_at bodies slot)
-
 -- a contact that doesn't touch is looked at while one of its bodies is an awake mover
 abbrev pub standing_apart : List (Option Body) → ℕ → ℕ → SetName
-standing_apart bodies a b = cond (is_awake_at bodies a || is_awake_at bodies b) sets.Awake sets.Disabled
+standing_apart bodies a b = cond (is_awake_in (body_at bodies a) || is_awake_in (body_at bodies b)) sets.Awake sets.Disabled
 
 abbrev pub standing_of_contact : List (Option Body) → ContactEntry → SetName
 standing_of_contact bodies e = cond (touches e.contact) (standing_between bodies e.key.first.slot e.key.second.slot) (standing_apart bodies e.key.first.slot e.key.second.slot)

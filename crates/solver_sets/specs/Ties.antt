@@ -126,7 +126,7 @@ abbrev pub member_of : List (Option Body) → JointSlots → Constraint → Opti
 member_of bodies s id = tie_with id (movers_of bodies s id)
 
 -- of lists of constraints, one for each colour
-unfoldable pub members_of : List (Option Body) → JointSlots → List (List Constraint) → Lists
+unfoldable pub members_of : List (Option Body) → JointSlots → List (List Constraint) → List (List (Member Constraint))
 members_of bodies s colours = map (filter_map (member_of bodies s)) colours
 
 -- ---- constraints that begin and end
@@ -154,11 +154,6 @@ pub record IsKeyWithin (key : ContactKey) : Type 0 where
   pub second : key.second.index < 256
   pub slot : key.second.slot < 2 ^ 32
 
--- the same of a joint's handle
-pub record IsHandleWithin (h : Handle) : Type 0 where
-  pub slot : h.slot < 2 ^ 32
-  pub generation : h.generation < 2 ^ 32
-
 abbrev pub IsConstraintWithin : Constraint → Type 0
-IsConstraintWithin (Joint h) = IsHandleWithin h
+IsConstraintWithin (Joint h) = (h.slot < 2 ^ 32) × (h.generation < 2 ^ 32)
 IsConstraintWithin (Contact key) = IsKeyWithin key

@@ -3,9 +3,10 @@
 ghost use Rattle.std.specs.Prelude.{◌≡◌, ◌<◌, ◌≤◌, ◌||◌, ◌++◌, ◌∷◌, [], IfOk, OnOk, length};
 ghost use Rattle.std.specs.List.{AllWithin};
 ghost use Rattle.std.specs.Result.{IsOkUnless};
+ghost use Rattle.plain_world.specs.Changes.{is_awake_in};
 ghost use Rattle.plain_world.specs.Slots.{AreMatched, body_at};
 ghost use Rattle.solver_sets.specs.Ties.{slots_of};
-ghost use Rattle.solver_sets.specs.Census.{AreNamed, body_standings, census_of, contact_standings, is_awake_at, joint_standings, mover_set, set_with, standing_apart, standing_between, standing_of_contact, standing_of_joint};
+ghost use Rattle.solver_sets.specs.Census.{AreNamed, body_standings, census_of, contact_standings, joint_standings, mover_set, set_with, standing_apart, standing_between, standing_of_contact, standing_of_joint};
 ghost use Rattle.solver_sets.specs.CensusListing.{alone, empty_census, listed_in, with_all, with_item, with_sleeper};
 
 use crate::ties::is_enabled;
@@ -221,7 +222,7 @@ pub fn standing_of_joint(bodies: &[Option<Body>], joint: &BodyJoint) -> SetName
 
 /// Whether an awake mover is in the slot.
 fn is_awake_at(bodies: &[Option<Body>], slot: u32) -> bool
-    ensures { result ≡ is_awake_at bodies.now slot }
+    ensures { result ≡ is_awake_in (body_at bodies.now slot) }
 {
     match item_at(bodies, slot as usize) {
         None => false,

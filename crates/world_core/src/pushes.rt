@@ -1,15 +1,15 @@
 //! What the commands that change one body ask of it, and what they give it.
 
-ghost use Rattle.std.specs.Prelude.{◌≡◌, ◌<◌, ◌≤◌, ◌^◌, true, OnOk, IfOk, length, unsigned_abs};
+ghost use Rattle.std.specs.Prelude.{◌≡◌, ◌<◌, ◌≤◌, ◌^◌, ◌&&◌, true, OnOk, IfOk, length, unsigned_abs};
 ghost use Rattle.std.specs.Option.{ForSome, option_copied};
 ghost use Rattle.std.specs.Result.{result_err};
-ghost use Rattle.fixed_geom.specs.Vectors.{IsWithin};
+ghost use Rattle.fixed_geom.specs.Vectors.{IsWithin, is_within};
 ghost use Rattle.plain_world.specs.Bodies.{IsBody, AreBodies};
 ghost use Rattle.plain_world.specs.Momentum.{momentum_in};
 ghost use Rattle.plain_world.specs.Kinds.{is_kinematic};
 ghost use Rattle.plain_world.specs.Slots.{body_at, body_of};
 ghost use Rattle.shapes.specs.Poses.{IsPose};
-ghost use Rattle.world_rules.specs.Apply.{are_momenta, is_push, mover_refusal, posed, pushed, steered, with_impulse};
+ghost use Rattle.world_rules.specs.Apply.{are_momenta, mover_refusal, posed, pushed, steered, with_impulse};
 
 use body_handles::{Handle, Handles};
 use fixed_geom::{MAX_POSITION, Refusal, Vec2, cross, is_facing, is_within, plus};
@@ -25,7 +25,7 @@ const MAX_PUSH_OFFSET: u64 = 1 << 26;
 
 /// Whether an impulse and the offset at which it is given are within their limits.
 fn is_push(by: Vec2, offset: Vec2) -> bool
-    ensures value { result ≡ is_push by offset }
+    ensures value { result ≡ (is_within (2 ^ 40) by && is_within (2 ^ 26) offset) }
     ensures by { result ≡ true → IsWithin (2 ^ 40) by }
     ensures offset { result ≡ true → IsWithin (2 ^ 26) offset }
 {

@@ -17,7 +17,7 @@ use Rattle.plain_world.specs.declared.body.SetName.{SetName}
 use Rattle.plain_world.specs.declared.body.SetName.TheVariants.{Disabled, Sleeping}
 use Rattle.plain_world.specs.declared.kind.Kind.{Kind}
 use Rattle.plain_world.specs.declared.kind.Kind.TheVariants.{Dynamic, Kinematic, Static}
-use Rattle.plain_world.specs.Bodies.{AreBodies, is_mover, set_of, sleeping_set, standing_of}
+use Rattle.plain_world.specs.Bodies.{AreBodies, is_mover, set_of, standing_of}
 use Rattle.plain_world.specs.Kinds.{is_dynamic}
 use Rattle.plain_world.specs.Slots.{AreMatched, body_at, is_taken_entry, item_at}
 use Rattle.solver_sets.specs.declared.census.Item.{Item}
@@ -127,7 +127,7 @@ asleep_by false k o name e = cc
 set_by : (t : Bool) (k : Kind) (o : Option ℕ) (name : ℕ) → (cond t (is_dynamic k) false ≡ false → o ≡ None) → o ≡ Some name → cond t (set_of k o) Disabled ≡ Sleeping name
 set_by true Static o name only e = absurd (none-some name (sym (only refl) ∙ e))
 set_by true (Kinematic course) o name only e = absurd (none-some name (sym (only refl) ∙ e))
-set_by true Dynamic o name only e = ap sleeping_set e
+set_by true Dynamic o name only e = ap (λ (v : Option ℕ). set_of Dynamic v) e
 set_by false k o name only e = absurd (none-some name (sym (only refl) ∙ e))
 
 sleeper_by : (bodies : List (Option Body)) (name slot : ℕ) (o : Option Body) → body_at bodies slot ≡ o → option_map standing_of o ≡ Some (Sleeping name) → SleepsIn bodies name slot

@@ -12,7 +12,7 @@ use Rattle.plain_world.specs.declared.body.Body.{Body}
 use Rattle.plain_world.specs.declared.body.SetName.TheVariants as sets
 use Rattle.plain_world.specs.declared.kind.Kind.{Kind}
 use Rattle.plain_world.specs.declared.kind.Kind.TheVariants.{Dynamic, Kinematic, Static}
-use Rattle.plain_world.specs.Bodies.{is_mover, is_mover_in, set_of, sleeping_set, standing_of}
+use Rattle.plain_world.specs.Bodies.{is_mover, is_mover_in, set_of, standing_of}
 use Rattle.plain_world.specs.Changes.{is_awake_in}
 use Rattle.plain_world.specs.Kinds.{is_dynamic}
 use Rattle.plain_world.specs.Slots.{body_at}
@@ -28,10 +28,10 @@ use Rattle.world_rules.proofs.LowerLaws.{sleepers_are_one_component}
 mover_with : (bodies : List (Option Body)) (labels : Labels) (slot : ℕ) (b : Body) (l : Label) → AreTied bodies labels → body_at bodies slot ≡ Some b → label_at labels slot ≡ Some l → is_mover b ≡ true
 mover_with bodies labels slot b l tied at label = sym (ap is_mover_in at) ∙ sym (tied slot) ∙ ap is_some label
 
-standing_mover : (b : Body) → is_mover b ≡ true → standing_of b ≡ sleeping_set b.asleep
+standing_mover : (b : Body) → is_mover b ≡ true → standing_of b ≡ set_of Dynamic b.asleep
 standing_mover b e = by b.enabled b.kind e
   where
-    by : (t : Bool) (k : Kind) → cond t (is_dynamic k) false ≡ true → cond t (set_of k b.asleep) sets.Disabled ≡ sleeping_set b.asleep
+    by : (t : Bool) (k : Kind) → cond t (is_dynamic k) false ≡ true → cond t (set_of k b.asleep) sets.Disabled ≡ set_of Dynamic b.asleep
     by true Static h = cc
     by true (Kinematic course) h = cc
     by true Dynamic h = refl
@@ -45,7 +45,7 @@ linked_movers_stand w a b x y s linked at_x at_y =
     let told = s.promises.told in
     let one = s.promises.consistent.islands.together a b linked in
     standing_mover x (mover_with w.plain.bodies labels a x one.0 tied at_x one.1)
-    ∙ ap sleeping_set (told a x at_x ∙ ap sleeping_name (one.1 ∙ sym one.2) ∙ sym (told b y at_y))
+    ∙ ap (λ (v : Option ℕ). set_of Dynamic v) (told a x at_x ∙ ap sleeping_name (one.1 ∙ sym one.2) ∙ sym (told b y at_y))
     ∙ sym (standing_mover y (mover_with w.plain.bodies labels b y one.0 tied at_y one.2))
 
 -- ---- sleeping sets

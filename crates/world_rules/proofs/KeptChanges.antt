@@ -42,7 +42,7 @@ use Rattle.sleep_wake.specs.Acting as acting
 use Rattle.sleep_wake.specs.Sleeping.{islands_woken, sleeping_names}
 use Rattle.solver_sets.specs.Beside.{stirred_by}
 use Rattle.solver_sets.specs.Alike.{AreAlike}
-use Rattle.world_rules.specs.Apply.{are_momenta, body_changed, booked, counted, is_push, posed, pushed, steered, with_impulse}
+use Rattle.world_rules.specs.Apply.{are_momenta, body_changed, booked, counted, posed, pushed, steered, with_impulse}
 use Rattle.world_rules.specs.Sets.{acting_of, stirred, with_woken}
 use Rattle.world_rules.specs.Sound.{IsRoomy}
 use Rattle.world_rules.specs.World.{World, body_named, book_of}
@@ -237,7 +237,7 @@ record IsPushed (o : Option Body) (j r : Vec2) (m : Momenta) : Type 0 where
 pushed_from : (o : Option Body) (j r : Vec2) (m : Momenta) → pushed o j r ≡ Ok m → IsPushed o j r m
 pushed_from None j r m e = cc
 pushed_from (Some b) j r m e =
-    let t = tests (is_dynamic b.kind) b.enabled (is_push j r) (are_momenta (with_impulse j r b)) (with_impulse j r b) m e in
+    let t = tests (is_dynamic b.kind) b.enabled (is_within (2 ^ 40) j && is_within (2 ^ 26) r) (are_momenta (with_impulse j r b)) (with_impulse j r b) m e in
     let fit : are_momenta m ≡ true = rw t.4 t.3 in
     record {
       body = b;

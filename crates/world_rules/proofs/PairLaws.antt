@@ -48,7 +48,7 @@ use Rattle.plain_world.specs.declared.joint.BodyJoint.{BodyJoint}
 use Rattle.plain_world.specs.Joints.{forbidden_pairs}
 use Rattle.plain_world.specs.Bodies.{is_mover, pose_of, stirs, IsBody, AreBodies, is_mover_in, moves}
 use Rattle.plain_world.specs.Kinds.{is_dynamic}
-use Rattle.plain_world.specs.Formed.{HasPoints, IsShapeOf, is_surface, mixed_of, mixed_surface, no_surface, shape_with_id, shape_of_body, surface_of}
+use Rattle.plain_world.specs.Formed.{HasPoints, is_surface, mixed_of, mixed_surface, no_surface, shape_with_id, shape_of_body, surface_of}
 use Rattle.plain_world.specs.Slots.{body_at, shapes_in}
 use Rattle.solver_sets.specs.Ties.{IsKeyWithin}
 use Rattle.solver_sets.proofs.CollideLaws.{same_key}
@@ -380,7 +380,7 @@ looked_up P (e ∷ es) key all = looked_if P (number_of e == key_number key) e (
 shapes_on : (b : Body) (index : ℕ) → b.enabled ≡ true → index < length b.shapes → index < shapes_in (Some b)
 shapes_on b index on h = rw on h
 
-shape_of : (bodies : List (Option Body)) (p : Proxy) → IsProxyIn 0 bodies p → IsShapeOf bodies p.id
+shape_of : (bodies : List (Option Body)) (p : Proxy) → IsProxyIn 0 bodies p → p.id.index < shapes_in (body_at bodies p.id.slot)
 shape_of bodies p h = subst (λ (o : Option Body). p.id.index < shapes_in o) (sym (body_there bodies p h)) (shapes_on h.body p.id.index h.is.enabled h.is.own)
 
 -- ---- the surface

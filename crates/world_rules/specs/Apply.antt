@@ -181,16 +181,12 @@ with_impulse j r b = record { p = plus b.motion.p j; l = turned_by b.mass.inerti
 abbrev pub are_momenta : Momenta → Bool
 are_momenta m = is_within (unsigned_abs MAX_MOMENTUM) m.p && nat_le (unsigned_abs m.l) (unsigned_abs MAX_ANGULAR_MOMENTUM)
 
--- an impulse and the offset at which it is given are within their limits
-abbrev pub is_push : Vec2 → Vec2 → Bool
-is_push j r = is_within (2 ^ 40) j && is_within (2 ^ 26) r
-
 -- the momenta that a push leaves, or the first reason why there are none
 abbrev pub pushed : Option Body → Vec2 → Vec2 → Result Momenta Refusal
 pushed named j r = where_named named (λ b.
     need (is_dynamic b.kind) NotAMover (
     need b.enabled BodyDisabled (
-    need (is_push j r) OutOfRange (
+    need (is_within (2 ^ 40) j && is_within (2 ^ 26) r) OutOfRange (
     need (are_momenta (with_impulse j r b)) TooFast (
     Ok (with_impulse j r b))))))
 

@@ -11,9 +11,9 @@ use Rattle.graph_colours.specs.Colours.{ids_of}
 use Rattle.plain_world.specs.declared.body.Body.{Body}
 use Rattle.plain_world.specs.Bodies.{AreBodies, IsAtRest, is_awake}
 use Rattle.plain_world.specs.Momentum.{momentum}
-use Rattle.plain_world.specs.Formed.{AreFiltered, HasPoints, IsShapeOf, mixed_of, shape_with_id}
+use Rattle.plain_world.specs.Formed.{AreFiltered, HasPoints, mixed_of, shape_with_id}
 use Rattle.plain_world.specs.Joints.{AreJoints}
-use Rattle.plain_world.specs.Slots.{AreMatched, body_at}
+use Rattle.plain_world.specs.Slots.{AreMatched, body_at, shapes_in}
 use Rattle.sleep_wake.specs.Acting.{IsConsistent}
 use Rattle.solver_sets.specs.Ties.{IsKeyWithin, members_of}
 use Rattle.solver_sets.specs.Tied.{AreTied}
@@ -31,8 +31,8 @@ pub record AreSmall (n : ℕ) (b : Book) : Type 0 where
 pub record HasBodies (bodies : List (Option Body)) (e : ContactEntry) : Type 0 where
   pub first : is_some (body_at bodies e.key.first.slot) ≡ true
   pub second : is_some (body_at bodies e.key.second.slot) ≡ true
-  pub first_shape : IsShapeOf bodies e.key.first
-  pub second_shape : IsShapeOf bodies e.key.second
+  pub first_shape : e.key.first.index < shapes_in (body_at bodies e.key.first.slot)
+  pub second_shape : e.key.second.index < shapes_in (body_at bodies e.key.second.slot)
   pub order : e.key.first.slot < e.key.second.slot
   pub surface : e.surface ≡ mixed_of (shape_with_id bodies e.key.first) (shape_with_id bodies e.key.second)
   pub named : IsKeyWithin e.key
