@@ -21,6 +21,7 @@ use Rattle.plain_world.specs.declared.kind.Kind.TheVariants.{Static, Kinematic, 
 use Rattle.plain_world.specs.declared.body.SetName.{SetName}
 use Rattle.plain_world.specs.declared.body.SetName.TheVariants as sets
 use Rattle.plain_world.specs.Bodies.{is_mover, set_of, standing_of}
+use Rattle.plain_world.specs.Changes.{is_awake_in}
 use Rattle.plain_world.specs.Kinds.{is_dynamic}
 use Rattle.plain_world.specs.Slots.{AreMatched, body_at, item_at, is_taken_entry}
 use Rattle.solver_sets.specs.declared.census.Item.{Item}

@@ -48,7 +48,7 @@ use Rattle.plain_world.specs.Slots.{body_at, item_at}
 use Rattle.world_core_base.specs.Carried.{solver_motion}
 use Rattle.world_core_base.specs.Gather.{bodies_of, ends_at, row_in, row_of, state_of, states_of}
 use Rattle.world_core_base.specs.ConstraintRows.{constraint_row, joint_bodies, joint_ends, joint_row_in}
-use Rattle.world_core_base.specs.Solving.{Moving, Solving, Visits, ends_now, ends_then, gain_between, given_by_immovable, after_impulse, nothing, pass, gain_sum, put_back, put_joint_back, state_with, row_visit, visit_between, visit_joined, with_contact, with_sum}
+use Rattle.world_core_base.specs.Solving.{Moving, Solving, Visits, ends_now, ends_then, gain_between, given_by_immovable, after_impulse, nothing, pass, gain_sum, put_back, put_joint_back, state_with, row_visit, visit_between, visit_joined, with_contact}
 use Rattle.world_core_base.specs.SolvingArrays.{AreOther, HasEnds, JointHasEnds}
 use Rattle.world_core_base.proofs.ContactLaws.{row_bodies, row_is}
 use Rattle.world_core_base.proofs.SolvingJoints.{all_ends_as, bare_joint, bare_joints, bare_put, joint_put_other, joint_put_same}
@@ -250,8 +250,8 @@ none_given e = none_given_by e.a.movable e.b.movable (gain_between e.a.motion e.
 plus_nothing : (g : Gain) → gain_sum g nothing ≡ g
 plus_nothing g = λ i. record { x = more_by_none g.x i; y = more_by_none g.y i }
 
-sums_idle : (e : Ends) (sums : StepSums) → with_sum (given_by_immovable e e) sums ≡ sums
-sums_idle e sums = ap (λ (g : Gain). with_sum g sums) (none_given e) ∙ ap (λ (g : Gain). record sums { immovable = g }) (plus_nothing sums.immovable)
+sums_idle : (e : Ends) (sums : StepSums) → record sums { immovable = gain_sum sums.immovable (given_by_immovable e e) } ≡ sums
+sums_idle e sums = ap (λ (g : Gain). record sums { immovable = gain_sum sums.immovable g }) (none_given e) ∙ ap (λ (g : Gain). record sums { immovable = g }) (plus_nothing sums.immovable)
 
 -- ---- one visit
 

@@ -84,10 +84,7 @@ pub record Visits : Type 0 where
 
 -- the warm start: the kept impulses are given once more
 abbrev pub warm : Visits
-warm = record {
-  joint = λ j start now. joint_warmed start j now;
-  contact = λ e start now. contact_warmed e.contact now;
-}
+warm = record { joint = λ j start now. joint_warmed start j now; contact = λ e start now. contact_warmed e.contact now }
 
 -- impulses: a joint's along the line of its anchors; at a contact each point's along its normal, and then friction
 abbrev pub solve : Visits
@@ -108,16 +105,18 @@ abbrev pub with_contact : ContactKey → Contact → List ContactEntry → List 
 with_contact key c [] = []
 with_contact key c (e ∷ es) = cond (number_of e == key_number key) (record e { contact = c } ∷ es) (e ∷ with_contact key c es)
 
-abbrev pub with_sum : Gain → StepSums → StepSums
-with_sum g sums = record sums { immovable = gain_sum sums.immovable g }
-
--- the joint in a slot and its two bodies put back, and what an immovable one gave booked
-abbrev pub put_joint_back : ℕ → BodyJoint → Moving → Moving → SolvedJoint → Solving → Solving
-put_joint_back slot j a b solved s = record s {
-  bodies = slice_set (slice_set s.bodies j.a (Some (after_impulse solved.ends.a a))) j.b (Some (after_impulse solved.ends.b b));
-  joints = slice_set s.joints slot (Some (record j { joint = solved.joint }));
-  sums = with_sum (given_by_immovable (ends_now a b) solved.ends) s.sums;
+-- two bodies put back into their slots, and what an immovable one gave booked
+abbrev pub put_ends : ℕ → ℕ → Moving → Moving → Ends → Solving → Solving
+put_ends first second a b ends s = record s {
+  bodies = slice_set (slice_set s.bodies first (Some (after_impulse ends.a a))) second (Some (after_impulse ends.b b));
+  sums = record s.sums { immovable = gain_sum s.sums.immovable (given_by_immovable (ends_now a b) ends) };
 }
+
+-- the joint in a slot put back with its two bodies
+abbrev pub put_joint_back : ℕ → BodyJoint → Moving → Moving → SolvedJoint → Solving → Solving
+put_joint_back slot j a b solved s =
+    let joints = slice_set s.joints slot (Some (record j { joint = solved.joint })) in
+    record (put_ends j.a j.b a b solved.ends s) { joints = joints }
 
 -- the visit of the joint in a slot, if it is there and both its bodies are
 abbrev pub visit_joined : Visits → Solving → ℕ → BodyJoint → Option Moving → Option Moving → Solving
@@ -125,13 +124,11 @@ visit_joined f s slot j None b = s
 visit_joined f s slot j (Some a) None = s
 visit_joined f s slot j (Some a) (Some b) = put_joint_back slot j a b (f.joint j.joint (ends_then a b) (ends_now a b)) s
 
--- the contact and its two bodies put back, and what an immovable one gave booked
+-- the contact put back with its two bodies
 abbrev pub put_back : ContactKey → Moving → Moving → SolvedContact → Solving → Solving
-put_back key a b solved s = record s {
-  bodies = slice_set (slice_set s.bodies key.first.slot (Some (after_impulse solved.ends.a a))) key.second.slot (Some (after_impulse solved.ends.b b));
-  contacts = with_contact key solved.contact s.contacts;
-  sums = with_sum (given_by_immovable (ends_now a b) solved.ends) s.sums;
-}
+put_back key a b solved s =
+    let contacts = with_contact key solved.contact s.contacts in
+    record (put_ends key.first.slot key.second.slot a b solved.ends s) { contacts = contacts }
 
 -- the visit of the contact, if it is there and both its bodies are
 abbrev pub visit_between : Visits → Solving → ContactKey → Option ContactEntry → Option Moving → Option Moving → Solving

@@ -251,16 +251,12 @@ disabled w h b = accepted (body_disabled h (is_mover b) (stirred w h.slot)) repl
 abbrev pub apply_disable : Plain → Handle → Result Applied Refusal
 apply_disable w h = where_named (body_named w h) (λ b. need b.enabled BodyDisabled (Ok (disabled w h b)))
 
--- the lists in which the body takes part again
-abbrev pub with_part : Handle → Plain → Plain
-with_part h w = record w { bodies = changed_at enabled_body w.bodies h.slot }
-
 -- a mover has an island of its own, and the body's joints begin by slot
-abbrev pub taken_up : Handle → Body → Plain → Acting Constraint
-taken_up h b w = each_begun constraint_number (joint_ties_at h.slot (with_part h w).bodies (joints_in_slots w)) (body_come h.slot b (acting_of w))
-
 abbrev pub body_enabled : Handle → Body → Plain → Plain
-body_enabled h b w = with_acting (taken_up h b w) (with_part h w)
+body_enabled h b w =
+    let now = record w { bodies = changed_at enabled_body w.bodies h.slot } in
+    let own = joint_ties_at h.slot now.bodies (joints_in_slots w) in
+    with_acting (each_begun constraint_number own (body_come h.slot b (acting_of w))) now
 
 -- the movers at its joints wake first
 abbrev pub enabled : Plain → Handle → Body → Plain

@@ -56,8 +56,6 @@ unfoldable pub contacts_after : List (Option Body) → List (Option BodyJoint) �
 contacts_after bodies joints old = contacts_between (forbidden_pairs joints) (proxies_of bodies) old
 
 abbrev pub collided : List (Option Body) → List (Option BodyJoint) → List ContactEntry → Collided
-collided bodies joints old = record {
-  now = contacts_after bodies joints old;
-  begin = keys_touching_only_in old (contacts_after bodies joints old);
-  end = keys_touching_only_in (contacts_after bodies joints old) old;
-}
+collided bodies joints old =
+    let now = contacts_after bodies joints old in
+    record { now = now; begin = keys_touching_only_in old now; end = keys_touching_only_in now old }
