@@ -1,5 +1,6 @@
 //! Each read, each write and each flush of a run fails in turn, and each takes as little as it may.
 
+use crate::assertions::same;
 use script_engine::{Status, run};
 use script_options::Options;
 use std::alloc::Global;
@@ -180,7 +181,11 @@ fn takes_pieces_of_each_length(rt: HostRuntime) -> Result<(), Fail> {
     for most in 1..LONGEST {
         let mut writer = Taker::new(rt.alloc(), most, NO_FAULT, NO_FAULT);
         let status = run_script(&rt, most, NO_FAULT, &mut writer)?;
-        assert_eq!(rt; (status, writer.taken.as_slice()), (Status::Ended, ANSWERS));
+        same(
+            &rt,
+            &(status, writer.taken.as_slice()),
+            &(Status::Ended, ANSWERS),
+        );
     }
     Ok(())
 }
@@ -201,8 +206,8 @@ fn answers_what_was_read_before_a_read_that_fails(rt: HostRuntime) -> Result<(),
             let fault = Fault { call, ..NO_FAULT };
             let mut writer = Taker::new(rt.alloc(), most, NO_FAULT, NO_FAULT);
             let status = run_script(&rt, most, fault, &mut writer)?;
-            assert_eq!(rt; status, Status::Failed);
-            assert_eq!(rt; writer.taken.as_slice(), answers_to(given));
+            same(&rt, &status, &Status::Failed);
+            same(&rt, &writer.taken.as_slice(), &answers_to(given));
             // The read that finds the end fails last.
             if given.len() == SCRIPT.len() {
                 break;
@@ -231,8 +236,8 @@ fn writes_a_beginning_before_a_write_that_fails(rt: HostRuntime) -> Result<(), F
             let fault = Fault { call, ..NO_FAULT };
             let mut writer = Taker::new(rt.alloc(), most, fault, NO_FAULT);
             let status = run_script(&rt, most, NO_FAULT, &mut writer)?;
-            assert_eq!(rt; (status, writer.is_late), (Status::Failed, false));
-            assert!(rt; ANSWERS.starts_with(writer.taken.as_slice()));
+            same(&rt, &(status, writer.is_late), &(Status::Failed, false));
+            same(&rt, &ANSWERS.starts_with(writer.taken.as_slice()), &true);
         }
     }
     Ok(())
@@ -247,9 +252,9 @@ fn writes_whole_lines_before_a_flush_that_fails(rt: HostRuntime) -> Result<(), F
             let fault = Fault { call, ..NO_FAULT };
             let mut writer = Taker::new(rt.alloc(), most, NO_FAULT, fault);
             let status = run_script(&rt, most, NO_FAULT, &mut writer)?;
-            assert_eq!(rt; (status, writer.is_late), (Status::Failed, false));
-            assert!(rt; ANSWERS.starts_with(writer.taken.as_slice()));
-            assert_eq!(rt; writer.taken.last(), Some(&b'\n'));
+            same(&rt, &(status, writer.is_late), &(Status::Failed, false));
+            same(&rt, &ANSWERS.starts_with(writer.taken.as_slice()), &true);
+            same(&rt, &writer.taken.last(), &Some(&b'\n'));
         }
     }
     Ok(())
@@ -264,7 +269,11 @@ fn goes_on_where_a_call_is_interrupted(rt: HostRuntime) -> Result<(), Fail> {
             let fault = Fault { call, kind };
             let mut writer = Taker::new(rt.alloc(), most, fault, NO_FAULT);
             let status = run_script(&rt, most, fault, &mut writer)?;
-            assert_eq!(rt; (status, writer.taken.as_slice()), (Status::Ended, ANSWERS));
+            same(
+                &rt,
+                &(status, writer.taken.as_slice()),
+                &(Status::Ended, ANSWERS),
+            );
         }
     }
     Ok(())

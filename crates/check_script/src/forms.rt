@@ -1,5 +1,6 @@
 //! Texts that may be a saved world, and texts that can't be one.
 
+use crate::assertions::same;
 use json::Scratch;
 use std::test::Fail;
 use world_script_base::may_be_world;
@@ -24,7 +25,7 @@ fn tells_what_may_be_a_world(rt: HostRuntime) -> Result<(), Fail> {
     let mut scratch = Scratch::new(rt.alloc());
     for (list, may_be) in bodies.iter() {
         let text = format!(in rt.alloc(); "{{\"bodies\":{list}{REST}")?;
-        assert_eq!(rt; may_be_world(text.as_str(), &mut scratch)?, *may_be);
+        same(&rt, &may_be_world(text.as_str(), &mut scratch)?, may_be);
     }
     Ok(())
 }

@@ -1,5 +1,6 @@
 //! What is told of lines that are no requests, and of requests that are refused.
 
+use crate::assertions::same;
 use fixed_geom::Refusal;
 use json::Scratch;
 use script_engine::{BadLine, explain, request_of};
@@ -50,7 +51,7 @@ fn says_why_a_line_is_bad(rt: HostRuntime) -> Result<(), Fail> {
         ),
     ];
     for (line, why) in lines.iter() {
-        assert_eq!(rt; told(rt.alloc(), line)?.as_str(), *why);
+        same(&rt, &told(rt.alloc(), line)?.as_str(), why);
     }
     Ok(())
 }
@@ -94,7 +95,7 @@ fn says_which_key_a_refusal_speaks_of(rt: HostRuntime) -> Result<(), Fail> {
         ),
     ];
     for (line, refusal, why) in lines.iter() {
-        assert_eq!(rt; explained(rt.alloc(), line, *refusal)?.as_str(), *why);
+        same(&rt, &explained(rt.alloc(), line, *refusal)?.as_str(), why);
     }
     Ok(())
 }
@@ -143,7 +144,7 @@ fn says_where_a_saved_world_breaks_a_clause(rt: HostRuntime) -> Result<(), Fail>
         (LONG_FACING, "bodies[1].body.facing"),
     ];
     for (second, place) in seconds.iter() {
-        assert_eq!(rt; place_in(rt.alloc(), second)?.as_str(), *place);
+        same(&rt, &place_in(rt.alloc(), second)?.as_str(), place);
     }
     Ok(())
 }

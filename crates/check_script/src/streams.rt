@@ -1,5 +1,6 @@
 //! Readers and writers that fail, or that notice what is kept back from them.
 
+use crate::assertions::same;
 use script_engine::{Status, run};
 use script_options::Options;
 use std::alloc::Global;
@@ -129,8 +130,12 @@ fn answers_before_it_waits(rt: HostRuntime) -> Result<(), Fail> {
     };
     let mut reader = BufReader::new(rt.alloc(), waiting)?;
     let mut writer = CountingWriter { kept: &kept };
-    assert_eq!(rt; run(&rt, &mut reader, &mut writer, PLAIN), Status::Ended);
-    assert!(rt; !late.get());
+    same(
+        &rt,
+        &run(&rt, &mut reader, &mut writer, PLAIN),
+        &Status::Ended,
+    );
+    same(&rt, &late.get(), &false);
     Ok(())
 }
 
@@ -139,10 +144,11 @@ fn counts_blank_lines_and_needs_no_last_line_end(rt: HostRuntime) {
     let mut answers = Vec::new(rt.alloc());
     let mut script: &[u8] = b" \t\r\n{\"do\":\"gravity\",\"by\":[0,-157]}\n\n\n{\"do\":\"show\"}";
     let status = run(&rt, &mut script, &mut answers, PLAIN);
-    assert_eq!(rt; status, Status::BadLine);
-    assert_eq!(rt;
-        answers.as_slice(),
-        b"{\"done\":true}\n{\"bad\":5}\n".as_slice()
+    same(&rt, &status, &Status::BadLine);
+    same(
+        &rt,
+        &answers.as_slice(),
+        &b"{\"done\":true}\n{\"bad\":5}\n".as_slice(),
     );
 }
 
@@ -151,10 +157,14 @@ fn keeps_the_answers_before_a_read_that_fails(rt: HostRuntime) -> Result<(), Fai
     let text = b"{\"do\":\"gravity\",\"by\":[0,0]}\n{\"do\":\"ledger\"}";
     let mut reader = BufReader::new(rt.alloc(), CutReader { text })?;
     let mut writer = cut_writer(rt.alloc(), 100);
-    assert_eq!(rt; run(&rt, &mut reader, &mut writer, PLAIN), Status::Failed);
-    assert_eq!(rt; writer.taken.as_slice(), DONE);
+    same(
+        &rt,
+        &run(&rt, &mut reader, &mut writer, PLAIN),
+        &Status::Failed,
+    );
+    same(&rt, &writer.taken.as_slice(), &DONE);
     // The answer isn't kept back from the next read, and the end flushes once more.
-    assert_eq!(rt; writer.flushes, 2);
+    same(&rt, &writer.flushes, &2);
     Ok(())
 }
 
@@ -164,9 +174,13 @@ fn writes_nothing_after_a_write_that_fails(rt: HostRuntime) {
         let mut script: &[u8] =
             b"{\"do\":\"gravity\",\"by\":[0,0]}\n{\"do\":\"gravity\",\"by\":[0,0]}\n";
         let mut writer = cut_writer(rt.alloc(), left);
-        assert_eq!(rt; run(&rt, &mut script, &mut writer, PLAIN), Status::Failed);
-        assert_eq!(rt; writer.flushes, 0);
-        assert!(rt; DONE.starts_with(writer.taken.as_slice()));
+        same(
+            &rt,
+            &run(&rt, &mut script, &mut writer, PLAIN),
+            &Status::Failed,
+        );
+        same(&rt, &writer.flushes, &0);
+        same(&rt, &DONE.starts_with(writer.taken.as_slice()), &true);
     }
 }
 
@@ -174,5 +188,9 @@ fn writes_nothing_after_a_write_that_fails(rt: HostRuntime) {
 fn fails_where_the_flush_fails(rt: HostRuntime) {
     let mut script: &[u8] = b"";
     let mut writer = cut_writer(rt.alloc(), 0);
-    assert_eq!(rt; run(&rt, &mut script, &mut writer, PLAIN), Status::Failed);
+    same(
+        &rt,
+        &run(&rt, &mut script, &mut writer, PLAIN),
+        &Status::Failed,
+    );
 }

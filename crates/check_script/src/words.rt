@@ -1,5 +1,6 @@
 //! The program's words, as `script_options` reads them.
 
+use crate::assertions::same;
 use script_options::{Instead, Options, options};
 use std::alloc::Global;
 use std::test::Fail;
@@ -135,7 +136,11 @@ const ROWS: [Row; 31] = [
 fn reads_its_words(rt: HostRuntime) -> Result<(), Fail> {
     for (words, wanted) in ROWS.iter() {
         let asked = asked(rt.alloc(), words)?;
-        assert_eq!(rt; (words, asked.get(..wanted.len())), (words, Some(*wanted)));
+        same(
+            &rt,
+            &(*words, asked.get(..wanted.len())),
+            &(*words, Some(*wanted)),
+        );
     }
     Ok(())
 }
