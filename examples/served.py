@@ -14,6 +14,18 @@ from world import PROGRAM, World
 
 PATIENCE = 10.0  # seconds until an answer has to be there
 
+# A saved world of which the second slot of joints has no generation that it may have.
+NO_GENERATION = {
+    "version": 2,
+    "gravity": [0, 0],
+    "call": 0,
+    "step": 0,
+    "bodies": [],
+    "joints": [{"generation": 1}, {"generation": 0}],
+    "contacts": [],
+    "ledger": {cause: ["0", "0"] for cause in ("clamp", "command", "departed", "gravity", "immovable", "rest")},
+}
+
 
 def falls(program):
     """A circle falls, and each answer comes before the next request goes out."""
@@ -42,20 +54,35 @@ def explains(program):
     """A refusal and a bad line are told in words."""
     world = World(program, "--explain", patience=PATIENCE)
     yield world.ask(do="step", ticks=9) == {"refused": 5}
+    yield world.ask(do="load", world=NO_GENERATION) == {"clause": 3, "refused": 12}
+    steps = [{"do": "step", "ticks": ticks} for ticks in (1, 9, 8)]
+    yield world.ask(do="crowd", each=steps, times=2)["journal"] == 4
+    yield world.ask(do="crowd", each=steps[:1], times=2)["journal"] == 2
     world.send(b'{"do":"step","ticks":"4"}\n')
-    yield world.answer() == b'{"bad":2}'
+    yield world.answer() == b'{"bad":5}'
     status, _, said = world.end()
     yield status == 1
     yield said.splitlines() == [
         "line 1: refused 5: ticks: a number outside its limit",
-        "line 2: ticks: not a whole number of 64 bits",
+        "line 2: refused 12: world: the saved world breaks clause 3, first at joints[1].generation",
+        "line 3: each: 2 of 6 calls were refused",
+        "line 5: ticks: not a whole number of 64 bits",
     ]
+
+
+def goes_on(program):
+    """A bad line is passed by where that is asked for, and the program's status tells of it."""
+    world = World(program, "--go-on", patience=PATIENCE)
+    world.send(b'{"do":"jump"}\n')
+    yield world.answer() == b'{"bad":1}'
+    yield world.ask(do="step", ticks=1)["step"] == 1
+    yield world.end() == (1, b"", "line 1: do: no request has this name\n")
 
 
 def main():
     program = sys.argv[1] if len(sys.argv) > 1 else PROGRAM
     passed = failed = 0
-    for scene in (falls, in_pieces, explains):
+    for scene in (falls, in_pieces, explains, goes_on):
         try:
             for good in scene(program):
                 passed, failed = passed + good, failed + (not good)
