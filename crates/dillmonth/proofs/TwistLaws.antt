@@ -1,8 +1,9 @@
--- Both pushes of an angular impulse, where there is a world.
+-- Both pushes of an angular impulse, and a course to a pose, where there is a world.
 use Rattle.std.proofs.Common.{◌≡◌, ℕ, Option, Some, subst, sym, ℤ}
 use Rattle.body_handles.specs.declared.handle.Handle.{Handle}
 use Rattle.dillmonth.specs.Motions.{twist_to}
-use Rattle.dillmonth.specs.Moving.{Twists, TwistsIn}
+use Rattle.dillmonth.specs.Moving.{AnswersAs, DoesBy, Twists, TwistsIn, steering_to}
+use Rattle.shapes.specs.declared.pose.Pose.{Pose}
 use Rattle.world_desk.specs.declared.desk.Desk.{Desk}
 use Rattle.world_rules.specs.World.{body_named}
 
@@ -26,3 +27,14 @@ twists_to_in h named spin passed held put old now new status is same_spin there 
     (subst (λ (k : Handle). Twists k (twist_to (body_named old.world.plain k) spin) old status new) is
     (subst (λ (z : ℤ). Twists named (twist_to (body_named old.world.plain named) z) old status new) same_spin
     (subst (λ (d : Desk). Twists named (twist_to (body_named d.world.plain named) passed) d status new) same twists))))
+
+-- a course to a pose, where there is a world
+pub steers_in : (h named : Handle) (to posed : Pose) (n passed : ℤ) (held put : Option Desk) (old now new : Desk) (status : ℕ) → named ≡ h → posed ≡ to → passed ≡ n → held ≡ Some old → now ≡ old → put ≡ Some new
+    → AnswersAs (steering_to named posed passed now.world) now status new → DoesBy (steering_to h to n) held status put
+steers_in h named to posed n passed held put old now new status is same_pose same_ticks there same putting steers =
+    subst (λ (o : Option Desk). DoesBy (steering_to h to n) o status put) (sym there)
+    (subst (λ (o : Option Desk). DoesBy (steering_to h to n) (Some old) status o) (sym putting)
+    (subst (λ (k : Handle). AnswersAs (steering_to k to n old.world) old status new) is
+    (subst (λ (p : Pose). AnswersAs (steering_to named p n old.world) old status new) same_pose
+    (subst (λ (z : ℤ). AnswersAs (steering_to named posed z old.world) old status new) same_ticks
+    (subst (λ (d : Desk). AnswersAs (steering_to named posed passed d.world) d status new) same steers)))))
