@@ -1,9 +1,9 @@
 -- Passes over some of the rows: one row more, and one pass after another.
-use Rattle.std.proofs.Common.{◌≡◌, ℕ, ◌+◌, ◌-◌, ◌<◌, ◌≤◌, ◌^◌, List, [], ◌∷◌, ◌++◌, length, get_or, set, take, drop, All, arith, refl, sym, ap, ◌∙◌, subst}
+use Rattle.std.proofs.Common.{◌≡◌, ℕ, ◌+◌, ◌-◌, ◌<◌, ◌≤◌, ◌^◌, true, List, [], ◌∷◌, ◌++◌, length, get_or, set, take, drop, All, arith, refl, sym, ap, ◌∙◌, subst}
 use Rattle.std.proofs.lemmas.List.{drop-drop, drop-set-add, get_or-drop, length-drop, take_more, take_more_set}
 use Rattle.std.proofs.lemmas.List.Elements.{All-append, All-cons, All-nil}
 use Rattle.body_handles.specs.declared.slot_table.TheConstants.{MAX_SLOTS}
-use Rattle.fixed_geom.specs.Vectors.{plus}
+use Rattle.fixed_geom.specs.Vectors.{plus, zero_vector}
 use Rattle.fixed_geom.specs.declared.vectors.Vec2.{Vec2}
 use Rattle.momenta.specs.Gains.{IsGain}
 use Rattle.momenta.specs.declared.gain.Gain.{Gain}
@@ -83,6 +83,10 @@ passed_on {R} at is f ss ts us rows more visited rest given extra first next = r
 
 one_of : {X : Type 0} (P : X → Type 0) (x : X) → P x → All P (x ∷ [])
 one_of P x here = All-cons P x [] here (All-nil P)
+
+-- between two movers nothing is got
+pub got_movers : (e after : Ends) → e.a.movable ≡ true → e.b.movable ≡ true → got e after ≡ zero_vector
+got_movers e after first second = rw (first, second) refl
 
 -- the visit of one row
 pub passed_one : {R : Type 0} (at : R → Slots) (is : R → Type 0) (f : R → Ends → RowAfter R) (ss ts : List BodyState) (r t : R) (given : Vec2) → ts ≡ after at f ss r → t ≡ (visit_of at f ss r).row

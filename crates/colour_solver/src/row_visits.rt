@@ -1,6 +1,6 @@
 //! Rows that are visited: each with its two bodies, one row after another, in solve order.
 
-ghost use Rattle.std.specs.Prelude.{◌≡◌, ◌≢◌, ◌^◌, ◌<◌, ◌≤◌, ◌+ℤ◌, true, None, length, take, drop, IfSome};
+ghost use Rattle.std.specs.Prelude.{◌≡◌, ◌≢◌, ◌^◌, ◌<◌, ◌≤◌, true, None, [], ◌∷◌, length, take, drop, IfSome};
 ghost use Rattle.momenta.specs.declared.state.Ends.{Ends};
 ghost use Rattle.momenta.specs.ImpulseBounds.{AreStates, AreSameBodies, IsMomentumKept, IsSameBody, IsState};
 ghost use Rattle.momenta.specs.Line64.{both_ends, with_momenta};
@@ -211,6 +211,63 @@ fn visit_in_place<R: Row, T: Visit<R>>(states: &mut Vec<BodyState>, row: &mut R,
     }
 }
 
+/// `visit_in_place`, apart from the bodies that are met most.
+#[inline(never)]
+fn visit_others<R: Row, T: Visit<R>>(states: &mut Vec<BodyState>, row: &mut R, visit: &T) -> Gain
+    requires states { AreAllStates states.old.items }
+    requires row { IsRowOn R.slots R.is_row (length states.old.items) row.old }
+    ensures states { states.new.items ≡ after R.slots (T.visit visit.now) states.old.items row.old }
+    ensures row { row.new ≡ (visit_of R.slots (T.visit visit.now) states.old.items row.old).row }
+    ensures got { as_vector result ≡ got (ends_of R.slots states.old.items row.old) (visit_of R.slots (T.visit visit.now) states.old.items row.old).ends }
+    ensures all_states { AreAllStates states.new.items }
+    ensures below { IsRowOn R.slots R.is_row (length states.new.items) row.new }
+    ensures long { length states.new.items ≡ length states.old.items }
+    ensures same { AreSameStates states.old.items states.new.items }
+    ensures momentum { total states.new.items ≡ plus (total states.old.items) (as_vector result) }
+    ensures small { IsGain (2 ^ 62) result }
+{
+    visit_in_place(states, row, visit)
+}
+
+/// Whether both bodies turn, and have reciprocals of their inertias.
+#[inline(always)]
+fn turn_by_reciprocals(a: &BodyState, b: &BodyState) -> bool {
+    a.reciprocals.inertia != 0 && b.reciprocals.inertia != 0
+}
+
+/// The same for two bodies in these slots.
+#[inline(always)]
+fn are_turned_by_reciprocals(states: &[BodyState], slots: Slots) -> bool
+    requires first { slots.a < length states.now }
+    requires second { slots.b < length states.now }
+{
+    turn_by_reciprocals(&states[slots.a as usize], &states[slots.b as usize])
+}
+
+/// `visit_in_place`. Bodies that turn by reciprocals, as most do, have it by themselves, where no more is asked of them
+/// whether they do.
+#[inline(always)]
+fn visit_turning<R: Row, T: Visit<R>>(states: &mut Vec<BodyState>, row: &mut R, visit: &T) -> Gain
+    requires states { AreAllStates states.old.items }
+    requires row { IsRowOn R.slots R.is_row (length states.old.items) row.old }
+    ensures states { states.new.items ≡ after R.slots (T.visit visit.now) states.old.items row.old }
+    ensures row { row.new ≡ (visit_of R.slots (T.visit visit.now) states.old.items row.old).row }
+    ensures got { as_vector result ≡ got (ends_of R.slots states.old.items row.old) (visit_of R.slots (T.visit visit.now) states.old.items row.old).ends }
+    ensures all_states { AreAllStates states.new.items }
+    ensures below { IsRowOn R.slots R.is_row (length states.new.items) row.new }
+    ensures long { length states.new.items ≡ length states.old.items }
+    ensures same { AreSameStates states.old.items states.new.items }
+    ensures momentum { total states.new.items ≡ plus (total states.old.items) (as_vector result) }
+    ensures small { IsGain (2 ^ 62) result }
+{
+    let slots = row.slots();
+    if are_turned_by_reciprocals(states, slots) {
+        visit_in_place(states, row, visit)
+    } else {
+        visit_others(states, row, visit)
+    }
+}
+
 /// Puts this momentum into a body.
 #[inline(always)]
 fn put_momentum(body: &mut BodyState, p: Vec2)
@@ -278,23 +335,63 @@ pub fn solve_one<R: Row, T: Visit<R>>(states: &mut Vec<BodyState>, row: &mut R, 
     }
     let slots = row.slots();
     match visit_row_centres_64(states, row, visit) {
-        None => visit_in_place(states, row, visit),
+        None => visit_turning(states, row, visit),
         Some(now) => put_centres(states, slots, now),
     }
 }
 
-/// The sum of what has been given and of what a visit gave, which is nothing between two movers.
-#[inline(always)]
-fn with_got(given: Gain, got: Gain) -> Gain
-    requires given { IsGain (2 ^ 78) given }
-    requires got { IsGain (2 ^ 62) got }
-    ensures x { result.x ≡ given.x +ℤ got.x }
-    ensures y { result.y ≡ given.y +ℤ got.y }
+/// The visit of one row. What an immovable body has given is added to the sum so far.
+#[inline(never)]
+fn add_visit<R: Row, T: Visit<R>>(
+    states: &mut Vec<BodyState>,
+    row: &mut R,
+    visit: &T,
+    given: &mut Gain,
+)
+    requires states { AreAllStates states.old.items }
+    requires row { IsRowOn R.slots R.is_row (length states.old.items) row.old }
+    requires given { IsGain (2 ^ 78) given.old }
+    ensures passed { IsPassed R.slots R.is_row (T.visit visit.now) states.old.items (row.old ∷ []) states.new.items (row.new ∷ []) (got (ends_of R.slots states.old.items row.old) (visit_of R.slots (T.visit visit.now) states.old.items row.old).ends) }
+    ensures given { as_vector given.new ≡ plus (as_vector given.old) (got (ends_of R.slots states.old.items row.old) (visit_of R.slots (T.visit visit.now) states.old.items row.old).ends) }
+    ensures below { IsRowOn R.slots R.is_row (length states.new.items) row.new }
+    ensures long { length states.new.items ≡ length states.old.items }
 {
-    if got.x == 0 && got.y == 0 {
-        given
+    let got = solve_one(states, row, visit);
+    *given = plus(*given, got);
+}
+
+/// Whether impulses move both bodies of a row.
+#[inline(always)]
+fn are_movers(states: &[BodyState], slots: Slots) -> bool
+    requires first { slots.a < length states.now }
+    requires second { slots.b < length states.now }
+    ensures first { result ≡ true → (ends_of (λ s. s) states.now slots).a.movable ≡ true }
+    ensures second { result ≡ true → (ends_of (λ s. s) states.now slots).b.movable ≡ true }
+{
+    states[slots.a as usize].movable && states[slots.b as usize].movable
+}
+
+/// The visit of the next row: between two movers, as most rows are, the sum stays.
+#[inline(always)]
+fn visit_next<R: Row, T: Visit<R>>(
+    states: &mut Vec<BodyState>,
+    row: &mut R,
+    visit: &T,
+    given: &mut Gain,
+)
+    requires states { AreAllStates states.old.items }
+    requires row { IsRowOn R.slots R.is_row (length states.old.items) row.old }
+    requires given { IsGain (2 ^ 78) given.old }
+    ensures passed { IsPassed R.slots R.is_row (T.visit visit.now) states.old.items (row.old ∷ []) states.new.items (row.new ∷ []) (got (ends_of R.slots states.old.items row.old) (visit_of R.slots (T.visit visit.now) states.old.items row.old).ends) }
+    ensures given { as_vector given.new ≡ plus (as_vector given.old) (got (ends_of R.slots states.old.items row.old) (visit_of R.slots (T.visit visit.now) states.old.items row.old).ends) }
+    ensures below { IsRowOn R.slots R.is_row (length states.new.items) row.new }
+    ensures long { length states.new.items ≡ length states.old.items }
+{
+    let slots = row.slots();
+    if are_movers(states, slots) {
+        let _ = solve_one(states, row, visit);
     } else {
-        plus(given, got)
+        add_visit(states, row, visit, given);
     }
 }
 
@@ -322,8 +419,7 @@ pub fn pass_rows<R: Row, T: Visit<R>>(
 {
     let mut given = NOTHING;
     for index in start..end {
-        let got = solve_one(states, &mut rows[index], visit);
-        given = with_got(given, got);
+        visit_next(states, &mut rows[index], visit, &mut given);
     }
     given
 }

@@ -93,13 +93,39 @@ fn raised_64(a: u64, mut x: u64) -> u64
     x
 }
 
-/// The root of `a`, rounded down.
-pub(crate) fn root_64(a: u64) -> u64
+/// The root of `a`, rounded down, from a guess that may be one off.
+#[cold]
+#[inline(never)]
+fn sought_root_64(a: u64) -> u64
     ensures below { result * result ≤ a }
     ensures above { a < (result + 1) * (result + 1) }
     ensures small { result < 2 ^ 32 }
 {
     raised_64(a, lowered_64(a, guess_64(a)))
+}
+
+/// A guess that is the root nearly always, and of which nothing is promised but its size.
+#[inline(always)]
+fn quick_guess_64(a: u64) -> u64
+    ensures small { result < 2 ^ 32 }
+{
+    low_bits(float_of(a).sqrt() + 0.5001).wrapping_sub(1) & 0xffff_ffff
+}
+
+/// The root of `a`, rounded down: the quick guess if that is it.
+pub(crate) fn root_64(a: u64) -> u64
+    ensures below { result * result ≤ a }
+    ensures above { a < (result + 1) * (result + 1) }
+    ensures small { result < 2 ^ 32 }
+{
+    let guess = quick_guess_64(a);
+    let square = guess * guess;
+    if square <= a {
+        if a - square <= 2 * guess {
+            return guess;
+        }
+    }
+    sought_root_64(a)
 }
 
 /// A guess at the root of a number beyond 64 bits: the root of its leading 64 bits, put back in

@@ -8,6 +8,7 @@ use Rattle.fixed_geom.specs.Numbers.{rdiv}
 use Rattle.fixed_geom.specs.Vectors.{IsWithin, unit_length, opposite, plus}
 use Rattle.fixed_geom.specs.declared.vectors.Vec2.{Vec2}
 use Rattle.fixed_geom.proofs.QuotientLemmas.{rdiv_le}
+use Rattle.fixed_geom.proofs.ReciprocalLemmas.{has_inverse, has_share}
 use Rattle.fixed_geom.proofs.Sizes.{product_le}
 use Rattle.momenta.specs.declared.limits.TheConstants.{MIN_INVERSE_MASS}
 use Rattle.momenta.specs.declared.mass.MassData.{MassData}
@@ -20,7 +21,7 @@ use Rattle.momenta.proofs.Rounding.{rdiv_fast}
 use Rattle.momenta.specs.declared.state.BodyState.{BodyState}
 use Rattle.momenta.specs.declared.line_64.Momenta64.{Momenta64}
 use Rattle.momenta.specs.declared.line_64.MomentaPair64.{MomentaPair64}
-use Rattle.momenta.specs.Impulses.{carried, fits, given, velocity_at}
+use Rattle.momenta.specs.Impulses.{carried, fits, given, turned_by, velocity_at}
 use Rattle.momenta.specs.ImpulseBounds.{AreStates, IsRoomy}
 use Rattle.momenta.specs.Line64.{LeaveRoom64, IsImpulse, LeavesRoom64, ends_with, with_momenta}
 use Rattle.momenta.proofs.ImpulseLaws.{IsPairGiven, pair_given}
@@ -70,6 +71,10 @@ inverse_fits inverse wide least most =
     let less : inverse <ℤ pos (2 ^ 62) = subst (λ (z : ℤ). z <ℤ pos (2 ^ 62)) (to_z-of_z w128 inverse wide) most in
     fits_64 inverse (omega (arith, ints, least, less))
 
+-- one that has a reciprocal does
+pub inverse_room : (inverse reciprocal : ℤ) → reciprocal ≡ over_inverse_reciprocal inverse → (reciprocal ≡ pos 0 → ⊥) → inverse <ℤ pos (2 ^ 62)
+inverse_room inverse reciprocal is some = let few = (has_inverse inverse reciprocal is some).most in omega (arith, ints, few)
+
 -- it is passed on as it is, and so its reciprocal is still its own
 pub reciprocal_passed : (inverse reciprocal : ℤ) → SFits w128 inverse → SFits w64 reciprocal → MIN_INVERSE_MASS ≤ℤ inverse → to_z w128 (of_z w128 inverse) <ℤ pos (2 ^ 62) → reciprocal ≡ over_inverse_reciprocal inverse
     → to_z w64 (of_z w64 reciprocal) ≡ over_inverse_reciprocal (to_z w64 (of_z w64 (to_z w128 (of_z w128 inverse))))
@@ -95,6 +100,12 @@ turning (pos (suc n)) l h still moves = omega (arith, ints)
 turning (negsuc n) l h still moves = absurd (omega (arith, ints))
 
 -- ---- an impulse given
+
+-- a body that has a reciprocal of its inertia turns
+pub turns_by : (inertia reciprocal l moment : ℤ) → reciprocal ≡ share_reciprocal inertia → (reciprocal ≡ pos 0 → ⊥) → l +ℤ moment ≡ turned_by inertia l moment
+turns_by (pos zero) reciprocal l moment is some = absurd (let least = (has_share (pos zero) reciprocal is some).least in omega (arith, ints, least))
+turns_by (pos (suc n)) reciprocal l moment is some = refl
+turns_by (negsuc n) reciprocal l moment is some = refl
 
 pub grown_64 : (k : ℕ) (p j : ℤ) → unsigned_abs p ≤ 2 ^ 40 + k * 2 ^ 30 → unsigned_abs j ≤ 2 ^ 30 → unsigned_abs (p +ℤ j) ≤ 2 ^ 40 + (k + 1) * 2 ^ 30
 grown_64 k p j h l = omega (arith, ints, h, l)

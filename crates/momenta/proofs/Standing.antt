@@ -1,14 +1,14 @@
 -- The velocity of a body's point where the body doesn't spin.
-use Rattle.std.proofs.Common.{◌≡◌, ◌∙◌, ℤ, pos, ◌-ℤ◌, ◌≤ℤ◌, ◌+◌, ◌^◌, arith, refl}
+use Rattle.std.proofs.Common.{◌≡◌, ℤ, pos, ◌-ℤ◌, ◌≤ℤ◌, ◌+◌, ◌^◌, arith, refl}
 use Rattle.std.proofs.lemmas.Int.{ints}
 use lib.IntN.{zero-*ℤ, +ℤ_idr}
 use Rattle.fixed_geom.specs.Numbers.{rdiv}
-use Rattle.fixed_geom.specs.Vectors.{IsWithin, zero_vector}
+use Rattle.fixed_geom.specs.Vectors.{IsWithin}
 use Rattle.fixed_geom.specs.declared.vectors.Vec2.{Vec2}
 use Rattle.momenta.specs.declared.state.BodyState.{BodyState}
-use Rattle.momenta.specs.Motions.{IsMass, velocity}
+use Rattle.momenta.specs.Motions.{velocity}
 use Rattle.momenta.specs.Impulses.{carried, velocity_at}
-use Rattle.momenta.proofs.Spins.{rdiv_none, spin_still}
+use Rattle.momenta.proofs.Spins.{spin_still}
 
 less_none : (a : ℤ) → a -ℤ pos 0 ≡ a
 less_none a = omega (arith, ints)
@@ -20,11 +20,6 @@ carried_none r v = rw (zero-*ℤ r.y, zero-*ℤ r.x, less_none v.x, +ℤ_idr v.y
 pub standing_at : (r : Vec2) (s : BodyState) → s.motion.l ≡ pos 0 → pos 0 ≤ℤ s.mass.inertia → velocity_at r s ≡ velocity s.mass.mass s.motion.p
 unfolding velocity_at
 standing_at r s k n = rw (k, spin_still s.mass.inertia n) (carried_none r (velocity s.mass.mass s.motion.p))
-
--- the velocity of a body without momenta
-pub velocity_still : (r : Vec2) (s : BodyState) → s.motion.p.x ≡ pos 0 → s.motion.p.y ≡ pos 0 → s.motion.l ≡ pos 0 → IsMass s.mass → velocity_at r s ≡ zero_vector
-unfolding velocity
-velocity_still r s x y l m = standing_at r s l m.nonnegative ∙ rw (x, y, rdiv_none s.mass.mass m.positive) refl
 
 pub within_more : (v : Vec2) → IsWithin (2 ^ 60) v → IsWithin (2 ^ 60 + 2 ^ 25) v
 within_more v h = record { x = omega (arith, h.x); y = omega (arith, h.y) }

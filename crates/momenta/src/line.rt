@@ -324,15 +324,26 @@ fn next_total_128(speed: i64, inverse: i128, goal: Goal) -> i64
     between(goal.low, goal.high, i128::from(goal.total) + wanted)
 }
 
+/// Whether an inverse mass has room in 64 bits: one that has a reciprocal does.
+#[inline(always)]
+fn is_inverse_64(inverse: i128, reciprocal: i64) -> bool
+    requires { reciprocal ≡ over_inverse_reciprocal inverse }
+    ensures small { result ≡ true → inverse <ℤ pos (2 ^ 62) }
+    ensures room { inverse <ℤ pos (2 ^ 62) → result ≡ true }
+{
+    reciprocal != 0 || inverse < INVERSE_LIMIT_64
+}
+
 /// Whether these speeds and this inverse mass have room in 64 bits for the impulse between them.
 #[inline(always)]
-pub(crate) fn has_room_64(speed: i64, bias: i64, inverse: i128) -> bool
+pub(crate) fn has_room_64(speed: i64, bias: i64, inverse: i128, reciprocal: i64) -> bool
+    requires { reciprocal ≡ over_inverse_reciprocal inverse }
     ensures speed { result ≡ true → unsigned_abs speed ≤ 2 ^ 20 }
     ensures bias { result ≡ true → unsigned_abs bias ≤ 2 ^ 20 }
     ensures inverse { result ≡ true → inverse <ℤ pos (2 ^ 62) }
     ensures room { unsigned_abs speed < 2 ^ 20 → unsigned_abs bias < 2 ^ 20 → inverse <ℤ pos (2 ^ 62) → result ≡ true }
 {
-    are_in(speed, bias, SPEED_LIMIT_64) & (inverse < INVERSE_LIMIT_64)
+    are_in(speed, bias, SPEED_LIMIT_64) & is_inverse_64(inverse, reciprocal)
 }
 
 /// The accumulated impulse with what brings the speed to the bias, within its range.
@@ -348,7 +359,7 @@ fn next_total(speed: i64, inverse: i128, reciprocal: i64, goal: Goal) -> i64
     ensures low { goal.low ≤ℤ result }
     ensures high { result ≤ℤ goal.high }
 {
-    if has_room_64(speed, goal.bias, inverse) {
+    if has_room_64(speed, goal.bias, inverse, reciprocal) {
         next_total_64(speed, inverse as i64, reciprocal, goal)
     } else {
         next_total_128(speed, inverse, goal)

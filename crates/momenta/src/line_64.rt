@@ -14,8 +14,8 @@ use crate::ranges::{are_in, is_in};
 use crate::state::{carried_back, carried_on};
 use crate::{BodyState, Goal, Line, MAX_ANGULAR_MOMENTUM, MAX_MASS, MIN_INVERSE_MASS, spin};
 use fixed_geom::{
-    MAX_LINE_IMPULSE, MAX_OFFSET, MAX_SPIN, Vec2, ZERO_VECTOR, cross_64, minus, opposite, plus,
-    rdiv_by, share_by,
+    MAX_LINE_IMPULSE, MAX_OFFSET, MAX_SPIN, Vec2, cross_64, minus, opposite, plus, rdiv_by,
+    share_by,
 };
 
 /// A component of a momentum up to this has room for the quotient by a mass and for some impulses.
@@ -51,28 +51,44 @@ pub struct Exerted64 {
     pub total: i64,
 }
 
-/// Whether a body's momenta are small.
+/// Whether an angular momentum is small.
 #[inline(always)]
-fn fits_in_64(body: &BodyState) -> bool
-    ensures x { result ≡ true → unsigned_abs body.now.motion.p.x ≤ 2 ^ 40 }
-    ensures y { result ≡ true → unsigned_abs body.now.motion.p.y ≤ 2 ^ 40 }
-    ensures l { result ≡ true → unsigned_abs body.now.motion.l ≤ 2 ^ 60 }
-    ensures room { FitsIn64 body.now.motion → result ≡ true }
+fn is_angular_64(l: i128) -> bool
+    ensures small { result ≡ true → unsigned_abs l ≤ 2 ^ 60 }
+    ensures room { unsigned_abs l < 2 ^ 60 → result ≡ true }
 {
-    let l = body.motion.l;
-    are_in(body.motion.p.x, body.motion.p.y, MOMENTUM_LIMIT_64)
-        & (-ANGULAR_LIMIT_64 <= l)
-        & (l < ANGULAR_LIMIT_64)
+    (-ANGULAR_LIMIT_64 <= l) & (l < ANGULAR_LIMIT_64)
 }
 
-/// Whether the momenta of two bodies are small: told with no branch before the end.
+/// Whether two angular momenta are small.
+#[inline(always)]
+fn are_angular_64(a: i128, b: i128) -> bool
+    ensures a { result ≡ true → unsigned_abs a ≤ 2 ^ 60 }
+    ensures b { result ≡ true → unsigned_abs b ≤ 2 ^ 60 }
+    ensures room { unsigned_abs a < 2 ^ 60 → unsigned_abs b < 2 ^ 60 → result ≡ true }
+{
+    is_angular_64(a) & is_angular_64(b)
+}
+
+/// Whether the components of two momenta are small.
+#[inline(always)]
+fn are_linear_64(p: Vec2, q: Vec2) -> bool
+    ensures a { result ≡ true → IsWithin (2 ^ 40) p }
+    ensures b { result ≡ true → IsWithin (2 ^ 40) q }
+    ensures room { unsigned_abs p.x < 2 ^ 40 → unsigned_abs p.y < 2 ^ 40 → unsigned_abs q.x < 2 ^ 40 → unsigned_abs q.y < 2 ^ 40 → result ≡ true }
+{
+    are_in(p.x, p.y, MOMENTUM_LIMIT_64) & are_in(q.x, q.y, MOMENTUM_LIMIT_64)
+}
+
+/// Whether the momenta of two bodies are small: told with no branch before the end, and what has the same limit in one
+/// comparison.
 #[inline(always)]
 fn fit_in_64(a: &BodyState, b: &BodyState) -> bool
     ensures a { result ≡ true → LeavesRoom64 0 (record { p = a.now.motion.p; l = a.now.motion.l }) }
     ensures b { result ≡ true → LeavesRoom64 0 (record { p = b.now.motion.p; l = b.now.motion.l }) }
     ensures room { FitsIn64 a.now.motion → FitsIn64 b.now.motion → result ≡ true }
 {
-    fits_in_64(a) & fits_in_64(b)
+    are_linear_64(a.motion.p, b.motion.p) & are_angular_64(a.motion.l, b.motion.l)
 }
 
 /// The momenta of a body, which are small.
@@ -139,10 +155,9 @@ pub(crate) fn spin_by(l: i128, inertia: i64, reciprocal: i64) -> i64
     ensures value { result ≡ spin inertia l }
     ensures small { unsigned_abs result ≤ unsigned_abs MAX_SPIN }
 {
-    let most = i128::from(inertia);
     if l == 0 || inertia == 0 {
         0
-    } else if -most <= l && l <= most {
+    } else if -ANGULAR_LIMIT_64 <= l && l < ANGULAR_LIMIT_64 {
         spin_by_64(l as i64, inertia, reciprocal)
     } else {
         divided_spin(l, inertia)
@@ -166,16 +181,6 @@ pub(crate) fn velocity_64(p: Vec2, mass: i64, reciprocal: i64) -> Vec2
     }
 }
 
-/// Whether a body with these momenta stands still.
-#[inline(always)]
-fn is_at_rest(now: Momenta64) -> bool
-    ensures x { result ≡ true → now.p.x ≡ pos 0 }
-    ensures y { result ≡ true → now.p.y ≡ pos 0 }
-    ensures l { result ≡ true → now.l ≡ pos 0 }
-{
-    now.p.x == 0 && now.p.y == 0 && now.l == 0
-}
-
 /// The velocity of a body's point at the offset `r` (u), in u/tick, with these momenta.
 #[inline(always)]
 fn velocity_at_64(body: &BodyState, now: Momenta64, r: Vec2) -> Vec2
@@ -185,9 +190,6 @@ fn velocity_at_64(body: &BodyState, now: Momenta64, r: Vec2) -> Vec2
     ensures value { result ≡ velocity_at r (with_momenta body.now now) }
     ensures within { IsWithin (2 ^ 61) result }
 {
-    if is_at_rest(now) {
-        return ZERO_VECTOR;
-    }
     let v = velocity_64(now.p, body.mass.mass, body.reciprocals.mass);
     if now.l == 0 {
         return v;
@@ -213,9 +215,9 @@ pub fn parting_64(a: &BodyState, b: &BodyState, now: MomentaPair64, ra: Vec2, rb
     minus(velocity_at_64(b, now.b, rb), velocity_at_64(a, now.a, ra))
 }
 
-/// An angular momentum with the moment of an impulse, of a body that turns.
+/// An angular momentum with the moment of an impulse, of a body that turns, if it does.
 #[inline(always)]
-fn turned_by_64(inertia: i64, l: i64, moment: i64) -> i64
+fn maybe_turned_by_64(inertia: i64, l: i64, moment: i64) -> i64
     requires l { unsigned_abs l ≤ 2 ^ 61 }
     requires moment { unsigned_abs moment ≤ 2 ^ 61 }
     ensures value { result ≡ turned_by inertia l moment }
@@ -224,9 +226,26 @@ fn turned_by_64(inertia: i64, l: i64, moment: i64) -> i64
     if inertia == 0 { l } else { l + moment }
 }
 
+/// The same with the reciprocal of its inertia: a body that has one turns.
+#[inline(always)]
+fn turned_by_64(inertia: i64, reciprocal: i64, l: i64, moment: i64) -> i64
+    requires reciprocal { reciprocal ≡ share_reciprocal inertia }
+    requires l { unsigned_abs l ≤ 2 ^ 61 }
+    requires moment { unsigned_abs moment ≤ 2 ^ 61 }
+    ensures value { result ≡ turned_by inertia l moment }
+    ensures size { unsigned_abs result ≤ unsigned_abs l + unsigned_abs moment }
+{
+    if reciprocal == 0 {
+        maybe_turned_by_64(inertia, l, moment)
+    } else {
+        l + moment
+    }
+}
+
 /// The momenta with a small impulse given at the offset `r`.
 #[inline(always)]
 fn given_64(body: &BodyState, now: Momenta64, j: Vec2, r: Vec2) -> Momenta64
+    requires reciprocal { body.now.reciprocals.inertia ≡ share_reciprocal body.now.mass.inertia }
     requires leaves_room { LeavesRoom64 4 now }
     requires impulse { IsWithin (2 ^ 30) j }
     requires offset { IsWithin (unsigned_abs MAX_OFFSET) r }
@@ -238,7 +257,12 @@ fn given_64(body: &BodyState, now: Momenta64, j: Vec2, r: Vec2) -> Momenta64
     }
     Momenta64 {
         p: plus(now.p, j),
-        l: turned_by_64(body.mass.inertia, now.l, cross_64(r, j)),
+        l: turned_by_64(
+            body.mass.inertia,
+            body.reciprocals.inertia,
+            now.l,
+            cross_64(r, j),
+        ),
     }
 }
 
@@ -322,7 +346,7 @@ fn checked_total_64(speed: i64, inverse: i128, reciprocal: i64, goal: Goal) -> O
     ensures high { IfSome result (λ next. next ≤ℤ goal.high) }
     ensures room { unsigned_abs speed < 2 ^ 20 → unsigned_abs goal.bias < 2 ^ 20 → inverse <ℤ pos (2 ^ 62) → is_some result ≡ true }
 {
-    if has_room_64(speed, goal.bias, inverse) {
+    if has_room_64(speed, goal.bias, inverse, reciprocal) {
         let inverse = inverse as i64;
         Some(next_total_64(speed, inverse, reciprocal, goal))
     } else {

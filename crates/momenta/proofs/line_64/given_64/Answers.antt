@@ -10,6 +10,12 @@ use Rattle.momenta.proofs.line_64.given_64.Goals as goal
 pub returns-then-not-body-clause-value : goal.returns-then-not-body-clause-value
 returns-then-not-body-clause-value c = sym (given_fixed c.args.j c.args.r (with_momenta c.args.body.now c.args.now) c.if-not-body.true)
 
+pub turned_by_64-requires-clause-reciprocal : goal.turned_by_64-requires-clause-reciprocal
+turned_by_64-requires-clause-reciprocal c =
+    let inertia : SFits w64 c.args.body.now.mass.inertia = search rules in
+    let reciprocal : SFits w64 c.args.body.now.reciprocals.inertia = search rules in
+    simp to_z-of_z c.requires.reciprocal
+
 pub turned_by_64-requires-clause-moment : goal.turned_by_64-requires-clause-moment
 turned_by_64-requires-clause-moment c =
     let moment : SFits w64 c.cross_64.result = record { sfits = c.cross_64.type_inv } in

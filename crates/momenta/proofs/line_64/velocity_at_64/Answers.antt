@@ -4,14 +4,9 @@ use Rattle.std.specs.Int.{w64}
 use mir.Val.{SFits, to_z, of_z}
 use Rattle.momenta.specs.Motions.{IsMass}
 use Rattle.momenta.specs.Line64.{with_momenta}
-use Rattle.momenta.proofs.Standing.{standing_at, velocity_still}
+use Rattle.momenta.proofs.Standing.{standing_at}
 use Rattle.momenta.proofs.Laws64.{inertia_reciprocal, mass_reciprocal, moving_is, turning}
 use Rattle.momenta.proofs.line_64.velocity_at_64.Goals as goal
-
-pub returns-then-is_at_rest-clause-value : goal.returns-then-is_at_rest-clause-value
-returns-then-is_at_rest-clause-value c =
-    let rests = c.if-is_at_rest.true in
-    sym (velocity_still c.args.r (with_momenta c.args.body.now c.args.now) (c.is_at_rest.ensures.x rests) (c.is_at_rest.ensures.y rests) (c.is_at_rest.ensures.l rests) c.requires.state.mass)
 
 pub returns-then-now-eq0-clause-value : goal.returns-then-now-eq0-clause-value
 returns-then-now-eq0-clause-value c =
