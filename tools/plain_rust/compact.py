@@ -2,14 +2,14 @@
 """Writes a script of the program `world_script` as the compact lines that `drive` reads: compact.py < SCRIPT.
 
 A line has a letter and numbers with spaces between: `g` gravity, `c` a body of one shape, `j` a joint, `x` a body destroyed, `p` a
-push, `D` and `E` a body disabled and enabled, `z` one put to sleep, `s` a step, `r` a ray among all shapes. Other requests that
-change nothing are left out.
+push, `D` and `E` a body disabled and enabled, `z` one put to sleep, `s` a step, `r` a ray among all shapes, `q` a region. Other
+requests that change nothing are left out.
 """
 
 import json
 import sys
 
-ASKS = {"ledger", "show", "census", "frame", "region"}
+ASKS = {"ledger", "show", "census", "frame"}
 ONE_BODY = {"destroy": "x", "disable": "D", "enable": "E", "sleep": "z"}
 
 
@@ -49,6 +49,8 @@ def compact(request):
         return ["s", request["ticks"]]
     if asked == "ray":
         return ["r", *request["from"], *request["along"]]
+    if asked == "region":
+        return ["q", *request["lo"], *request["hi"]]
     if asked in ASKS:
         return []
     sys.exit(f"drive knows no request {asked}")

@@ -10,10 +10,11 @@ use. Saving and loading are left out. Written again after an edit, only files th
 
     cd OUT && cargo build --offline --release
     bench/scenes SCENES --scenes pyramid --sizes 1000 --steps 100
-    tools/plain_rust/compact.py < SCENES/pyramid_1000_100 | OUT/target/release/drive [--each] [--sum] [--workers=N [--all]]
+    tools/plain_rust/compact.py < SCENES/pyramid_1000_100 | OUT/target/release/drive [--each] [--sum] [--rounds=N] [--workers=N [--all]]
 
-`drive` prints the processor time of the steps and of the rays; --each prints each step's, and --sum a number over all motions,
-events and hits, which stays the same where two versions answer alike. On a busy machine count instructions in place of time, as by
+`drive` prints the processor time of the steps, of the rays and of the regions, with --rounds=N the least of N rounds of those;
+--each prints each step's, and --sum a number over all motions, events and answers, which stays the same where two versions
+answer alike. On a busy machine count instructions in place of time, as by
 `valgrind --tool=callgrind`. With --workers=N it prints the time by the clock, of steps by N workers; with --all also those steps are
 solved by parts that aren't worth it.
 """

@@ -16,23 +16,34 @@ pub(crate) struct KeyEntry {
 }
 
 // How far a loose box reaches beyond the box that it is made for, in u.
-const SLACK: i64 = 1 << 21;
+const NEAR: u32 = 1 << 18;
+
+// How far it does so on a side towards which the box moves.
+const FAR: u32 = 1 << 21;
 
 // Corners beyond these, in u, get no slack.
 const LEAST: i64 = -(1 << 40);
 
 const MOST: i64 = 1 << 40;
 
-fn lowered(part: i64) -> i64
+fn lowered(part: i64, by: u32) -> i64
     ensures { result ≤ℤ part }
 {
-    if part > LEAST { part - SLACK } else { part }
+    if part > LEAST {
+        part - i64::from(by)
+    } else {
+        part
+    }
 }
 
-fn raised(part: i64) -> i64
+fn raised(part: i64, by: u32) -> i64
     ensures { part ≤ℤ result }
 {
-    if part < MOST { part + SLACK } else { part }
+    if part < MOST {
+        part + i64::from(by)
+    } else {
+        part
+    }
 }
 
 // A box round this one, with some room.
@@ -41,13 +52,71 @@ fn loosened(bounds: &Box2) -> Box2
 {
     Box2 {
         lo: Vec2 {
-            x: lowered(bounds.lo.x),
-            y: lowered(bounds.lo.y),
+            x: lowered(bounds.lo.x, NEAR),
+            y: lowered(bounds.lo.y, NEAR),
         },
         hi: Vec2 {
-            x: raised(bounds.hi.x),
-            y: raised(bounds.hi.y),
+            x: raised(bounds.hi.x, NEAR),
+            y: raised(bounds.hi.y, NEAR),
         },
+    }
+}
+
+// What a box takes up of one axis.
+#[derive(Clone, Copy)]
+struct Span {
+    lo: i64,
+    hi: i64,
+}
+
+// A span round this one, which is where another was about. Where it has left that one, there is more room ahead of it
+// than behind it, so that whatever moves on leaves its span seldom, and whatever rests has a close one.
+fn span_after(old: Span, span: Span) -> Span
+    ensures low { result.lo ≤ℤ span.lo }
+    ensures high { span.hi ≤ℤ result.hi }
+{
+    if span.lo < old.lo {
+        return Span {
+            lo: lowered(span.lo, FAR),
+            hi: raised(span.hi, NEAR),
+        };
+    }
+    if old.hi < span.hi {
+        return Span {
+            lo: lowered(span.lo, NEAR),
+            hi: raised(span.hi, FAR),
+        };
+    }
+    old
+}
+
+fn span_on_x(bounds: &Box2) -> Span
+    ensures { result ≡ record { lo = bounds.now.lo.x; hi = bounds.now.hi.x } }
+{
+    Span {
+        lo: bounds.lo.x,
+        hi: bounds.hi.x,
+    }
+}
+
+fn span_on_y(bounds: &Box2) -> Span
+    ensures { result ≡ record { lo = bounds.now.lo.y; hi = bounds.now.hi.y } }
+{
+    Span {
+        lo: bounds.lo.y,
+        hi: bounds.hi.y,
+    }
+}
+
+// A box round this one, which has moved from where it was in another.
+fn loosened_after(old: &Box2, bounds: &Box2) -> Box2
+    ensures { Contains result bounds.now }
+{
+    let x = span_after(span_on_x(old), span_on_x(bounds));
+    let y = span_after(span_on_y(old), span_on_y(bounds));
+    Box2 {
+        lo: Vec2 { x: x.lo, y: y.lo },
+        hi: Vec2 { x: x.hi, y: y.hi },
     }
 }
 
@@ -101,14 +170,14 @@ pub(crate) fn key_entry_after(key: u32, old: &KeyEntry, bounds: &Box2) -> KeyEnt
     ensures rank { result.rank % MAX_KEYS ≡ key }
     ensures inside { Contains result.bounds bounds.now }
 {
-    let entry = key_entry_for(key, bounds);
-    if are_near(entry.rank, old.rank) {
-        KeyEntry {
-            rank: old.rank,
-            bounds: entry.bounds,
-        }
-    } else {
-        entry
+    let rank = rank_of(key, bounds);
+    KeyEntry {
+        rank: if are_near(rank, old.rank) {
+            old.rank
+        } else {
+            rank
+        },
+        bounds: loosened_after(&old.bounds, bounds),
     }
 }
 

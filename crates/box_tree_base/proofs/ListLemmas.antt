@@ -35,7 +35,7 @@ in_append e (x ∷ xs) ys h = elim h [ inl p ↦ inl (inl p) | inr q ↦ elim (i
 
 -- ---- boxes round all
 
-contains_both : (outer middle inner : Box2) → Contains outer middle → Contains middle inner → Contains outer inner
+pub contains_both : (outer middle inner : Box2) → Contains outer middle → Contains middle inner → Contains outer inner
 contains_both outer middle inner h k = record { left = omega (arith, ints); right = omega (arith, ints); down = omega (arith, ints); up = omega (arith, ints) }
 
 joined_first : (a b : Box2) → Contains (joined a b) a
@@ -46,7 +46,7 @@ joined_first a b = record {
   up = omega (arith, ints, int_max_is a.hi.y b.hi.y);
 }
 
-joined_second : (a b : Box2) → Contains (joined a b) b
+pub joined_second : (a b : Box2) → Contains (joined a b) b
 joined_second a b = record {
   left = omega (arith, ints, int_min_is a.lo.x b.lo.x);
   right = omega (arith, ints, int_max_is a.hi.x b.hi.x);

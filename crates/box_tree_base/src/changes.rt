@@ -1,12 +1,16 @@
 //! A leaf put into a tree, one taken out, and one that gets another box where it stands.
 
 ghost use Rattle.std.specs.Prelude.{◌≡◌, ◌+◌, ◌^◌, ◌<◌, ◌≤◌, length};
+ghost use Rattle.fixed_geom.specs.Boxes.{Contains};
 ghost use Rattle.box_tree_base.specs.Lists.{Each, IsIn, IsAdded, IsRefitted};
+ghost use Rattle.box_tree_base.specs.Joins.{IsBounded};
 ghost use Rattle.box_tree_base.specs.Trees.{IsOther};
 
 use crate::forks::{balanced, pair};
+use crate::joins::is_inside;
 use crate::leaves::{BLANK, Leaf};
 use crate::tree::{Node, Tree, taken};
+use fixed_geom::Box2;
 use std::mem;
 
 impl Tree {
@@ -34,10 +38,25 @@ impl Tree {
         }
     }
 
-    /// Puts a leaf in the stead of one that is there and has its rank. The boxes of the forks above it are made anew.
-    pub fn refit(&mut self, old: &Leaf, new: &Leaf)
+    // The box round the tree, which had the kept one, and of which one leaf has moved within the span. Where the span
+    // comes to no side of the kept one, that is still right.
+    fn bounds_after(&self, kept: &Box2, span: &Box2) -> Box2
+        requires { Contains kept.now span.now → Each (IsBounded kept.now) self.now.leaves }
+        ensures { Each (IsBounded result) self.now.leaves }
+    {
+        if is_inside(kept, span) {
+            *kept
+        } else {
+            self.bounds()
+        }
+    }
+
+    /// Puts a leaf in the stead of one that is there and has its rank. The boxes of the forks above it are made anew, as
+    /// far up as the box round both leaves, the span, comes to a side of them.
+    pub fn refit(&mut self, old: &Leaf, new: &Leaf, span: &Box2)
         requires there { IsIn old.now self.old.leaves }
         requires rank { new.now.rank ≡ old.now.rank }
+        requires span { Contains span.now new.now.bounds }
         ensures refitted { IsRefitted old.now new.now self.old.leaves self.new.leaves }
         ensures height { self.new.height ≡ self.old.height }
     {
@@ -45,11 +64,11 @@ impl Tree {
             Node::Tip(leaf) => *leaf = *new,
             Node::Fork(left, stem, right) => {
                 if old.rank < stem.split {
-                    left.refit(old, new);
-                    stem.left = left.bounds();
+                    left.refit(old, new, span);
+                    stem.left = left.bounds_after(&stem.left, span);
                 } else {
-                    right.refit(old, new);
-                    stem.right = right.bounds();
+                    right.refit(old, new, span);
+                    stem.right = right.bounds_after(&stem.right, span);
                 }
             }
         }

@@ -10,6 +10,7 @@ ghost use Rattle.box_tree_base.specs.Queries.{keys_over};
 ghost use Rattle.box_tree_base.specs.Rays.{first_among, IsHitWithin};
 ghost use Rattle.box_tree_base.specs.declared.leaves.Leaf.{Leaf as AnyLeaf};
 
+use crate::joins::joined;
 use crate::leaves::Leaf;
 use crate::rays::{Hit, Ray};
 use crate::tree::Tree;
@@ -55,7 +56,8 @@ pub fn replace(root: &mut Vec<Tree>, old: &Leaf, new: &Leaf)
     ensures { IsMoved old.now new.now (leaves_of root.old.items) (leaves_of root.new.items) }
 {
     if old.rank == new.rank {
-        root[0].refit(old, new);
+        let span = joined(&old.bounds, &new.bounds);
+        root[0].refit(old, new, &span);
     } else if root[0].height() == 0 {
         root[0] = Tree::tip(*new);
     } else {
@@ -64,11 +66,14 @@ pub fn replace(root: &mut Vec<Tree>, old: &Leaf, new: &Leaf)
     }
 }
 
+// An answer has room for so many keys from the first on.
+const FIRST_ROOM: usize = 16;
+
 /// The keys of the leaves whose boxes overlap the wanted one, in the order of the leaves.
 pub fn overlapping(root: &[Tree], wanted: &Box2, alloc: Global) -> Result<Vec<u32>, AllocError>
     ensures { IfOk result (λ keys. keys.items ≡ keys_over wanted.now (leaves_of root.now)) }
 {
-    let mut found = Vec::new(alloc);
+    let mut found = Vec::with_capacity(alloc, FIRST_ROOM)?;
     if let Some(tree) = root.first() {
         tree.collect(wanted, &mut found)?;
     }

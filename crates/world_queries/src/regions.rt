@@ -65,7 +65,7 @@ pub fn region(alloc: Global, world: &WorldCore, bounds: &Box2) -> Result<Vec<Sha
     ensures memory_only { IsOkUnless result Refusal.NoMemory }
 {
     let slots = world.tree().overlapping(bounds)?;
-    let mut found = Vec::new(alloc);
+    let mut found = Vec::with_capacity(alloc, slots.len())?;
     for slot in &slots {
         add_at_slot(&mut found, world, bounds, *slot)?;
     }

@@ -1,10 +1,13 @@
-//! Reads a scene of compact lines, applies it, and prints the processor time of its steps and of its rays.
+//! Reads a scene of compact lines, applies it, and prints the processor time of its steps, of its rays and of its regions.
 //!
 //! `--each` prints that of each step, in nanoseconds; `--sum` prints a number over all motions and events after each step, and
-//! over all hits.
+//! over what rays and regions found. Rays that follow one another are asked together, and so are regions, with `--rounds=N`
+//! N times, of which the least time counts.
 
 mod steps;
 
+use contacts_base::ShapeId;
+use fixed_geom::Box2;
 use shim::Global;
 use std::io::Read;
 use std::str::FromStr;
@@ -118,21 +121,86 @@ fn mixed_hit(sum: u64, hit: Option<Hit>) -> u64 {
     (sum ^ number).wrapping_mul(PRIME).rotate_left(7)
 }
 
-/// The rays of a scene: how many, the processor time that they took, and a number over their hits.
-#[derive(Default)]
-struct Rays {
-    count: i64,
+/// A number over which shapes a region has.
+fn mixed_shapes(sum: u64, found: &[ShapeId]) -> u64 {
+    let add = |sum: u64, id: &ShapeId| (sum ^ (u64::from(id.slot) * 8 + u64::from(id.index))).wrapping_mul(PRIME).rotate_left(7);
+    found.iter().fold(sum.wrapping_add(found.len() as u64), add)
+}
+
+// Not inlined, so that the instructions of these two can be counted alone: `--toggle-collect='drive::ask_ray'`.
+#[inline(never)]
+fn ask_ray(world: &WorldCore, ray: &(Vec2, Vec2)) -> Option<Hit> {
+    world_queries::ray(world, ray.0, ray.1)
+}
+
+#[inline(never)]
+fn ask_region(world: &WorldCore, bounds: &Box2) -> shim::Vec<ShapeId> {
+    world_queries::region(Global, world, bounds).expect("memory for what is found")
+}
+
+/// Rays of a scene, or regions: those that wait to be asked, how many were asked, the time that they took, and a number over
+/// what they found.
+struct Asked<Q> {
+    waiting: Vec<Q>,
+    count: usize,
     time: i64,
     sum: u64,
 }
 
-impl Rays {
-    fn ask(&mut self, world: &WorldCore, line: &Line) {
-        let before = processor_time();
-        let hit = world_queries::ray(world, line.vector(1), line.vector(3));
-        self.time += processor_time() - before;
-        self.count += 1;
-        self.sum = mixed_hit(self.sum, hit);
+impl<Q> Asked<Q> {
+    fn new() -> Self {
+        Asked { waiting: Vec::new(), count: 0, time: 0, sum: 0 }
+    }
+
+    fn ask(&mut self, rounds: usize, answer: impl Fn(u64, &Q) -> u64) {
+        let mut least = i64::MAX;
+        let before = self.sum;
+        for _ in 0..rounds {
+            let start = processor_time();
+            self.sum = self.waiting.iter().fold(before, &answer);
+            least = least.min(processor_time() - start);
+        }
+        if !self.waiting.is_empty() {
+            self.time += least;
+            self.count += self.waiting.len();
+            self.waiting.clear();
+        }
+    }
+
+    fn print(&self, name: &str) {
+        if self.count > 0 {
+            print!("; {name}: {}, mean {:.0} ns", self.count, self.time as f64 / self.count as f64);
+        }
+    }
+}
+
+/// What a scene asks.
+struct Questions {
+    rays: Asked<(Vec2, Vec2)>,
+    regions: Asked<Box2>,
+    rounds: usize,
+}
+
+impl Questions {
+    fn new() -> Self {
+        let rounds = std::env::args().find_map(|word| word.strip_prefix("--rounds=")?.parse().ok()).unwrap_or(1);
+        Questions { rays: Asked::new(), regions: Asked::new(), rounds }
+    }
+
+    /// Whether the line is a question, which then waits.
+    fn takes(&mut self, line: &Line) -> bool {
+        match line.0[0] {
+            "r" => self.rays.waiting.push((line.vector(1), line.vector(3))),
+            "q" => self.regions.waiting.push(Box2 { lo: line.vector(1), hi: line.vector(3) }),
+            _ => return false,
+        }
+        true
+    }
+
+    /// Asks all that wait.
+    fn ask(&mut self, world: &WorldCore) {
+        self.rays.ask(self.rounds, |sum, ray| mixed_hit(sum, ask_ray(world, ray)));
+        self.regions.ask(self.rounds, |sum, bounds| mixed_shapes(sum, &ask_region(world, bounds)));
     }
 }
 
@@ -149,13 +217,13 @@ fn run(text: &str, stepper: &mut steps::Stepper) {
     let asks = |word: &str| std::env::args().any(|given| given == word);
     let (each, summed) = (asks("--each"), asks("--sum"));
     let mut world = WorldCore::new(Global, Vec2 { x: 0, y: 0 }).expect("an empty world");
-    let (mut others, mut sum, mut steps, mut rays) = (0, 0, Vec::new(), Rays::default());
+    let (mut others, mut sum, mut steps, mut questions) = (0, 0, Vec::new(), Questions::new());
     for line in text.lines() {
         let line = Line(line.split(' ').collect());
-        if line.0[0] == "r" {
-            rays.ask(&world, &line);
+        if questions.takes(&line) {
             continue;
         }
+        questions.ask(&world);
         let command = line.command();
         if let Command::Step(ticks) = command {
             let time = timed(|| stepper(&mut world, ticks));
@@ -170,13 +238,13 @@ fn run(text: &str, stepper: &mut steps::Stepper) {
             others += timed(|| world.apply(&command));
         }
     }
+    questions.ask(&world);
     let mean = steps.iter().sum::<i64>() as f64 / 1e3 / steps.len().max(1) as f64;
     let least = steps.iter().copied().min().unwrap_or(0) as f64 / 1e3;
     print!("steps: {}, mean {mean:.1} us, least {least:.1} us; other commands: {:.2} s", steps.len(), others as f64 / 1e9);
-    if rays.count > 0 {
-        print!("; rays: {}, mean {:.0} ns", rays.count, rays.time as f64 / rays.count as f64);
-    }
-    println!("{}", if summed { format!("; sum {:x}", sum ^ rays.sum) } else { String::new() });
+    questions.rays.print("rays");
+    questions.regions.print("regions");
+    println!("{}", if summed { format!("; sum {:x}", sum ^ questions.rays.sum ^ questions.regions.sum) } else { String::new() });
 }
 
 fn main() {

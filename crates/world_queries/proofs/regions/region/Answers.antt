@@ -3,7 +3,7 @@ use Rattle.world_queries.proofs.regions.region.Goals as goal
 
 pub loop-slot-init : goal.loop-slot-init
 loop-slot-init c = record {
-  rest = rw (c.new-found.ensures.items, c.deref-slot-items.ensures.value, c.in_ok-slots.ensures.keys) (region_by_boxes c.args.bounds.now c.args.world.now.plain.bodies c.tree.result.now c.tree.ensures.sound.formed.bodies c.tree.ensures.covered);
+  rest = rw (c.in_ok-found.ensures.items, c.deref-slot-items.ensures.value, c.in_ok-slots.ensures.keys) (region_by_boxes c.args.bounds.now c.args.world.now.plain.bodies c.tree.result.now c.tree.ensures.sound.formed.bodies c.tree.ensures.covered);
 }
 
 pub loop-slot-preserved : goal.loop-slot-preserved
