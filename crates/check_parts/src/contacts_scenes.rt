@@ -280,15 +280,19 @@ fn balls(alloc: Global) -> Result<PairSweep, Refusal> {
     Ok(broad)
 }
 
+fn near(alloc: Global, broad: &mut PairSweep) -> Result<Vec<u64>, Refusal> {
+    broad.near_pairs(alloc)
+}
+
 #[test]
 fn boxes_that_touch_are_near(rt: HostRuntime) -> Result<(), Fail> {
     let mut broad = balls(rt.alloc())?;
     let pairs = [(1 << 32) + 2, (1 << 32) + 3, (2 << 32) + 3];
-    same_items(&rt, &broad.near_pairs(rt.alloc())?, &pairs);
+    same_items(&rt, &near(rt.alloc(), &mut broad)?, &pairs);
     let mut copied = broad.try_copy()?;
     broad.clear();
-    same_items(&rt, &broad.near_pairs(rt.alloc())?, &[]);
-    same_items(&rt, &copied.near_pairs(rt.alloc())?, &pairs);
+    same_items(&rt, &near(rt.alloc(), &mut broad)?, &[]);
+    same_items(&rt, &near(rt.alloc(), &mut copied)?, &pairs);
     Ok(())
 }
 
@@ -312,6 +316,6 @@ fn filters_and_groups_decide(rt: HostRuntime) -> Result<(), Fail> {
     let together = Filter { group: 1, ..masked };
     let filters = [plain, masked, apart, apart, together, together];
     let mut broad = filtered(rt.alloc(), filters)?;
-    same_items(&rt, &broad.near_pairs(rt.alloc())?, &[2, 3, (4 << 32) + 5]);
+    same_items(&rt, &near(rt.alloc(), &mut broad)?, &[2, 3, (4 << 32) + 5]);
     Ok(())
 }

@@ -129,24 +129,33 @@ fn collide(
     Ok(touches)
 }
 
+/// How many contacts there are.
+fn count(alloc: Global, contacts: &ContactTable) -> Result<usize, Refusal> {
+    Ok(contacts.to_entries(alloc)?.len())
+}
+
 /// How many contacts begin and end where a capsule lies at this height on its floor, and how many there are then.
 fn laid_at(alloc: Global, contacts: &mut ContactTable, y: i64) -> Result<[usize; 3], Refusal>
     requires { ArePairs contacts.old.contacts }
     ensures pairs { ArePairs contacts.new.contacts }
 {
     let touches = collide(alloc, contacts, lying_at(alloc, y)?, &NO_PAIR)?;
-    Ok([
-        touches.begin.len(),
-        touches.end.len(),
-        contacts.to_entries(alloc)?.len(),
-    ])
+    let left = count(alloc, contacts)?;
+    Ok([touches.begin.len(), touches.end.len(), left])
+}
+
+fn copied(alloc: Global, contacts: &ContactTable) -> Result<ContactTable, Refusal>
+    requires { ArePairs contacts.now.contacts }
+    ensures pairs { IfOk result (λ copied. ArePairs copied.contacts) }
+{
+    contacts.try_copy(alloc)
 }
 
 /// What there is of the capsule once it is lifted far in a copy.
 fn lifted_in_a_copy(alloc: Global, contacts: &ContactTable) -> Result<[usize; 3], Refusal>
     requires { ArePairs contacts.now.contacts }
 {
-    let mut copied = contacts.try_copy(alloc)?;
+    let mut copied = copied(alloc, contacts)?;
     laid_at(alloc, &mut copied, 1_000_000)
 }
 
@@ -160,7 +169,7 @@ fn kept_in(alloc: Global, contacts: &mut ContactTable) -> Result<([[usize; 3]; 4
     let gone = lifted_in_a_copy(alloc, contacts)?;
     let again = laid_at(alloc, contacts, 20_000)?;
     contacts.drop_of_body(1);
-    let left = contacts.to_entries(alloc)?.len();
+    let left = count(alloc, contacts)?;
     Ok(([laid, lifted, gone, again], left))
 }
 
@@ -192,18 +201,27 @@ const APART: i64 = 32_769;
 
 const UP: i64 = 1_000_000;
 
+/// Adds a ball at this height that isn't near those in other slots.
+fn add_ball(broad: &mut PairSweep, slot: u32, height: i64) -> Result<(), Refusal> {
+    let x = i64::from(slot) * 1_000_000 - 2_500_000;
+    add(broad, proxy_of(slot, BALL, x, height, true)?)
+}
+
 /// The ground in slot 0, and in the slots from 1 on balls at these heights that aren't near one another.
 fn on_ground(alloc: Global, heights: &[i64]) -> Result<PairSweep, Refusal> {
     let mut broad = PairSweep::new(alloc);
     add(&mut broad, proxy_of(0, GROUND, 0, 0, false)?)?;
+    add_balls(&mut broad, heights)?;
+    Ok(broad)
+}
+
+fn add_balls(broad: &mut PairSweep, heights: &[i64]) -> Result<(), Refusal> {
     let mut slot: u32 = 0;
-    let mut x: i64 = -1_500_000;
     for height in heights {
         slot = slot.saturating_add(1);
-        add(&mut broad, proxy_of(slot, BALL, x, *height, true)?)?;
-        x = x.saturating_add(1_000_000);
+        add_ball(broad, slot, *height)?;
     }
-    Ok(broad)
+    Ok(())
 }
 
 /// The numbers of the contacts of the first four balls with the ground.
@@ -373,7 +391,7 @@ fn a_number_tells_the_key_and_whether_the_shapes_touch(rt: HostRuntime) {
 fn without_ground(alloc: Global) -> Result<(usize, Numbers, usize), Refusal> {
     let mut contacts = without_one(alloc)?;
     contacts.drop_of_body(0);
-    let left = contacts.to_entries(alloc)?.len();
+    let left = count(alloc, &contacts)?;
     Ok((left, numbers(&contacts), contacts.gone().len()))
 }
 
@@ -395,7 +413,8 @@ fn joined(alloc: Global) -> Result<(Touches, usize), Refusal> {
         lying_at(alloc, 20_000)?,
         &floor_and_capsule,
     )?;
-    Ok((touches, contacts.to_entries(alloc)?.len()))
+    let left = count(alloc, &contacts)?;
+    Ok((touches, left))
 }
 
 #[test]
@@ -406,14 +425,18 @@ fn a_joint_that_comes_ends_a_contact(rt: HostRuntime) -> Result<(), Fail> {
     Ok(())
 }
 
+/// Where the ball in a slot of the row is.
+fn place_in_row(slot: u32, away: i64) -> i64 {
+    let x = i64::from(slot) * 1_000_000;
+    if slot == 5 { x.saturating_add(away) } else { x }
+}
+
 /// Twenty balls in a row that aren't near one another, but for the one in slot 5, which is so far from its place.
 fn row(alloc: Global, away: i64) -> Result<PairSweep, Refusal> {
     let mut broad = PairSweep::new(alloc);
-    let mut x: i64 = 0;
     for slot in 0..20 {
-        let at = if slot == 5 { x.saturating_add(away) } else { x };
+        let at = place_in_row(slot, away);
         add(&mut broad, proxy_of(slot, BALL, at, 0, true)?)?;
-        x = x.saturating_add(1_000_000);
     }
     Ok(broad)
 }
@@ -428,9 +451,10 @@ const NEXT: ContactKey = ContactKey {
 fn moved(alloc: Global) -> Result<[(Touches, usize); 2], Refusal> {
     let mut contacts = ContactTable::new(alloc);
     let first = collide(alloc, &mut contacts, row(alloc, 0)?, &NO_PAIR)?;
-    let before = contacts.to_entries(alloc)?.len();
+    let before = count(alloc, &contacts)?;
     let then = collide(alloc, &mut contacts, row(alloc, 950_000)?, &NO_PAIR)?;
-    Ok([(first, before), (then, contacts.to_entries(alloc)?.len())])
+    let after = count(alloc, &contacts)?;
+    Ok([(first, before), (then, after)])
 }
 
 #[test]

@@ -1,5 +1,6 @@
 //! Maps by `crew` on threads: each item is worked once, in order of the answers, and all pieces do meet.
 
+use crate::assertions::{same, same_items};
 use crew::{Crew, Gate, OpenGate, Work, map_pieces, sole, start};
 use fixed_geom::Refusal;
 use std::alloc::Global;
@@ -158,9 +159,9 @@ fn hold<R: Threads + Wait + Abort + Sync>(rt: &R, alloc: Global, piece: usize, i
     let Ok(answers) = answers else {
         panic!(rt; "a map of two items")
     };
-    assert_eq!(rt; answers.as_slice(), [5u64, 7].as_slice());
-    assert_eq!(rt; gate.late.load(Ordering::SeqCst), 0);
-    assert_eq!(rt; gate.let_go.load(Ordering::SeqCst), 1 << (item % 64));
+    same_items(rt, &answers, &[5, 7]);
+    same(rt, &gate.late.load(Ordering::SeqCst), &0);
+    same(rt, &gate.let_go.load(Ordering::SeqCst), &(1 << (item % 64)));
 }
 
 /// The same by a crew, many times.
@@ -177,7 +178,7 @@ fn hold_crew<'s, E, R: Threads + Wait + Abort + Sync>(
     for _ in 0..MAPS {
         worked.store(0, Ordering::SeqCst);
         map_crew(rt, alloc, &mut crew, &[(0, 5), (1, 6)], &[5, 7], worked);
-        assert_eq!(rt; gate.late.load(Ordering::SeqCst), 0);
+        same(rt, &gate.late.load(Ordering::SeqCst), &0);
     }
     crew.end(rt);
 }
@@ -199,7 +200,7 @@ fn map_crew<'s, G: Gate, R: Wait + Abort>(
         panic!(rt; "room for the answers")
     }
     crew.map(rt, Sums { worked }, &mut stack, &mut answers);
-    assert_eq!(rt; answers.as_slice(), sums);
+    same_items(rt, &answers, sums);
 }
 
 /// As many items as workers, many times by a crew that borrows its work, and then none.
@@ -243,7 +244,7 @@ fn map_borrowing<'s, G: Gate, R: Wait + Abort>(
         panic!(rt; "room for the answers")
     }
     crew.map_with(rt, work, &mut list, &mut answers);
-    assert_eq!(rt; answers.as_slice(), sums);
+    same_items(rt, &answers, sums);
 }
 
 /// Whether a crew of so many workers is refused, and by what.
@@ -296,7 +297,7 @@ fn maps_stand_in_order(rt: HostRuntime) -> Result<(), Fail> {
     let sums = Sums { worked: &worked };
     for workers in [1usize, 2, 3, 64] {
         let answers = map_pieces(&rt, rt.alloc(), &OpenGate, &ITEMS, workers, &sums)?;
-        assert_eq!(&rt; answers.as_slice(), SUMS.as_slice());
+        same_items(&rt, &answers, &SUMS);
     }
     Ok(())
 }
@@ -356,11 +357,11 @@ fn all_pieces_run_at_once(rt: HostRuntime) -> Result<(), Fail> {
     for workers in [3usize, 5] {
         let gate = Gathering::new(workers as u64);
         let answers = map_pieces(&rt, rt.alloc(), &gate, &ITEMS, workers, &sums)?;
-        assert_eq!(&rt; answers.as_slice(), SUMS.as_slice());
-        assert!(&rt; gate.has_seen(1));
+        same_items(&rt, &answers, &SUMS);
+        same(&rt, &gate.has_seen(1), &true);
         let answers = map_pieces(&rt, rt.alloc(), &gate, &[], workers, &sums)?;
-        assert!(&rt; answers.is_empty());
-        assert!(&rt; gate.has_seen(1));
+        same_items(&rt, &answers, &[]);
+        same(&rt, &gate.has_seen(1), &true);
     }
     Ok(())
 }
@@ -379,7 +380,7 @@ fn each_worker_of_a_crew_has_an_item(rt: HostRuntime) -> Result<(), Fail> {
             &rt,
             |scope| gather_crew(scope, host, alloc, held, workers, word),
         );
-        assert!(&rt; gate.has_seen(MAPS as u64));
+        same(&rt, &gate.has_seen(MAPS as u64), &true);
     }
     Ok(())
 }
@@ -401,7 +402,7 @@ fn crews_have_limits(rt: HostRuntime) -> Result<(), Fail> {
             &rt,
             |scope| refusal_of(scope, host, alloc, gate, workers),
         );
-        assert_eq!(&rt; found, refusal);
+        same(&rt, &found, &refusal);
     }
     Ok(())
 }

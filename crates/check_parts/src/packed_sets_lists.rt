@@ -1,5 +1,6 @@
 //! Each call of a `PackedSets` that takes memory gets it.
 
+use crate::assertions::same;
 use fixed_geom::Refusal;
 use packed_sets::PackedSets;
 use std::alloc::Global;
@@ -16,10 +17,9 @@ fn two_sets(alloc: Global) -> Result<PackedSets<u32>, Refusal> {
 #[test]
 fn memory_is_had(rt: HostRuntime) -> Result<(), Fail> {
     let mut sets = two_sets(rt.alloc())?;
-    let added = sets.add_set()?;
-    assert_eq!(rt; added, 2);
+    same(&rt, &sets.add_set()?, &2);
     let copied = sets.try_copy()?;
-    assert_eq!(rt; copied.len(), 3);
-    assert_eq!(rt; copied.set_of(3), None);
+    same(&rt, &copied.len(), &3);
+    same(&rt, &copied.set_of(3), &None);
     Ok(())
 }

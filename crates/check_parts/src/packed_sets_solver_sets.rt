@@ -1,5 +1,6 @@
 //! Each call of a `SolverSets` that takes memory gets it.
 
+use crate::assertions::same;
 use fixed_geom::Refusal;
 use packed_sets::{ListedSet, SolverSets};
 use std::alloc::Global;
@@ -16,9 +17,9 @@ fn room_for_four(alloc: Global) -> Result<SolverSets, Refusal> {
 fn memory_is_had(rt: HostRuntime) -> Result<(), Fail> {
     let sets = room_for_four(rt.alloc())?;
     let copied = sets.try_copy()?;
-    assert_eq!(rt; copied.len(), 4);
-    assert_eq!(rt; copied.names(), sets.names());
-    assert_eq!(rt; copied.names() >= 2, true);
-    assert_eq!(rt; copied.members(ListedSet::Awake).len(), 0);
+    same(&rt, &copied.len(), &4);
+    same(&rt, &copied.names(), &sets.names());
+    same(&rt, &(copied.names() >= 2), &true);
+    same(&rt, &copied.members(ListedSet::Awake).len(), &0);
     Ok(())
 }

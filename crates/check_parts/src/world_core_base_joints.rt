@@ -1,5 +1,6 @@
 //! Each call of a `JointTable` that takes memory gets it.
 
+use crate::assertions::same_items;
 use fixed_geom::{Refusal, ZERO_VECTOR};
 use joint_rows::Joint;
 use plain_world::BodyJoint;
@@ -35,7 +36,6 @@ fn two_joints(alloc: Global) -> Result<JointTable, Refusal> {
 fn memory_is_had(rt: HostRuntime) -> Result<(), Fail> {
     let table = two_joints(rt.alloc())?;
     let copied = table.try_copy()?;
-    let slots = copied.slots_of(1)?;
-    assert_eq!(rt; slots.as_slice(), [0, 1].as_slice());
+    same_items(&rt, &copied.slots_of(1)?, &[0, 1]);
     Ok(())
 }
