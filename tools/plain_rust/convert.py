@@ -40,7 +40,7 @@ DROPPED_BLOCK = re.compile(r"^impl(?:<[^>]*>)? (?:Model|Drop) for [^{]*", re.M)
 # Each is dropped wherever it stands.
 DROPPED = [
     re.compile(r"^[ \t]*ghost use [^;]*;\n", re.M),
-    re.compile(r"^[ \t]*ghost [A-Za-z_]+ *[=:] *\{[^\n]*\};?\n", re.M),
+    re.compile(r"^[ \t]*(?:pub )?ghost [A-Za-z_]+ *[=:] *\{[^\n]*\}[;,]?\n", re.M),
     re.compile(r"^[ \t]*#!?\[tactic\([^\n]*\)\]\n", re.M),
     re.compile(r"^#\[cycle\([a-z]*\)\]\n", re.M),
     re.compile(r"^[ \t]*#\[error\([^\n]*\)\]\n", re.M),
@@ -57,6 +57,10 @@ WRITTEN = [
     (re.compile(r"\bthread::scope(?=\(|_env)"), "shim::scope"),
     (re.compile(r", Error\)\]"), ")]"),
     (re.compile(r": Copy \+ Drop\b"), ": Copy"),
+    (re.compile(r" \+ Drop\b"), ""),
+    (re.compile(r"\buse std::marker::\{Model, PhantomData\}"), "use std::marker::PhantomData"),
+    (re.compile(r"\n +[A-Z][\w:]*: Drop,(?=\n)"), ""),
+    (re.compile(r"\nwhere(?=\n\{)"), ""),
     (re.compile(r": Drop\b"), ""),
     (re.compile(r"\bvec!\[in (\w+); ([^;\]]+); ([^;\]]+)\]"), r"shim::Vec::filled(\1, \2, \3)"),
 ]

@@ -94,8 +94,8 @@ shown_of ps qs slots is list all = record {
   listed = subst (λ (l : List Proxy). All (λ p. Contains slots p.id.slot) l) is (λ k d lt. (all k d lt).0);
 }
 
-pub within_shown : (ps qs : List Proxy) (slots : List ℕ) (marks flags : List Bool) → qs ≡ ps → IsProxyList qs → All (IsListed slots) qs → flags ≡ marks → marks ≡ replicate 64 true → AreWithin flags ps
-within_shown ps qs slots marks flags is list all same are = within_marks ps slots flags (subst IsProxyList is list) (subst (λ (l : List Proxy). All (IsListed slots) l) is all) (same ∙ are)
+pub within_shown : (ps qs : List Proxy) (slots : List ℕ) (marks : List Bool) → qs ≡ ps → IsProxyList qs → All (IsListed slots) qs → marks ≡ replicate 64 true → AreWithin marks ps
+within_shown ps qs slots marks is list all are = within_marks ps slots marks (subst IsProxyList is list) (subst (λ (l : List Proxy). All (IsListed slots) l) is all) are
 
 pub all_overlapping : (ps : List Proxy) (slots copied source before : List ℕ) (wanted : Box2) → before ≡ [] → source ≡ slots → copied ≡ before ++ source → IsShown ps slots → All (λ p. overlaps p.fat wanted ≡ true → Contains copied p.id.slot) ps
 all_overlapping ps slots copied source before wanted b s is shown = λ k d lt on. rw (is, b, s) (shown.listed k d lt)

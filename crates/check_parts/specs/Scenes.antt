@@ -1,5 +1,5 @@
 -- Shapes that are read by their names in a test, and the slots of their bodies.
-use Rattle.std.specs.Prelude.{ℕ, ◌<◌, List, All}
+use Rattle.std.specs.Prelude.{ℕ, ◌<◌, Bool, List, All}
 use Rattle.std.specs.List.{Contains}
 use Rattle.contacts_base.specs.declared.near.Proxy.{Proxy}
 use Rattle.contacts_base.specs.declared.contact.ContactEntry.{ContactEntry}
@@ -9,6 +9,7 @@ use Rattle.contacts.specs.Known.{IsPairKey}
 pub record Shown : Type 0 where
   pub shapes : List Proxy
   pub slots : List ℕ
+  pub marks : List Bool
 
 -- the slots are those of all shapes
 pub record IsShown (shapes : List Proxy) (slots : List ℕ) : Type 0 where

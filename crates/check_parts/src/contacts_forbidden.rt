@@ -3,9 +3,11 @@
 ghost use Rattle.std.specs.Option.{option_to_list};
 
 use contacts::{BodyPair, ForbiddenPairs};
+use std::alloc::Global;
+use std::mem;
 
 /// One pair of bodies, or none.
-#[derive(Clone, Copy)]
+#[derive(Drop)]
 pub(crate) struct OnePair {
     pub pair: Option<BodyPair>,
 }
@@ -21,5 +23,10 @@ impl ForbiddenPairs for OnePair {
             None => false,
             Some(pair) => pair.is_of(a, b),
         }
+    }
+
+    fn taken(&mut self, alloc: Global) -> OnePair {
+        let _ = alloc;
+        mem::replace(self, NO_PAIR)
     }
 }

@@ -12,8 +12,9 @@ use body_handles::MAX_SLOTS;
 use contacts::*;
 use contacts_base::{
     ContactEntry, ContactKey, ContactPoint, Contacts, PackedContact, PackedSurface, Proxy, ShapeId,
-    Surface,
+    SplitContacts, Surface,
 };
+use crew::CallingThread;
 use fixed_geom::{Refusal, Rot, UNIT, Vec2, is_facing, is_within};
 use shapes::{Filter, Pose, Shape, ShapeDef, check, fat_box, tight_box};
 use std::alloc::Global;
@@ -90,7 +91,10 @@ pub(crate) fn add(broad: &mut PairSweep, proxy: Proxy) -> Result<(), Refusal>
 }
 
 fn collide(alloc: Global, old: &Contacts, broad: &mut PairSweep) -> Result<Changes, Refusal> {
-    broad.update_contacts(Vec::new(alloc), &NO_PAIR, old.as_slice())
+    let mut entries = Vec::new(alloc);
+    entries.extend_from_slice(old.as_slice())?;
+    let mut split = SplitContacts::from_entries(alloc, entries)?;
+    broad.update_contacts(&mut CallingThread, Vec::new(alloc), &NO_PAIR, &mut split)
 }
 
 const FLOOR: Shape = Shape::Segment {

@@ -12,11 +12,13 @@ use crate::contacts_forbidden::{NO_PAIR, OnePair};
 use crate::contacts_scenes::{BALL, KEY, add, lying_at, proxy_of};
 use contacts::*;
 use contacts_base::{ContactKey, Proxy, ShapeId};
+use crew::CallingThread;
 use fixed_geom::{Box2, Refusal, Vec2};
 use packed_sets::Marks;
 use shapes::Shape;
 use std::alloc::Global;
 use std::marker::Model;
+use std::mem;
 use std::test::Fail;
 
 /// Shapes that are read by their names: all their bodies may stir, and may be near any box.
@@ -25,6 +27,8 @@ struct Scene {
     shapes: PairSweep,
     // The slots of the shapes' bodies.
     slots: Vec<u32>,
+    // Which bodies' shapes have moved.
+    marks: Marks,
 }
 
 impl Model for Scene {
@@ -32,7 +36,7 @@ impl Model for Scene {
 
     ghost Value = { Shown };
 
-    ghost view = { λ a. record { shapes = a.shapes; slots = a.slots.items } };
+    ghost view = { λ a. record { shapes = a.shapes; slots = a.slots.items; marks = a.marks } };
 
     ghost invariant = { λ a. IsShown a.shapes a.slots.items };
 }
@@ -66,6 +70,8 @@ impl ShapesById for Scene {
 
     ghost carried = { λ s. s.slots };
 
+    ghost marks = { λ s. s.marks };
+
     fn shape(&self, id: ShapeId) -> Option<Proxy> {
         shape_with_id(self.shapes.proxies(), id)
     }
@@ -93,6 +99,22 @@ impl ShapesById for Scene {
         *broad = self.shapes.try_copy()?;
         Ok(())
     }
+
+    fn marks(&self) -> &[bool] {
+        self.marks.flags()
+    }
+
+    fn marked(&self) -> &[u32] {
+        self.marks.slots()
+    }
+
+    fn taken(&mut self, alloc: Global) -> Scene {
+        Scene {
+            shapes: mem::replace(&mut self.shapes, PairSweep::new(alloc)),
+            slots: mem::replace(&mut self.slots, Vec::new(alloc)),
+            marks: mem::replace(&mut self.marks, Marks::new(alloc)),
+        }
+    }
 }
 
 /// The slots of the shapes' bodies, which have to be below 64.
@@ -116,15 +138,19 @@ fn collide(
     alloc: Global,
     contacts: &mut ContactTable,
     shapes: PairSweep,
-    forbidden: &OnePair,
+    mut forbidden: OnePair,
 ) -> Result<Touches, Refusal>
     requires pairs { ArePairs contacts.old.contacts }
     ensures pairs { ArePairs contacts.new.contacts }
 {
     let slots = slots_of(alloc, shapes.proxies())?;
     let marks = Marks::all_marked(alloc, 64)?;
-    let scene = Scene { shapes, slots };
-    let touches = contacts.collide(alloc, &scene, marks.flags(), marks.slots(), forbidden)?;
+    let mut scene = Scene {
+        shapes,
+        slots,
+        marks,
+    };
+    let touches = contacts.collide(&mut CallingThread, alloc, &mut scene, &mut forbidden)?;
     contacts.commit_pending();
     Ok(touches)
 }
@@ -139,7 +165,7 @@ fn laid_at(alloc: Global, contacts: &mut ContactTable, y: i64) -> Result<[usize;
     requires { ArePairs contacts.old.contacts }
     ensures pairs { ArePairs contacts.new.contacts }
 {
-    let touches = collide(alloc, contacts, lying_at(alloc, y)?, &NO_PAIR)?;
+    let touches = collide(alloc, contacts, lying_at(alloc, y)?, NO_PAIR)?;
     let left = count(alloc, contacts)?;
     Ok([touches.begin.len(), touches.end.len(), left])
 }
@@ -249,7 +275,7 @@ fn put_at(alloc: Global, contacts: &mut ContactTable, heights: &[i64]) -> Result
     requires { ArePairs contacts.old.contacts }
     ensures pairs { ArePairs contacts.new.contacts }
 {
-    collide(alloc, contacts, on_ground(alloc, heights)?, &NO_PAIR)?;
+    collide(alloc, contacts, on_ground(alloc, heights)?, NO_PAIR)?;
     Ok(numbers(contacts))
 }
 
@@ -411,7 +437,7 @@ fn joined(alloc: Global) -> Result<(Touches, usize), Refusal> {
         alloc,
         &mut contacts,
         lying_at(alloc, 20_000)?,
-        &floor_and_capsule,
+        floor_and_capsule,
     )?;
     let left = count(alloc, &contacts)?;
     Ok((touches, left))
@@ -450,9 +476,9 @@ const NEXT: ContactKey = ContactKey {
 /// The touches of the row and how many contacts it has, before its ball in slot 5 moves and after it.
 fn moved(alloc: Global) -> Result<[(Touches, usize); 2], Refusal> {
     let mut contacts = ContactTable::new(alloc);
-    let first = collide(alloc, &mut contacts, row(alloc, 0)?, &NO_PAIR)?;
+    let first = collide(alloc, &mut contacts, row(alloc, 0)?, NO_PAIR)?;
     let before = count(alloc, &contacts)?;
-    let then = collide(alloc, &mut contacts, row(alloc, 950_000)?, &NO_PAIR)?;
+    let then = collide(alloc, &mut contacts, row(alloc, 950_000)?, NO_PAIR)?;
     let after = count(alloc, &contacts)?;
     Ok([(first, before), (then, after)])
 }

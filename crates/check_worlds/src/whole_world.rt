@@ -5,8 +5,8 @@ use fixed_geom::Box2;
 use serde_json::Value;
 use std::alloc::Global;
 use world_core::{
-    BodyView, Census, Command, Constraint, Frame, Handle, Item, Pose, Refusal, SetName, Shape,
-    ShapeId, StepSolver, Vec2, WorldCore,
+    BodyView, Census, Command, Constraint, Frame, Handle, Item, PieceMap, Pose, Refusal, SetName,
+    Shape, ShapeId, StepWorker, Vec2, WorldCore, WorldLook,
 };
 use world_queries::{Hit, QueryFilter, frame_region, is_ray};
 
@@ -17,7 +17,11 @@ pub trait WholeWorld: World {
     fn step(&mut self, ticks: i64) -> Answer;
 
     /// A step, its ticks run by this solver.
-    fn step_by<S: StepSolver>(&mut self, solver: &mut S, ticks: i64) -> Answer;
+    fn step_by<S: StepWorker + PieceMap<WorldLook>>(
+        &mut self,
+        solver: &mut S,
+        ticks: i64,
+    ) -> Answer;
 
     fn census(&self) -> Result<Census, Refusal>;
 
@@ -62,7 +66,11 @@ impl WholeWorld for WorldCore {
         self.step_one(ticks)
     }
 
-    fn step_by<S: StepSolver>(&mut self, solver: &mut S, ticks: i64) -> Answer {
+    fn step_by<S: StepWorker + PieceMap<WorldLook>>(
+        &mut self,
+        solver: &mut S,
+        ticks: i64,
+    ) -> Answer {
         WorldCore::step_by(self, solver, ticks)
     }
 

@@ -5,7 +5,9 @@ use Rattle.contacts_base.specs.Split.{Split, contacts_in}
 use Rattle.contacts.specs.declared.number_book.NumberedContact.{NumberedContact}
 use Rattle.contacts.specs.declared.pending_update.PendingUpdate.{PendingUpdate}
 use Rattle.contacts.specs.ChangedKeys.{AreRising}
+use Rattle.contacts.specs.declared.stirring.Stirring.{Stirring}
 use Rattle.contacts.specs.PendingUpdates.{IsPendingUpdate, IsNothing, after, pending_contacts, whole_or}
+use Rattle.contacts.specs.Stirring.{AreHeld}
 use Rattle.contacts.proofs.ChangeOfLaws.{nothing_changes}
 use Rattle.contacts.proofs.Rising.{increasing_from_rising}
 
@@ -25,4 +27,11 @@ nothing_is_pending d s n all = record {
   idle = λ h. n;
   change = rw (nothing_pending d s n, n.made, n.gone, n.begin, n.end) (nothing_changes (contacts_in s) all.rising);
   rising = subst (λ (l : List NumberedContact). AreRising (map (λ (c : NumberedContact). c.key) l)) (sym n.made) (increasing_from_rising [] tt);
+}
+
+-- the same flags and places hold of the same lists
+pub held_again : (s t : Stirring) (c d : Split) → t.flags.items ≡ s.flags.items → t.flagged.items ≡ s.flagged.items → t.holds ≡ s.holds → t.places.items ≡ s.places.items → d ≡ c → AreHeld s c → AreHeld t d
+held_again s t c d flags flagged holds places is h = record {
+  flagged = rw (flags, flagged) h.flagged;
+  places = λ on. rw (flags, is, places) (h.places (sym holds ∙ on));
 }

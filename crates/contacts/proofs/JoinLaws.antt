@@ -25,6 +25,7 @@ use Rattle.contacts.specs.Changes.{key_if_new, keys_touching_only_in}
 use Rattle.contacts.specs.ByCodes.{contacts_of, allowed_codes}
 use Rattle.contacts.specs.Known.{IsKnown, IsPairKey, again, stays, staying}
 use Rattle.contacts.specs.Looked.{AreGoneIf, IsDone, IsLookedOver, IsRebuilt, IsRebuiltIf}
+use Rattle.contacts.specs.SurveyValues.{Looks}
 use Rattle.contacts.specs.Stirring.{AreQuiet, one_flagged}
 use Rattle.contacts.specs.Fates.{begun_keys, ended_keys, gone_keys, key_if_begun, key_if_gone, moved_by, outcome}
 use Rattle.contacts.proofs.ByPairsLaws.{contacts_by_codes-holds}
@@ -286,6 +287,10 @@ done_both moved pairs ps s notes ends short new all long_begin long_end short_be
       begin_rises = begin_rises pairs ps old begin list begin_is;
       end_rises = end_rises pairs ps old end are.rising end_is;
     }
+
+-- what a look found is what is noted
+pub looks_found : (moved : ℕ → Bool) (pairs : List BodyPair) (ps : List Proxy) (s : Split) (noted found : Looks) → noted ≡ found → IsLookedOver moved pairs ps s found.notes found.ends found.begin found.end → IsLookedOver moved pairs ps s noted.notes noted.ends noted.begin noted.end
+looks_found moved pairs ps s noted found same h = subst (λ (l : Looks). IsLookedOver moved pairs ps s l.notes l.ends l.begin l.end) (sym same) h
 
 -- the short list stays as it is: the keys are those of the long one
 pub done_long : (moved : ℕ → Bool) (pairs : List BodyPair) (ps : List Proxy) (s : Split) (notes : List Renewal) (ends : List ℕ) (new : List ContactEntry) (begin end : List ContactKey) → IsProxyList ps → AreContacts s.long → AreContacts s.short → AreContacts (contacts_in s) → IsKnown moved pairs ps (contacts_in s) → new ≡ new_ones moved pairs ps (contacts_in s)

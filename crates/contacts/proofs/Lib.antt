@@ -10,6 +10,7 @@ pub mod DynamicLemmas
 pub mod SurfaceLemmas
 pub mod ChangeLemmas
 pub mod KnownLemmas
+pub mod PairPieceLaws
 pub mod ByPairsLaws
 pub mod MergedMembers
 pub mod PartLemmas
@@ -23,6 +24,7 @@ pub mod PlaceLaws
 pub mod FlaggedLaws
 pub mod NearMarkedLaws
 pub mod SurveyLaws
+pub mod SurveyPieceLaws
 pub mod JoinLaws
 pub mod ChangeOfLaws
 pub mod HeldLaws

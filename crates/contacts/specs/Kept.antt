@@ -48,10 +48,9 @@ pub record IsKeptContacts (a : Inside) : Type 0 where
 
 -- what a collide stands on: shapes in their order, marks for all of their bodies, and contacts that tell which of those
 -- that aren't marked are near
-pub record CanCollide (ps : List Proxy) (marks : List Bool) (marked : List ℕ) (forbidden : List BodyPair) (contacts : List ContactEntry) : Type 0 where
+pub record CanCollide (ps : List Proxy) (marks : List Bool) (forbidden : List BodyPair) (contacts : List ContactEntry) : Type 0 where
   pub shapes : IsProxyList ps
   pub within : AreWithin marks ps
-  pub listed : AreListed marks marked
   pub known : IsKnown (moved_by marks) forbidden ps contacts
 
 -- what a collide makes of the contacts, and what touches by it, which ascends

@@ -9,6 +9,8 @@ pub mod NearMarked
 pub mod Constraints
 pub mod Forbidden
 pub mod ByCodes
+pub mod PairValues
+pub mod PairPieces
 pub mod ByPairs
 pub mod Inside
 pub mod Ends
@@ -20,4 +22,6 @@ pub mod StirringPlaces
 pub mod PendingUpdates
 pub mod Dropping
 pub mod Looked
+pub mod SurveyValues
+pub mod SurveyPieces
 pub mod Kept

@@ -1,6 +1,6 @@
 //! What becomes of the contacts in a step's collide.
 
-ghost use Rattle.std.specs.Prelude.{◌≡◌, ◌++◌, All, OnOk, IfOk};
+ghost use Rattle.std.specs.Prelude.{◌≡◌, ◌++◌, ◌+◌, ◌<◌, ◌≤◌, All, OnOk, IfOk, length, vec_capacity, vec_len};
 ghost use Rattle.std.specs.Result.{IsOkUnless};
 ghost use Rattle.contacts_base.specs.Proxies.{IsProxy, IsProxyList};
 ghost use Rattle.std.specs.Option.{option_copied, option_to_list};
@@ -9,12 +9,15 @@ ghost use Rattle.contacts_base.specs.ContactLists.{AreContacts};
 ghost use Rattle.contacts.specs.Pairs.{IsPair, ArePairs, proxy_at, first_place, second_place, pair_key};
 ghost use Rattle.contacts.specs.Changes.{surface_with, contact_with, entry_with, kept_contact, key_if_new, keys_touching_only_in};
 ghost use Rattle.contacts.specs.ByCodes.{contacts_of};
+ghost use Rattle.contacts.specs.PairPieces.{IsRoomFor};
 ghost use Rattle.contacts.specs.ChangedKeys.{key_unless, keys_not_in, AreRising};
 
+use crate::pair_pieces::{EvaluatedPairs, PairPiece, evaluate_pairs};
 use contacts_base::{
-    ContactEntry, ContactKey, Contacts, PackedContact, PackedSurface, Proxy, contact_of, find_next,
-    one_stirs,
+    ContactEntry, ContactKey, Contacts, PackedContact, PackedSurface, Proxy, SplitContacts,
+    contact_of, find_next, one_stirs,
 };
+use crew::PieceMap;
 use fixed_geom::Refusal;
 use std::alloc::Global;
 
@@ -139,6 +142,18 @@ fn key_if_new(other: Option<&ContactEntry>, entry: &ContactEntry) -> Option<Cont
     }
 }
 
+/// Adds a key, if there is one. There is room for it.
+pub(crate) fn push_key_within(keys: &mut Vec<ContactKey>, key: Option<ContactKey>)
+    requires { vec_len keys.old < vec_capacity keys.old }
+    ensures pushed { keys.new.items ≡ keys.old.items ++ option_to_list key }
+    ensures capacity { vec_capacity keys.new ≡ vec_capacity keys.old }
+    ensures long { vec_len keys.new ≤ vec_len keys.old + 1 }
+{
+    if let Some(key) = key {
+        keys.push_reserved(key);
+    }
+}
+
 /// Adds a key, if there is one.
 pub(crate) fn push_key(keys: &mut Vec<ContactKey>, key: Option<ContactKey>) -> Result<(), Refusal>
     ensures pushed { OnOk result (keys.new.items ≡ keys.old.items ++ option_to_list key) }
@@ -150,12 +165,12 @@ pub(crate) fn push_key(keys: &mut Vec<ContactKey>, key: Option<ContactKey>) -> R
     Ok(())
 }
 
-/// The contacts of all near pairs, and the keys of those that were made and that began to touch.
+/// The contacts of near pairs, and the keys of those that were made and that began to touch; or room for them.
 #[derive(Drop)]
-struct Present {
-    now: Vec<ContactEntry>,
-    made: Vec<ContactKey>,
-    begin: Vec<ContactKey>,
+pub(crate) struct Present {
+    pub now: Vec<ContactEntry>,
+    pub made: Vec<ContactKey>,
+    pub begin: Vec<ContactKey>,
 }
 
 /// The keys of the contacts that are gone, and of those that ended.
@@ -165,41 +180,38 @@ struct Past {
     end: Vec<ContactKey>,
 }
 
-/// The contacts of these pairs, and what is new in them.
+/// The contacts of these pairs, and what is new in them, in lists that have room for them.
 ///
-/// Pairs and old contacts ascend, so each search goes on where the one before it ended. The contacts are listed in the
-/// memory of `room`.
-fn contacts_of_pairs(
-    room: Vec<ContactEntry>,
+/// Pairs and old contacts ascend, so each search goes on where the one before it ended.
+pub(crate) fn contacts_of_pairs(
+    room: Present,
     old: &[ContactEntry],
     proxies: &[Proxy],
     near: &[u64],
-) -> Result<Present, Refusal>
+) -> Present
+    requires room { IsRoomFor (length near.now) room }
     requires old { AreContacts old.now }
     requires proxies { IsProxyList proxies.now }
     requires near { ArePairs proxies.now near.now }
-    ensures now { IfOk result (λ present. present.now.items ≡ contacts_of old.now proxies.now near.now) }
-    ensures contacts { IfOk result (λ present. AreContacts present.now.items) }
-    ensures made { IfOk result (λ present. present.made.items ≡ keys_not_in old.now present.now.items) }
-    ensures begin { IfOk result (λ present. present.begin.items ≡ keys_touching_only_in old.now present.now.items) }
-    ensures memory_only { IsOkUnless result Refusal.NoMemory }
+    ensures now { result.now.items ≡ contacts_of old.now proxies.now near.now }
+    ensures made { result.made.items ≡ keys_not_in old.now result.now.items }
+    ensures begin { result.begin.items ≡ keys_touching_only_in old.now result.now.items }
 {
-    let alloc = *room.allocator();
-    let mut now = room;
-    now.clear();
-    now.reserve(near.len())?;
-    let mut made = Vec::new(alloc);
-    let mut begin = Vec::new(alloc);
+    let Present {
+        mut now,
+        mut made,
+        mut begin,
+    } = room;
     let mut place = 0;
     for code in near {
         let key = key_at(proxies, *code);
         let before = find_next(old, &mut place, key);
         let entry = pair_entry(before, proxies, *code);
-        push_key(&mut made, key_unless(before, &entry))?;
-        push_key(&mut begin, key_if_new(before, &entry))?;
-        now.push(entry)?;
+        push_key_within(&mut made, key_unless(before, &entry));
+        push_key_within(&mut begin, key_if_new(before, &entry));
+        now.push_reserved(entry);
     }
-    Ok(Present { now, made, begin })
+    Present { now, made, begin }
 }
 
 /// What is no longer in the contacts.
@@ -222,21 +234,25 @@ fn lost_keys(alloc: Global, now: &[ContactEntry], old: &[ContactEntry]) -> Resul
 }
 
 /// The contacts of these pairs, those of bodies that stir evaluated anew, and what changed. `old` are the contacts
-/// until now. The contacts are listed in the memory of `room`.
-pub(crate) fn update(
+/// until now. The contacts are listed in the memory of `room`; `rooms` have memory for pieces.
+pub(crate) fn update<M: PieceMap<PairPiece>>(
+    mapper: &mut M,
     room: Vec<ContactEntry>,
-    old: &[ContactEntry],
-    proxies: &[Proxy],
-    near: &[u64],
+    old: &mut SplitContacts,
+    proxies: &mut Vec<Proxy>,
+    near: &mut Vec<u64>,
+    rooms: &mut Vec<EvaluatedPairs>,
 ) -> Result<Changes, Refusal>
-    requires old { AreContacts old.now }
-    requires proxies { IsProxyList proxies.now }
-    requires near { ArePairs proxies.now near.now }
-    ensures now { IfOk result (λ changes. changes.now ≡ contacts_of old.now proxies.now near.now) }
-    ensures made { IfOk result (λ changes. changes.made.items ≡ keys_not_in old.now changes.now) }
-    ensures gone { IfOk result (λ changes. changes.gone.items ≡ keys_not_in changes.now old.now) }
-    ensures begin { IfOk result (λ changes. changes.begin.items ≡ keys_touching_only_in old.now changes.now) }
-    ensures end { IfOk result (λ changes. changes.end.items ≡ keys_touching_only_in changes.now old.now) }
+    requires old { AreContacts old.old.long }
+    requires proxies { IsProxyList proxies.old.items }
+    requires near { ArePairs proxies.old.items near.old.items }
+    ensures contacts { old.new ≡ old.old }
+    ensures proxies { proxies.new.items ≡ proxies.old.items }
+    ensures now { IfOk result (λ changes. changes.now ≡ contacts_of old.old.long proxies.old.items near.old.items) }
+    ensures made { IfOk result (λ changes. changes.made.items ≡ keys_not_in old.old.long changes.now) }
+    ensures gone { IfOk result (λ changes. changes.gone.items ≡ keys_not_in changes.now old.old.long) }
+    ensures begin { IfOk result (λ changes. changes.begin.items ≡ keys_touching_only_in old.old.long changes.now) }
+    ensures end { IfOk result (λ changes. changes.end.items ≡ keys_touching_only_in changes.now old.old.long) }
     ensures made_rising { IfOk result (λ changes. AreRising changes.made.items) }
     ensures gone_rising { IfOk result (λ changes. AreRising changes.gone.items) }
     ensures begin_rising { IfOk result (λ changes. AreRising changes.begin.items) }
@@ -244,8 +260,8 @@ pub(crate) fn update(
     ensures memory_only { IsOkUnless result Refusal.NoMemory }
 {
     let alloc = *room.allocator();
-    let present = contacts_of_pairs(room, old, proxies, near)?;
-    let past = lost_keys(alloc, &present.now, old)?;
+    let present = evaluate_pairs(mapper, room, old, proxies, near, rooms)?;
+    let past = lost_keys(alloc, &present.now, old.long())?;
     Ok(Changes {
         now: Contacts::from_entries(present.now),
         made: present.made,

@@ -8,6 +8,7 @@ ghost use Rattle.contacts_base.specs.Contacts.{contacts_without};
 ghost use Rattle.contacts_base.specs.ContactLists.{AreContacts, impulses_given};
 ghost use Rattle.contacts_base.specs.Proxies.{IsProxyList};
 ghost use Rattle.contacts_base.specs.Split.{Split, contacts_in};
+ghost use Rattle.contacts.specs.ByCodes.{contacts_of};
 ghost use Rattle.contacts.specs.ByPairs.{contacts_between};
 ghost use Rattle.contacts.specs.Changes.{keys_touching_only_in};
 ghost use Rattle.contacts.specs.ChangedKeys.{AreRising};
@@ -15,8 +16,9 @@ ghost use Rattle.contacts.specs.Numbered.{AreEndsAt, AreNumbered, IsTurnover, co
 ghost use Rattle.contacts.specs.NumberBooks.{HasRoomFor, IsBook, IsNoKey, KeepBook, bound_of, gone_of};
 ghost use Rattle.contacts.specs.NumberChanges.{IsChange, IsNoted};
 ghost use Rattle.contacts.specs.PendingUpdates.{IsPendingUpdate, IsNothing, pending_contacts};
-ghost use Rattle.contacts.specs.Known.{IsKnown};
-ghost use Rattle.contacts.specs.Stirring.{AreFlagsListed, AreHeld};
+ghost use Rattle.contacts.specs.Known.{IsKnown, fresh as fresh_codes};
+ghost use Rattle.contacts.specs.Stirring.{AreFlagsListed, AreHeld, AreQuiet, AreStirring};
+ghost use Rattle.contacts.specs.SurveyPieces.{looks_of, shown_looks};
 ghost use Rattle.contacts.specs.Fates.{AreWithin, moved_by};
 ghost use Rattle.contacts.specs.Kept.{CanCollide, IsMadeOf, numbers_on};
 ghost use Rattle.packed_sets.specs.Marks.{AreListed};
@@ -33,11 +35,15 @@ use crate::forbidden::ForbiddenPairs;
 use crate::moved_pairs::fresh_of_marked;
 use crate::noting::{note_fresh, note_made, note_touches};
 use crate::number_book::{NumberBook, NumberedContact};
+use crate::pair_pieces::PairPiece;
 use crate::pair_sweep::PairSweep;
 use crate::pending_update::{PendingUpdate, Touches, apply_pending};
 use crate::stirring::{Stirring, refresh};
+use crate::survey::Looked;
+use crate::survey_pieces::{LookMemory, SurveyPiece, look_over_by};
 use crate::update::update_known;
 use contacts_base::{ContactEntry, ContactKey, Contacts, Impulses, SplitContacts};
+use crew::PieceMap;
 use fixed_geom::Refusal;
 use std::alloc::Global;
 use std::marker::Model;
@@ -55,6 +61,8 @@ struct Beside {
     broad: PairSweep,
     // How many contacts the collides have looked at beside the long list since it was made.
     spent: usize,
+    // What looks over the long list found, and memory for them.
+    looks: LookMemory,
 }
 
 /// A contact for each pair of near shapes. Contracts see the list of them (`contacts`), what it becomes when the last
@@ -98,6 +106,7 @@ fn nothing_beside(alloc: Global) -> Beside
         numbers: Vec::new(alloc),
         broad: PairSweep::new(alloc),
         spent: 0,
+        looks: LookMemory::new(alloc),
     }
 }
 
@@ -192,21 +201,18 @@ fn note_changes(
     Ok(touches)
 }
 
-/// What a collide makes of the contacts: by all near pairs, or by what is known of them.
-fn make_pending<S: ShapesById, F: ForbiddenPairs>(
+/// What a collide makes of the contacts by all near pairs.
+fn make_by_sweep<S: ShapesById, F: ForbiddenPairs, M: PieceMap<PairPiece>>(
+    mapper: &mut M,
     beside: &mut Beside,
-    alloc: Global,
     pending: &mut PendingUpdate,
     collide: &Collide<'_, S, F>,
     contacts: &mut SplitContacts,
-    numbers: &NumberBook,
 ) -> Result<Touches, Refusal>
-    requires can { CanCollide (S.proxies collide.now.shapes.now) collide.now.marks.now collide.now.marked.now (F.pairs collide.now.forbidden.now) (contacts_in contacts.old) }
+    requires can { CanCollide (S.proxies collide.now.shapes.now) collide.now.marks.now (F.pairs collide.now.forbidden.now) (contacts_in contacts.old) }
     requires held { AreHeld beside.old.stirring contacts.old }
     requires nothing { IsNothing pending.old }
     requires any { pending.old.any ≡ true }
-    requires book { IsBook numbers.now }
-    requires numbered { AreNumbered (contacts_in contacts.old) numbers.now.contacts.items }
     ensures contacts { contacts_in contacts.new ≡ contacts_in contacts.old }
     ensures held { AreHeld beside.new.stirring contacts.new }
     ensures pending { OnOk result (IsPendingUpdate pending.new contacts.new) }
@@ -214,77 +220,228 @@ fn make_pending<S: ShapesById, F: ForbiddenPairs>(
     ensures any { pending.new.any ≡ true }
     ensures memory_only { IsOkUnless result Refusal.NoMemory }
 {
-    if is_sweep_wanted(collide)? {
-        flush(alloc, contacts, beside)?;
-        collide.shapes.gather(&mut beside.broad)?;
-        let room = contacts.take_spare(alloc);
-        let changes = beside
-            .broad
-            .update_contacts(room, collide.forbidden, contacts.long())?;
-        return note_changes(alloc, pending, changes);
-    }
-    flush_if_spent(alloc, contacts, beside)?;
-    refresh(&mut beside.stirring, collide, contacts, numbers)?;
-    let fresh = fresh_of_marked(alloc, &mut beside.numbers, collide, contacts)?;
-    update_known(alloc, pending, collide, contacts, &beside.stirring, &fresh)
+    let alloc = *pending.notes.allocator();
+    flush(alloc, contacts, beside)?;
+    collide.shapes.gather(&mut beside.broad)?;
+    let room = contacts.take_spare(alloc);
+    contacts.know_ascending();
+    let changes = beside
+        .broad
+        .update_contacts(mapper, room, collide.forbidden, contacts)?;
+    note_changes(alloc, pending, changes)
 }
 
-/// The same, with room for the numbers of those that come.
-fn make_with_room<S: ShapesById, F: ForbiddenPairs>(
+/// The contacts of near pairs that have none yet. The places of the other contacts of which a body may stir are listed.
+fn find_fresh<S: ShapesById, F: ForbiddenPairs>(
+    beside: &mut Beside,
+    collide: &Collide<'_, S, F>,
+    contacts: &SplitContacts,
+    numbers: &NumberBook,
+) -> Result<Vec<ContactEntry>, Refusal>
+    requires shapes { IsProxyList (S.proxies collide.now.shapes.now) }
+    requires within { AreWithin collide.now.marks.now (S.proxies collide.now.shapes.now) }
+    requires listed { AreListed collide.now.marks.now collide.now.marked.now }
+    requires held { AreHeld beside.old.stirring contacts.now }
+    requires book { IsBook numbers.now }
+    requires numbered { AreNumbered (contacts_in contacts.now) numbers.now.contacts.items }
+    ensures held { AreHeld beside.new.stirring contacts.now }
+    ensures places { OnOk result (AreStirring beside.new.stirring.flags.items contacts.now beside.new.stirring.places.items) }
+    ensures quiet { OnOk result (AreQuiet beside.new.stirring.flags.items collide.now.marks.now (S.proxies collide.now.shapes.now)) }
+    ensures fresh { IfOk result (λ fresh. fresh.items ≡ contacts_of (contacts_in contacts.now) (S.proxies collide.now.shapes.now) (fresh_codes (moved_by collide.now.marks.now) (F.pairs collide.now.forbidden.now) (S.proxies collide.now.shapes.now) (contacts_in contacts.now))) }
+    ensures memory_only { IsOkUnless result Refusal.NoMemory }
+{
+    let alloc = *beside.numbers.allocator();
+    refresh(&mut beside.stirring, collide, contacts, numbers)?;
+    fresh_of_marked(alloc, &mut beside.numbers, collide, contacts)
+}
+
+/// What a look over the long list found, and the contacts that come, become pending.
+fn make_of_looks<S: ShapesById, F: ForbiddenPairs>(
+    pending: &mut PendingUpdate,
+    found: &mut Looked,
+    stirring: &Stirring,
+    collide: &Collide<'_, S, F>,
+    contacts: &SplitContacts,
+    fresh: &[ContactEntry],
+) -> Result<Touches, Refusal>
+    requires shapes { IsProxyList (S.proxies collide.now.shapes.now) }
+    requires known { IsKnown (moved_by collide.now.marks.now) (F.pairs collide.now.forbidden.now) (S.proxies collide.now.shapes.now) (contacts_in contacts.now) }
+    requires places { AreStirring stirring.now.flags.items contacts.now stirring.now.places.items }
+    requires quiet { AreQuiet stirring.now.flags.items collide.now.marks.now (S.proxies collide.now.shapes.now) }
+    requires fresh { fresh.now ≡ contacts_of (contacts_in contacts.now) (S.proxies collide.now.shapes.now) (fresh_codes (moved_by collide.now.marks.now) (F.pairs collide.now.forbidden.now) (S.proxies collide.now.shapes.now) (contacts_in contacts.now)) }
+    requires looks { shown_looks found.old ≡ looks_of (moved_by collide.now.marks.now) (F.pairs collide.now.forbidden.now) (S.proxies collide.now.shapes.now) contacts.now stirring.now.places.items }
+    ensures pending { OnOk result (IsPendingUpdate pending.new contacts.now) }
+    ensures made { IfOk result (IsMadeOf (S.proxies collide.now.shapes.now) (F.pairs collide.now.forbidden.now) (contacts_in contacts.now) (pending_contacts pending.new contacts.now)) }
+    ensures any { pending.new.any ≡ true }
+    ensures memory_only { IsOkUnless result Refusal.NoMemory }
+{
+    contacts.know_ascending();
+    update_known(pending, collide, contacts, &stirring.flags, fresh, found)
+}
+
+/// What a collide makes of the contacts by what is known of them: new ones are looked for where a body is marked.
+fn make_by_marks<S: ShapesById + Drop, F: ForbiddenPairs + Drop, M: PieceMap<SurveyPiece<S, F>>>(
+    mapper: &mut M,
+    beside: &mut Beside,
+    pending: &mut PendingUpdate,
+    shapes: &mut S,
+    forbidden: &mut F,
+    contacts: &mut SplitContacts,
+    numbers: &NumberBook,
+) -> Result<Touches, Refusal>
+    requires can { CanCollide (S.proxies shapes.old) (S.marks shapes.old) (F.pairs forbidden.old) (contacts_in contacts.old) }
+    requires held { AreHeld beside.old.stirring contacts.old }
+    requires book { IsBook numbers.now }
+    requires numbered { AreNumbered (contacts_in contacts.old) numbers.now.contacts.items }
+    ensures shapes { shapes.new ≡ shapes.old }
+    ensures forbidden { forbidden.new ≡ forbidden.old }
+    ensures contacts { contacts.new ≡ contacts.old }
+    ensures held { AreHeld beside.new.stirring contacts.new }
+    ensures pending { OnOk result (IsPendingUpdate pending.new contacts.new) }
+    ensures made { IfOk result (IsMadeOf (S.proxies shapes.old) (F.pairs forbidden.old) (contacts_in contacts.old) (pending_contacts pending.new contacts.new)) }
+    ensures any { pending.old.any ≡ true → pending.new.any ≡ true }
+    ensures memory_only { IsOkUnless result Refusal.NoMemory }
+{
+    let fresh = find_fresh(
+        beside,
+        &Collide::of(&*shapes, &*forbidden),
+        contacts,
+        numbers,
+    )?;
+    look_over_by(
+        mapper,
+        &mut beside.looks,
+        shapes,
+        forbidden,
+        contacts,
+        &mut beside.stirring.places,
+    )?;
+    make_of_looks(
+        pending,
+        &mut beside.looks.found,
+        &beside.stirring,
+        &Collide::of(&*shapes, &*forbidden),
+        contacts,
+        &fresh,
+    )
+}
+
+/// What a collide makes of the contacts: by all near pairs, or by what is known of them.
+fn make_pending<
+    S: ShapesById + Drop,
+    F: ForbiddenPairs + Drop,
+    M: PieceMap<PairPiece> + PieceMap<SurveyPiece<S, F>>,
+>(
+    mapper: &mut M,
     beside: &mut Beside,
     alloc: Global,
     pending: &mut PendingUpdate,
-    collide: &Collide<'_, S, F>,
+    shapes: &mut S,
+    forbidden: &mut F,
+    contacts: &mut SplitContacts,
+    numbers: &NumberBook,
+) -> Result<Touches, Refusal>
+    requires can { CanCollide (S.proxies shapes.old) (S.marks shapes.old) (F.pairs forbidden.old) (contacts_in contacts.old) }
+    requires held { AreHeld beside.old.stirring contacts.old }
+    requires nothing { IsNothing pending.old }
+    requires any { pending.old.any ≡ true }
+    requires book { IsBook numbers.now }
+    requires numbered { AreNumbered (contacts_in contacts.old) numbers.now.contacts.items }
+    ensures shapes { shapes.new ≡ shapes.old }
+    ensures forbidden { forbidden.new ≡ forbidden.old }
+    ensures contacts { contacts_in contacts.new ≡ contacts_in contacts.old }
+    ensures held { AreHeld beside.new.stirring contacts.new }
+    ensures pending { OnOk result (IsPendingUpdate pending.new contacts.new) }
+    ensures made { IfOk result (IsMadeOf (S.proxies shapes.old) (F.pairs forbidden.old) (contacts_in contacts.old) (pending_contacts pending.new contacts.new)) }
+    ensures any { pending.new.any ≡ true }
+    ensures memory_only { IsOkUnless result Refusal.NoMemory }
+{
+    let collide = Collide::of(&*shapes, &*forbidden);
+    if is_sweep_wanted(&collide)? {
+        return make_by_sweep(mapper, beside, pending, &collide, contacts);
+    }
+    flush_if_spent(alloc, contacts, beside)?;
+    make_by_marks(
+        mapper, beside, pending, shapes, forbidden, contacts, numbers,
+    )
+}
+
+/// The same, with room for the numbers of those that come.
+fn make_with_room<
+    S: ShapesById + Drop,
+    F: ForbiddenPairs + Drop,
+    M: PieceMap<PairPiece> + PieceMap<SurveyPiece<S, F>>,
+>(
+    mapper: &mut M,
+    beside: &mut Beside,
+    alloc: Global,
+    pending: &mut PendingUpdate,
+    shapes: &mut S,
+    forbidden: &mut F,
     contacts: &mut SplitContacts,
     numbers: &mut NumberBook,
 ) -> Result<Touches, Refusal>
-    requires can { CanCollide (S.proxies collide.now.shapes.now) collide.now.marks.now collide.now.marked.now (F.pairs collide.now.forbidden.now) (contacts_in contacts.old) }
+    requires can { CanCollide (S.proxies shapes.old) (S.marks shapes.old) (F.pairs forbidden.old) (contacts_in contacts.old) }
     requires held { AreHeld beside.old.stirring contacts.old }
     requires nothing { IsNothing pending.old }
     requires any { pending.old.any ≡ true }
     requires book { IsBook numbers.old }
     requires numbered { AreNumbered (contacts_in contacts.old) numbers.old.contacts.items }
+    ensures shapes { shapes.new ≡ shapes.old }
+    ensures forbidden { forbidden.new ≡ forbidden.old }
     ensures contacts { contacts_in contacts.new ≡ contacts_in contacts.old }
     ensures held { AreHeld beside.new.stirring contacts.new }
     ensures pending { OnOk result (IsPendingUpdate pending.new contacts.new) }
-    ensures made { IfOk result (IsMadeOf (S.proxies collide.now.shapes.now) (F.pairs collide.now.forbidden.now) (contacts_in contacts.old) (pending_contacts pending.new contacts.new)) }
+    ensures made { IfOk result (IsMadeOf (S.proxies shapes.old) (F.pairs forbidden.old) (contacts_in contacts.old) (pending_contacts pending.new contacts.new)) }
     ensures any { pending.new.any ≡ true }
     ensures numbers { KeepBook numbers.old numbers.new }
     ensures book { IsBook numbers.new }
     ensures room { OnOk result (HasRoomFor pending.new.made.items numbers.new) }
     ensures memory_only { IsOkUnless result Refusal.NoMemory }
 {
-    let touches = make_pending(beside, alloc, pending, collide, contacts, numbers)?;
+    let touches = make_pending(
+        mapper, beside, alloc, pending, shapes, forbidden, contacts, numbers,
+    )?;
     numbers.reserve_for(&pending.made)?;
     Ok(touches)
 }
 
 /// The same; where memory is wanting nothing is pending.
-fn make_or_clear<S: ShapesById, F: ForbiddenPairs>(
+fn make_or_clear<
+    S: ShapesById + Drop,
+    F: ForbiddenPairs + Drop,
+    M: PieceMap<PairPiece> + PieceMap<SurveyPiece<S, F>>,
+>(
+    mapper: &mut M,
     beside: &mut Beside,
     alloc: Global,
     pending: &mut PendingUpdate,
-    collide: &Collide<'_, S, F>,
+    shapes: &mut S,
+    forbidden: &mut F,
     contacts: &mut SplitContacts,
     numbers: &mut NumberBook,
 ) -> Result<Touches, Refusal>
-    requires can { CanCollide (S.proxies collide.now.shapes.now) collide.now.marks.now collide.now.marked.now (F.pairs collide.now.forbidden.now) (contacts_in contacts.old) }
+    requires can { CanCollide (S.proxies shapes.old) (S.marks shapes.old) (F.pairs forbidden.old) (contacts_in contacts.old) }
     requires held { AreHeld beside.old.stirring contacts.old }
     requires nothing { IsNothing pending.old }
     requires book { IsBook numbers.old }
     requires numbered { AreNumbered (contacts_in contacts.old) numbers.old.contacts.items }
+    ensures shapes { shapes.new ≡ shapes.old }
+    ensures forbidden { forbidden.new ≡ forbidden.old }
     ensures contacts { contacts_in contacts.new ≡ contacts_in contacts.old }
     ensures held { AreHeld beside.new.stirring contacts.new }
     ensures pending { IsPendingUpdate pending.new contacts.new }
     ensures numbers { KeepBook numbers.old numbers.new }
     ensures book { IsBook numbers.new }
     ensures room { pending.new.any ≡ true → HasRoomFor pending.new.made.items numbers.new }
-    ensures made { IfOk result (IsMadeOf (S.proxies collide.now.shapes.now) (F.pairs collide.now.forbidden.now) (contacts_in contacts.old) (pending_contacts pending.new contacts.new)) }
+    ensures made { IfOk result (IsMadeOf (S.proxies shapes.old) (F.pairs forbidden.old) (contacts_in contacts.old) (pending_contacts pending.new contacts.new)) }
     ensures refused { OnErr result (pending_contacts pending.new contacts.new ≡ contacts_in contacts.old) }
     ensures memory_only { IsOkUnless result Refusal.NoMemory }
 {
     pending.any = true;
-    let made = make_with_room(beside, alloc, pending, collide, contacts, numbers);
+    let made = make_with_room(
+        mapper, beside, alloc, pending, shapes, forbidden, contacts, numbers,
+    );
     if made.is_err() {
         pending.clear();
         contacts.know_ascending();
@@ -535,40 +692,41 @@ impl ContactTable {
     /// keeps its surface, and the impulses of its points by their candidates; a new pair gets a contact with what its
     /// shapes' surfaces mix to. A contact ends that touched and doesn't any more, also where its shapes are no longer
     /// near or its bodies may no longer collide. What [`ContactTable::made`] tells isn't known then.
-    pub fn collide<S: ShapesById, F: ForbiddenPairs>(
+    /// `mapper` works the near pairs where all are looked for, and else the contacts of which a body may stir.
+    pub fn collide<
+        S: ShapesById + Drop,
+        F: ForbiddenPairs + Drop,
+        M: PieceMap<PairPiece> + PieceMap<SurveyPiece<S, F>>,
+    >(
         &mut self,
+        mapper: &mut M,
         alloc: Global,
-        shapes: &S,
-        marks: &[bool],
-        marked: &[u32],
-        forbidden: &F,
+        shapes: &mut S,
+        forbidden: &mut F,
     ) -> Result<Touches, Refusal>
-        requires shapes { IsProxyList (S.proxies shapes.now) }
-        requires within { AreWithin marks.now (S.proxies shapes.now) }
-        requires listed { AreListed marks.now marked.now }
-        requires known { IsKnown (moved_by marks.now) (F.pairs forbidden.now) (S.proxies shapes.now) self.old.contacts }
+        requires shapes { IsProxyList (S.proxies shapes.old) }
+        requires within { AreWithin (S.marks shapes.old) (S.proxies shapes.old) }
+        requires known { IsKnown (moved_by (S.marks shapes.old)) (F.pairs forbidden.old) (S.proxies shapes.old) self.old.contacts }
+        ensures shapes { shapes.new ≡ shapes.old }
+        ensures forbidden { forbidden.new ≡ forbidden.old }
         ensures contacts { self.new.contacts ≡ self.old.contacts }
         ensures numbered { self.new.numbered ≡ self.old.numbered }
-        ensures pending { OnOk result (self.new.pending ≡ contacts_between (F.pairs forbidden.now) (S.proxies shapes.now) self.old.contacts) }
+        ensures pending { OnOk result (self.new.pending ≡ contacts_between (F.pairs forbidden.old) (S.proxies shapes.old) self.old.contacts) }
         ensures refused { OnErr result (self.new.pending ≡ self.old.contacts) }
-        ensures begin { IfOk result (λ touches. touches.begin.items ≡ keys_touching_only_in self.old.contacts (contacts_between (F.pairs forbidden.now) (S.proxies shapes.now) self.old.contacts)) }
-        ensures end { IfOk result (λ touches. touches.end.items ≡ keys_touching_only_in (contacts_between (F.pairs forbidden.now) (S.proxies shapes.now) self.old.contacts) self.old.contacts) }
+        ensures begin { IfOk result (λ touches. touches.begin.items ≡ keys_touching_only_in self.old.contacts (contacts_between (F.pairs forbidden.old) (S.proxies shapes.old) self.old.contacts)) }
+        ensures end { IfOk result (λ touches. touches.end.items ≡ keys_touching_only_in (contacts_between (F.pairs forbidden.old) (S.proxies shapes.old) self.old.contacts) self.old.contacts) }
         ensures begin_rising { IfOk result (λ touches. AreRising touches.begin.items) }
         ensures end_rising { IfOk result (λ touches. AreRising touches.end.items) }
         ensures memory_only { IsOkUnless result Refusal.NoMemory }
     {
         self.pending.clear();
-        let collide = Collide {
-            shapes,
-            marks,
-            marked,
-            forbidden,
-        };
         make_or_clear(
+            mapper,
             &mut self.beside,
             alloc,
             &mut self.pending,
-            &collide,
+            shapes,
+            forbidden,
             &mut self.contacts,
             &mut self.numbers,
         )

@@ -1,6 +1,6 @@
 //! What becomes in a collide of one of the contacts that there are.
 
-ghost use Rattle.std.specs.Prelude.{◌≡◌, ℕ, ◌/◌, ◌++◌, ◌⊎◌, All, IfOk, List, OnOk, Some, cond, true};
+ghost use Rattle.std.specs.Prelude.{◌≡◌, ℕ, ◌/◌, ◌+◌, ◌++◌, ◌<◌, ◌≤◌, ◌⊎◌, All, Bool, IfOk, List, OnOk, Some, cond, true, vec_capacity, vec_len};
 ghost use Rattle.std.specs.List.{Contains};
 ghost use Rattle.std.specs.Result.{IsOkUnless};
 ghost use Rattle.fixed_geom.specs.Boxes.{overlaps};
@@ -11,6 +11,8 @@ ghost use Rattle.contacts_base.specs.Contacts.{is_touching};
 ghost use Rattle.contacts.specs.Changes.{key_if_new};
 ghost use Rattle.contacts.specs.Known.{again, either_moved, found, may_touch, near_key, stays};
 ghost use Rattle.contacts.specs.Looked.{ending};
+ghost use Rattle.contacts.specs.SurveyPieces.{fate_of};
+ghost use Rattle.packed_sets.specs.Marks.{AreListed};
 ghost use Rattle.contacts.specs.Fates.{key_if_begun, key_if_gone, moved_by, noted, one_stirs_of, outcome, stirs_in, after_fate};
 
 use crate::changes::contact_with;
@@ -20,6 +22,7 @@ use crate::marks::either_moved;
 use crate::pair_sweep::PairSweep;
 use contacts_base::{ContactEntry, ContactKey, PackedContact, Proxy, Renewal, ShapeId, is_near};
 use fixed_geom::{Box2, Refusal};
+use std::alloc::Global;
 
 /// Where the shapes of the enabled bodies are read, one by one. `BodyShapes` of `world_core/src/collide.rt` implements
 /// it, over the tables of the world, and [`ContactTable::collide`](crate::ContactTable::collide) calls it: this crate
@@ -30,6 +33,8 @@ pub trait ShapesById {
     ghost awake: { Self → List ℕ };
 
     ghost carried: { Self → List ℕ };
+
+    ghost marks: { Self → List Bool };
 
     /// The shape with this name, if there is one.
     fn shape(&self, id: ShapeId) -> Option<Proxy>
@@ -57,6 +62,18 @@ pub trait ShapesById {
     fn gather(&self, broad: &mut PairSweep) -> Result<(), Refusal>
         ensures gathered { OnOk result (broad.new ≡ proxies self.now) }
         ensures memory_only { IsOkUnless result Refusal.NoMemory };
+
+    /// By slot, whether the body's shapes have moved; a slot beyond the marks counts as marked.
+    fn marks(&self) -> &[bool]
+        ensures { result.now ≡ marks self.now };
+
+    /// The slots that are marked.
+    fn marked(&self) -> &[u32]
+        ensures { AreListed (marks self.now) result.now };
+
+    /// All of it, to be lent: nothing is left in its place.
+    fn taken(&mut self, alloc: Global) -> Self
+        ensures { result ≡ self.old };
 }
 
 /// What becomes of a contact.
@@ -120,7 +137,8 @@ fn one_stirs_of<S: ShapesById>(shapes: &S, key: ContactKey) -> bool
 #[inline(always)]
 fn points_again<S: ShapesById>(shapes: &S, entry: &ContactEntry) -> PackedContact
     requires { IsProxyList (S.proxies shapes.now) }
-    ensures { record entry.now { contact = result } ≡ again (S.proxies shapes.now) entry.now }
+    ensures entry { record entry.now { contact = result } ≡ again (S.proxies shapes.now) entry.now }
+    ensures contact { result ≡ (again (S.proxies shapes.now) entry.now).contact }
 {
     let Some(p) = shapes.shape(entry.key.first) else {
         return entry.contact;
@@ -138,7 +156,8 @@ pub(crate) fn fate_of<S: ShapesById, F: ForbiddenPairs>(
     entry: &ContactEntry,
 ) -> Fate
     requires shapes { IsProxyList (S.proxies collide.now.shapes.now) }
-    ensures { after_fate entry.now result ≡ outcome (moved_by collide.now.marks.now) (F.pairs collide.now.forbidden.now) (S.proxies collide.now.shapes.now) entry.now }
+    ensures fate { result ≡ fate_of (moved_by collide.now.marks.now) (F.pairs collide.now.forbidden.now) (S.proxies collide.now.shapes.now) entry.now }
+    ensures after { after_fate entry.now result ≡ outcome (moved_by collide.now.marks.now) (F.pairs collide.now.forbidden.now) (S.proxies collide.now.shapes.now) entry.now }
 {
     if !stays(collide, entry.key) {
         return Fate::Goes;
@@ -212,35 +231,37 @@ pub(crate) fn begun_key(entry: &ContactEntry, fate: &Fate) -> Option<ContactKey>
     }
 }
 
-/// Notes what the contact at a place becomes, if it is evaluated anew.
-pub(crate) fn note(notes: &mut Vec<Renewal>, place: usize, fate: &Fate) -> Result<(), Refusal>
-    ensures noted { OnOk result (notes.new.items ≡ notes.old.items ++ noted place fate.now) }
-    ensures memory_only { IsOkUnless result Refusal.NoMemory }
+/// Notes what the contact at a place becomes, if it is evaluated anew. There is room for it.
+#[inline(always)]
+pub(crate) fn note(notes: &mut Vec<Renewal>, place: usize, fate: &Fate)
+    requires { vec_len notes.old < vec_capacity notes.old }
+    ensures noted { notes.new.items ≡ notes.old.items ++ noted place fate.now }
+    ensures capacity { vec_capacity notes.new ≡ vec_capacity notes.old }
+    ensures long { vec_len notes.new ≤ vec_len notes.old + 1 }
 {
     match fate {
-        Fate::Stays => Ok(()),
-        Fate::Goes => Ok(()),
+        Fate::Stays => {}
+        Fate::Goes => {}
         Fate::Renewed(contact) => {
-            notes.push(Renewal {
+            notes.push_reserved(Renewal {
                 place,
                 contact: *contact,
-            })?;
-            Ok(())
+            });
         }
     }
 }
 
-/// Notes the place of a contact that goes.
-pub(crate) fn note_end(ends: &mut Vec<usize>, place: usize, fate: &Fate) -> Result<(), Refusal>
-    ensures noted { OnOk result (ends.new.items ≡ ends.old.items ++ ending place fate.now) }
-    ensures memory_only { IsOkUnless result Refusal.NoMemory }
+/// Notes the place of a contact that goes. There is room for it.
+#[inline(always)]
+pub(crate) fn note_end(ends: &mut Vec<usize>, place: usize, fate: &Fate)
+    requires { vec_len ends.old < vec_capacity ends.old }
+    ensures noted { ends.new.items ≡ ends.old.items ++ ending place fate.now }
+    ensures capacity { vec_capacity ends.new ≡ vec_capacity ends.old }
+    ensures long { vec_len ends.new ≤ vec_len ends.old + 1 }
 {
     match fate {
-        Fate::Stays => Ok(()),
-        Fate::Goes => {
-            ends.push(place)?;
-            Ok(())
-        }
-        Fate::Renewed(_) => Ok(()),
+        Fate::Stays => {}
+        Fate::Goes => ends.push_reserved(place),
+        Fate::Renewed(_) => {}
     }
 }

@@ -10,6 +10,7 @@ ghost use Rattle.contacts.specs.Pairs.{IsPair, ArePairs};
 
 use contacts_base::Proxy;
 use fixed_geom::Refusal;
+use std::alloc::Global;
 
 /// Two bodies, by their slots.
 #[derive(Clone, Copy)]
@@ -43,6 +44,10 @@ pub trait ForbiddenPairs {
     /// Whether the bodies in two slots are one of the pairs, whichever comes first.
     fn forbids(&self, a: u32, b: u32) -> bool
         ensures { result ≡ list_any (is_pair_of a b) (pairs self.now) };
+
+    /// All of it, to be lent: nothing is left in its place.
+    fn taken(&mut self, alloc: Global) -> Self
+        ensures { result ≡ self.old };
 }
 
 /// Whether the bodies of two shapes are among these pairs.

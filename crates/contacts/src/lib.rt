@@ -24,11 +24,13 @@ mod marks;
 mod moved_pairs;
 mod noting;
 mod number_book;
+mod pair_pieces;
 mod pair_sweep;
 mod pending_update;
 mod rebuild;
 mod stirring;
 mod survey;
+mod survey_pieces;
 mod sweep;
 mod update;
 
@@ -42,5 +44,7 @@ pub use known::{
     all_known_after, contacts_by_codes, contacts_in_parts, known_stays, near_are_known,
 };
 pub use number_book::NumberedContact;
+pub use pair_pieces::{EvaluatedPairs, PairLists, PairPiece};
 pub use pair_sweep::PairSweep;
 pub use pending_update::Touches;
+pub use survey_pieces::{LookedPlaces, Survey, SurveyPiece};

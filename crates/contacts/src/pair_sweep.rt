@@ -12,8 +12,10 @@ ghost use Rattle.contacts.specs.ChangedKeys.{AreRising, keys_not_in};
 
 use crate::changes::{Changes, update};
 use crate::forbidden::{ForbiddenPairs, list_allowed};
+use crate::pair_pieces::{EvaluatedPairs, PairPiece};
 use crate::sweep::near_pairs;
-use contacts_base::{ContactEntry, Proxy};
+use contacts_base::{ContactEntry, Proxy, SplitContacts};
+use crew::PieceMap;
 use fixed_geom::{Box2, Refusal};
 use std::alloc::Global;
 use std::marker::Model;
@@ -32,6 +34,8 @@ pub struct PairSweep {
     near: Vec<u64>,
     // The near pairs whose bodies nothing keeps from colliding, kept in the same way.
     allowed: Vec<u64>,
+    // Memory for pieces of them that workers evaluate.
+    rooms: Vec<EvaluatedPairs>,
 }
 
 impl Model for PairSweep {
@@ -68,6 +72,7 @@ impl PairSweep {
             dynamics: Vec::new(alloc),
             near: Vec::new(alloc),
             allowed: Vec::new(alloc),
+            rooms: Vec::new(alloc),
         }
     }
 
@@ -116,6 +121,7 @@ impl PairSweep {
             dynamics: Vec::new(alloc),
             near: Vec::new(alloc),
             allowed: Vec::new(alloc),
+            rooms: Vec::new(alloc),
         })
     }
 
@@ -150,26 +156,28 @@ impl PairSweep {
         Ok(near)
     }
 
-    /// The contacts of the near pairs whose bodies aren't among the forbidden pairs, and what changed; `old` are the
-    /// contacts until now. They are listed in the memory of `room`, whatever is in it.
+    /// The contacts of the near pairs whose bodies aren't among the forbidden pairs, and what changed; `old` has the
+    /// contacts until now in its long list. They are listed in the memory of `room`, whatever is in it.
     ///
     /// A contact is evaluated anew if one of its two bodies stirs, and else stays as it is. A pair that had a contact
     /// keeps its surface, and the impulses of its points by their candidates; a new pair gets a contact with what its
     /// shapes' surfaces mix to. A contact ends that touched and doesn't any more, also where its shapes are no longer
     /// near or its bodies may no longer collide.
-    pub fn update_contacts<F: ForbiddenPairs>(
+    pub fn update_contacts<F: ForbiddenPairs, M: PieceMap<PairPiece>>(
         &mut self,
+        mapper: &mut M,
         room: Vec<ContactEntry>,
         forbidden: &F,
-        old: &[ContactEntry],
+        old: &mut SplitContacts,
     ) -> Result<Changes, Refusal>
-        requires old { AreContacts old.now }
+        requires old { AreContacts old.old.long }
         ensures kept { self.new ≡ self.old }
-        ensures now { IfOk result (λ changes. changes.now ≡ contacts_between (F.pairs forbidden.now) self.old old.now) }
-        ensures made { IfOk result (λ changes. changes.made.items ≡ keys_not_in old.now changes.now) }
-        ensures gone { IfOk result (λ changes. changes.gone.items ≡ keys_not_in changes.now old.now) }
-        ensures begin { IfOk result (λ changes. changes.begin.items ≡ keys_touching_only_in old.now changes.now) }
-        ensures end { IfOk result (λ changes. changes.end.items ≡ keys_touching_only_in changes.now old.now) }
+        ensures contacts { old.new ≡ old.old }
+        ensures now { IfOk result (λ changes. changes.now ≡ contacts_between (F.pairs forbidden.now) self.old old.old.long) }
+        ensures made { IfOk result (λ changes. changes.made.items ≡ keys_not_in old.old.long changes.now) }
+        ensures gone { IfOk result (λ changes. changes.gone.items ≡ keys_not_in changes.now old.old.long) }
+        ensures begin { IfOk result (λ changes. changes.begin.items ≡ keys_touching_only_in old.old.long changes.now) }
+        ensures end { IfOk result (λ changes. changes.end.items ≡ keys_touching_only_in changes.now old.old.long) }
         ensures made_rising { IfOk result (λ changes. AreRising changes.made.items) }
         ensures gone_rising { IfOk result (λ changes. AreRising changes.gone.items) }
         ensures begin_rising { IfOk result (λ changes. AreRising changes.begin.items) }
@@ -185,6 +193,13 @@ impl PairSweep {
             &self.boxes,
         )?;
         list_allowed(&mut self.allowed, forbidden, &self.proxies, &self.near)?;
-        update(room, old, &self.proxies, &self.allowed)
+        update(
+            mapper,
+            room,
+            old,
+            &mut self.proxies,
+            &mut self.allowed,
+            &mut self.rooms,
+        )
     }
 }

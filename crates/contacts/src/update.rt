@@ -15,8 +15,9 @@ ghost use Rattle.contacts.specs.ByCodes.{contacts_of};
 ghost use Rattle.contacts.specs.ChangedKeys.{AreRising};
 ghost use Rattle.contacts.specs.PendingUpdates.{IsPendingUpdate, pending_contacts};
 ghost use Rattle.contacts.specs.Known.{IsKnown, IsPairKey, fresh as fresh_codes};
-ghost use Rattle.contacts.specs.Looked.{AreGoneIf, IsDone, IsRebuiltIf, keys_at};
-ghost use Rattle.contacts.specs.Stirring.{AreQuiet, AreStirring, one_flagged};
+ghost use Rattle.contacts.specs.Looked.{AreGoneIf, IsDone, IsLookedOver, IsRebuiltIf, keys_at};
+ghost use Rattle.contacts.specs.SurveyPieces.{shown_looks};
+ghost use Rattle.contacts.specs.Stirring.{AreQuiet, one_flagged};
 ghost use Rattle.contacts.specs.Fates.{IsMade, gone_keys, moved_by};
 
 use crate::collide::Collide;
@@ -25,11 +26,12 @@ use crate::forbidden::ForbiddenPairs;
 use crate::noting::{note_ended, note_fresh, note_touches};
 use crate::pending_update::{PendingUpdate, Touches};
 use crate::rebuild::{Rebuilt, rebuild};
-use crate::stirring::{Stirring, is_one_flagged};
-use crate::survey::look_over;
-use contacts_base::{ContactEntry, ContactKey, ShortList, SplitContacts, merge};
+use crate::stirring::is_one_flagged;
+use crate::survey::Looked;
+use contacts_base::{ContactEntry, ContactKey, Renewal, ShortList, SplitContacts, merge};
 use fixed_geom::Refusal;
 use std::alloc::Global;
+use std::mem;
 
 /// Whether a body of one of the contacts that aren't over may stir.
 fn may_one_stir(flags: &[bool], short: &ShortList) -> bool
@@ -106,21 +108,50 @@ fn join_touches(alloc: Global, long: Touches, short: Touches) -> Result<Touches,
     Ok(Touches { begin, end })
 }
 
-/// What a collide makes of both lists, and the keys of those of the short one that go. Answers which contacts begin to
-/// touch and which end. Refused 1 where memory is wanting: what is pending then has to be cleared.
-fn update_lists<S: ShapesById, F: ForbiddenPairs>(
+/// A list of its own of these keys.
+fn copied(alloc: Global, keys: &[ContactKey]) -> Result<Vec<ContactKey>, Refusal>
+    ensures value { IfOk result (λ copy. copy.items ≡ keys.now) }
+    ensures memory_only { IsOkUnless result Refusal.NoMemory }
+{
+    let mut copy = Vec::new(alloc);
+    copy.extend_from_slice(keys)?;
+    Ok(copy)
+}
+
+/// What a look over the long list found becomes pending. Answers which contacts begin to touch and which end.
+fn note_found(
     alloc: Global,
+    notes: &mut Vec<Renewal>,
+    ends: &mut Vec<usize>,
+    found: &mut Looked,
+) -> Result<Touches, Refusal>
+    ensures looks { IfOk result (λ touches. record { notes = notes.new.items; ends = ends.new.items; begin = touches.begin.items; end = touches.end.items } ≡ shown_looks found.old) }
+    ensures memory_only { IsOkUnless result Refusal.NoMemory }
+{
+    mem::swap(notes, &mut found.notes);
+    mem::swap(ends, &mut found.ends);
+    Ok(Touches {
+        begin: copied(alloc, &found.begin)?,
+        end: copied(alloc, &found.end)?,
+    })
+}
+
+/// What a collide makes of both lists, and the keys of those of the short one that go: `found` is what a look over the
+/// long list found. Answers which contacts begin to touch and which end. Refused 1 where memory is wanting: what is
+/// pending then has to be cleared.
+fn update_lists<S: ShapesById, F: ForbiddenPairs>(
     pending: &mut PendingUpdate,
     collide: &Collide<'_, S, F>,
     old: &SplitContacts,
-    stirring: &Stirring,
+    flags: &[bool],
     fresh: &[ContactEntry],
+    found: &mut Looked,
 ) -> Result<Touches, Refusal>
     requires shapes { IsProxyList (S.proxies collide.now.shapes.now) }
     requires known { IsKnown (moved_by collide.now.marks.now) (F.pairs collide.now.forbidden.now) (S.proxies collide.now.shapes.now) (contacts_in old.now) }
-    requires places { AreStirring stirring.now.flags.items old.now stirring.now.places.items }
-    requires quiet { AreQuiet stirring.now.flags.items collide.now.marks.now (S.proxies collide.now.shapes.now) }
+    requires quiet { AreQuiet flags.now collide.now.marks.now (S.proxies collide.now.shapes.now) }
     requires fresh { fresh.now ≡ contacts_of (contacts_in old.now) (S.proxies collide.now.shapes.now) (fresh_codes (moved_by collide.now.marks.now) (F.pairs collide.now.forbidden.now) (S.proxies collide.now.shapes.now) (contacts_in old.now)) }
+    requires looked { IsLookedOver (moved_by collide.now.marks.now) (F.pairs collide.now.forbidden.now) (S.proxies collide.now.shapes.now) old.now found.old.notes.items found.old.ends.items found.old.begin.items found.old.end.items }
     ensures done { IfOk result (λ touches. IsDone (F.pairs collide.now.forbidden.now) (S.proxies collide.now.shapes.now) old.now pending.new.notes.items pending.new.ends.items (option_map counted_in pending.new.short) touches.begin.items touches.end.items) }
     ensures gone { OnOk result (pending.new.gone.items ≡ gone_keys (moved_by collide.now.marks.now) (F.pairs collide.now.forbidden.now) (S.proxies collide.now.shapes.now) old.now.short) }
     ensures ended { OnOk result (keys_at old.now.long pending.new.ends.items ≡ gone_keys (moved_by collide.now.marks.now) (F.pairs collide.now.forbidden.now) (S.proxies collide.now.shapes.now) (counting old.now.over old.now.long)) }
@@ -128,20 +159,14 @@ fn update_lists<S: ShapesById, F: ForbiddenPairs>(
     ensures any { pending.new.any ≡ true }
     ensures memory_only { IsOkUnless result Refusal.NoMemory }
 {
+    let alloc = *pending.notes.allocator();
     pending.short = None;
     pending.whole = None;
     pending.gone.clear();
     pending.any = true;
     old.know_ascending();
-    let touches = look_over(
-        alloc,
-        &mut pending.notes,
-        &mut pending.ends,
-        collide,
-        old,
-        stirring,
-    )?;
-    let rebuilt = rebuild_if(alloc, collide, old.short(), &stirring.flags, fresh)?;
+    let touches = note_found(alloc, &mut pending.notes, &mut pending.ends, found)?;
+    let rebuilt = rebuild_if(alloc, collide, old.short(), flags, fresh)?;
     match rebuilt {
         None => Ok(touches),
         Some(rebuilt) => {
@@ -159,20 +184,20 @@ fn update_lists<S: ShapesById, F: ForbiddenPairs>(
 /// cleared.
 ///
 /// A contact goes if one of its shapes has moved and they are no longer near. Of those that stay the ones are evaluated
-/// anew of which a body stirs.
+/// anew of which a body stirs. `found` is what a look over the long list found.
 pub(crate) fn update_known<S: ShapesById, F: ForbiddenPairs>(
-    alloc: Global,
     pending: &mut PendingUpdate,
     collide: &Collide<'_, S, F>,
     old: &SplitContacts,
-    stirring: &Stirring,
+    flags: &[bool],
     fresh: &[ContactEntry],
+    found: &mut Looked,
 ) -> Result<Touches, Refusal>
     requires shapes { IsProxyList (S.proxies collide.now.shapes.now) }
     requires known { IsKnown (moved_by collide.now.marks.now) (F.pairs collide.now.forbidden.now) (S.proxies collide.now.shapes.now) (contacts_in old.now) }
-    requires places { AreStirring stirring.now.flags.items old.now stirring.now.places.items }
-    requires quiet { AreQuiet stirring.now.flags.items collide.now.marks.now (S.proxies collide.now.shapes.now) }
+    requires quiet { AreQuiet flags.now collide.now.marks.now (S.proxies collide.now.shapes.now) }
     requires fresh { fresh.now ≡ contacts_of (contacts_in old.now) (S.proxies collide.now.shapes.now) (fresh_codes (moved_by collide.now.marks.now) (F.pairs collide.now.forbidden.now) (S.proxies collide.now.shapes.now) (contacts_in old.now)) }
+    requires looked { IsLookedOver (moved_by collide.now.marks.now) (F.pairs collide.now.forbidden.now) (S.proxies collide.now.shapes.now) old.now found.old.notes.items found.old.ends.items found.old.begin.items found.old.end.items }
     ensures pending { OnOk result (IsPendingUpdate pending.new old.now) }
     ensures made { IfOk result (λ touches. IsMade (F.pairs collide.now.forbidden.now) (S.proxies collide.now.shapes.now) (contacts_in old.now) (pending_contacts pending.new old.now) touches.begin.items touches.end.items) }
     ensures begin_rising { IfOk result (λ touches. AreRising touches.begin.items) }
@@ -181,7 +206,7 @@ pub(crate) fn update_known<S: ShapesById, F: ForbiddenPairs>(
     ensures any { pending.new.any ≡ true }
 {
     old.know_ascending();
-    let touches = update_lists(alloc, pending, collide, old, stirring, fresh)?;
+    let touches = update_lists(pending, collide, old, flags, fresh, found)?;
     note_ended(&mut pending.gone, old.long(), &pending.ends)?;
     note_fresh(&mut pending.made, fresh)?;
     note_touches(pending, &touches)?;

@@ -8,6 +8,7 @@ mod bell;
 mod desk;
 mod furnish;
 mod gate;
+mod piece;
 mod pieces;
 mod post;
 mod round;
@@ -19,6 +20,7 @@ mod work;
 mod worker;
 
 pub use gate::{Gate, OpenGate};
+pub use piece::{CallingThread, Piece, PieceMap, Returned};
 pub use pieces::map_pieces;
 pub use staying::{Crew, sole, start};
 pub use work::Work;

@@ -16,4 +16,4 @@ mod SolvedLaws
 mod HomeLaws
 mod SeatLaws
 mod RingLaws
-mod CrossingLaws
+pub mod CrossingLaws

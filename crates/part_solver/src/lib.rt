@@ -9,13 +9,13 @@
 #![tactic(auto)]
 
 mod back;
+mod by_parts;
 mod dealing;
 mod exchange;
 mod head;
 mod homes;
 mod mail;
 mod moves;
-mod part_crew;
 mod part_memory;
 mod part_pass;
 mod part_work;
@@ -25,10 +25,13 @@ mod rings;
 mod rows_back;
 mod run;
 mod seat;
+mod seat_map;
 mod seeing;
 mod step_lists;
 mod sums;
 mod walk;
 
-pub use part_crew::PartCrew;
+pub use by_parts::PartSolver;
 pub use part_memory::{LEAST_CONSTRAINTS, LEAST_PARTS, PartMemory};
+pub use seat::{Part, Seat};
+pub use seat_map::SeatMap;

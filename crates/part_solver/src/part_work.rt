@@ -1,5 +1,6 @@
 //! The work of a part.
 
+ghost use Rattle.std.specs.Prelude.{◌≡◌};
 ghost use Rattle.part_solver.specs.Benches.{HasSeen, IsRoomyFor};
 ghost use Rattle.part_solver.specs.Parts.{solved};
 
@@ -8,7 +9,6 @@ use crate::seat::{Lists, Part, Seat};
 use crate::seeing::{see_all_slots, see_bodies, see_slots};
 use crate::step_lists::StepLists;
 use crate::walk::walk;
-use crew::Work;
 use part_runs::laws::bodies_are_hidden;
 use std::sync::Wait;
 
@@ -25,24 +25,17 @@ fn see(step: &StepLists, number: u32, lists: &mut Lists)
     see_all_slots(step.home(), &mut lists.at);
 }
 
-/// Runs a part of its step.
-#[derive(Drop)]
-pub(crate) struct PartWork;
-
-impl Work for PartWork {
-    type Item = Seat;
-
-    type Out = Part;
-
-    ghost answer = { λ _ p. solved p };
-
-    fn work<R: Wait>(&self, rt: &R, item: Seat) -> Part {
+impl Seat {
+    /// Runs the part of its step. It waits for those that the others run.
+    pub fn work<R: Wait>(self, rt: &R) -> Part
+        ensures { result ≡ solved self }
+    {
         let Seat {
             step: shared,
             number,
             mut lists,
             mut ports,
-        } = item;
+        } = self;
         let step = &*shared;
         see(step, number, &mut lists);
         walk(step, number, &mut lists);

@@ -12,16 +12,16 @@ ghost use Rattle.part_solver.specs.Benches.{IsRoomy, IsRoomyFor};
 ghost use Rattle.part_solver.specs.Steps.{CanSolve};
 
 use crate::back::read_bodies;
-use crate::part_work::PartWork;
 use crate::ports::Ports;
 use crate::rings::make_rings;
 use crate::rows_back::{Owners, read_rows};
 use crate::run::Outcome;
 use crate::seat::{Lists, Part, Seat};
+use crate::seat_map::SeatMap;
 use crate::step_lists::StepLists;
 use crate::sums::{MOST_PARTS, are_small, sum_up};
 use colour_solver::Rows;
-use crew::{Crew, Gate, sole};
+use crew::sole;
 use fixed_geom::{Refusal, Vec2};
 use momenta::BodyState;
 use part_runs::laws::{parts_are_runs, parts_step_all, runs_are_read_back};
@@ -325,11 +325,9 @@ fn seat_parts(
     )
 }
 
-/// Seats the parts of a step and runs them by the crew, and answers whether they have run: not where memory is wanting.
-fn run_parts<R: Wait, G: Gate>(
-    rt: &R,
-    crew: &mut Crew<'_, G, PartWork>,
-    work: &Arc<PartWork, Global>,
+/// Seats the parts of a step and has them worked, and answers whether they have run: not where memory is wanting.
+fn run_parts<M: SeatMap>(
+    mapper: &mut M,
     lists: &mut StepMemory,
     step: &Arc<StepLists, Global>,
     room: usize,
@@ -349,16 +347,18 @@ fn run_parts<R: Wait, G: Gate>(
         lists.seats.clear();
         return false;
     }
-    crew.map_with(rt, work, &mut lists.seats, &mut lists.parts);
+    if !mapper.map_seats(&mut lists.seats, &mut lists.parts) {
+        lists.seats.clear();
+        return false;
+    }
     true
 }
 
-/// Solves all parts of a step by the crew, and answers whether they are: not where memory is wanting. All lists of the
+/// Solves all parts of a step, and answers whether they are: not where memory is wanting. All lists of the
 /// step are left as they were.
-fn solve_parts<R: Wait, G: Gate>(
+fn solve_parts<R: Wait, M: SeatMap>(
     rt: &R,
-    crew: &mut Crew<'_, G, PartWork>,
-    work: &Arc<PartWork, Global>,
+    mapper: &mut M,
     lists: &mut StepMemory,
     home: &mut Vec<u32>,
     states: &mut Vec<BodyState>,
@@ -391,7 +391,7 @@ fn solve_parts<R: Wait, G: Gate>(
             false
         }
         Ok(shared) => {
-            let solved = run_parts(rt, crew, work, lists, &shared, room);
+            let solved = run_parts(mapper, lists, &shared, room);
             put_step(sole(rt, shared), lists, home, states, rows);
             solved
         }
@@ -459,10 +459,9 @@ fn row_count(rows: &Rows) -> usize
 
 /// Runs the ticks of a step by parts, with room for so many bodies in each ring. Answers as `run_step` does, or
 /// nothing, and then nothing is changed: where memory is wanting, or where the sums are too large.
-pub(crate) fn solve_by_parts<R: Wait, G: Gate>(
+pub(crate) fn solve_by_parts<R: Wait, M: SeatMap>(
     rt: &R,
-    crew: &mut Crew<'_, G, PartWork>,
-    work: &Arc<PartWork, Global>,
+    mapper: &mut M,
     lists: &mut StepMemory,
     home: &mut Vec<u32>,
     states: &mut Vec<BodyState>,
@@ -490,9 +489,7 @@ pub(crate) fn solve_by_parts<R: Wait, G: Gate>(
     {
         return None;
     }
-    if !solve_parts(
-        rt, crew, work, lists, home, states, rows, gravity, count, room,
-    ) {
+    if !solve_parts(rt, mapper, lists, home, states, rows, gravity, count, room) {
         return None;
     }
     read_back(lists, home.as_slice(), states, rows)

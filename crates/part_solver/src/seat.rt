@@ -38,7 +38,7 @@ pub(crate) struct Lists {
 /// A part that is to be run. Contracts see its step and its number; its rings begin with this step, and its lists have
 /// room for it.
 #[derive(Drop)]
-pub(crate) struct Seat {
+pub struct Seat {
     pub(crate) step: Arc<StepLists, Global>,
     pub(crate) number: u32,
     pub(crate) lists: Lists,
@@ -47,7 +47,7 @@ pub(crate) struct Seat {
 
 /// A part that has run. Contracts see its number and its run.
 #[derive(Drop)]
-pub(crate) struct Part {
+pub struct Part {
     pub(crate) number: u32,
     pub(crate) lists: Lists,
     pub(crate) sums: StepSums,

@@ -8,7 +8,9 @@ use serde_json::Value;
 use std::alloc::Global;
 use std::sync::Wait;
 use std::thread::Threads;
-use world_core::{Command, Events, Handle, Reply, ShapeId, SlotEntry, StepSolver, WorldCore};
+use world_core::{
+    Command, Events, Handle, PieceMap, Reply, ShapeId, SlotEntry, StepWorker, WorldCore, WorldLook,
+};
 use world_file_base::{Broken, Clause};
 use world_lock::{Opened, Seat, SharedWorld};
 use world_queries::{Hit, QueryFilter};
@@ -147,7 +149,7 @@ pub(crate) fn load(alloc: Global, text: &str) -> Result<WorldCore, Refusal> {
 }
 
 /// Makes a call through a seat, a step with this solver, and says whether it was accepted.
-pub(crate) fn call<N: Opened, R: Wait, S: StepSolver>(
+pub(crate) fn call<N: Opened, R: Wait, S: StepWorker + PieceMap<WorldLook>>(
     rt: &R,
     shared: &SharedWorld<N>,
     seat: &mut Seat<N>,

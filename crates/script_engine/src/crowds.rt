@@ -13,10 +13,10 @@ use std::sync::Wait;
 use std::sync::atomic::{AtomicU64, Ordering};
 use std::thread::{Scope, Threads};
 use std::{mem, thread};
-use world_core::{Command, OneThread, Reply, StepSolver, WorldCore};
+use world_core::{Command, OneThread, PieceMap, Reply, StepWorker, WorldCore, WorldLook};
 use world_lock::{Closed, JournalEntry, Opened, Seat, SharedWorld, may_be_shared};
 use world_script_base::SeatReport;
-use world_workers::{OpenGate, PartCrew, PartMemory};
+use world_workers::{OpenGate, PartMemory, StepCrew};
 
 /// What a crowd left: how many calls were accepted, and what each seat did, in the order of the seats' numbers.
 #[derive(Drop)]
@@ -55,7 +55,7 @@ fn count_all(seats: &mut [SeatReport], journal: &[JournalEntry]) {
 }
 
 /// Makes a call; one that is refused is passed over.
-fn make_call<N: Opened, R: Wait, S: StepSolver>(
+fn make_call<N: Opened, R: Wait, S: StepWorker + PieceMap<WorldLook>>(
     rt: &R,
     shared: &SharedWorld<N>,
     seat: &mut Seat<N>,
@@ -68,7 +68,7 @@ fn make_call<N: Opened, R: Wait, S: StepSolver>(
 }
 
 /// Makes each call in its order.
-fn make_each<N: Opened, R: Wait, S: StepSolver>(
+fn make_each<N: Opened, R: Wait, S: StepWorker + PieceMap<WorldLook>>(
     rt: &R,
     shared: &SharedWorld<N>,
     seat: &mut Seat<N>,
@@ -121,7 +121,7 @@ impl WorkerStarts {
 /// A world that seats of this type call.
 trait Called<T> {
     /// What one thread does, its steps made with this solver.
-    fn make_calls<R: Wait, S: StepSolver>(
+    fn make_calls<R: Wait, S: StepWorker + PieceMap<WorldLook>>(
         &self,
         rt: &R,
         seat: &mut T,
@@ -131,7 +131,7 @@ trait Called<T> {
 }
 
 impl<N: Opened> Called<Seat<N>> for SharedWorld<N> {
-    fn make_calls<R: Wait, S: StepSolver>(
+    fn make_calls<R: Wait, S: StepWorker + PieceMap<WorldLook>>(
         &self,
         rt: &R,
         seat: &mut Seat<N>,
@@ -155,7 +155,7 @@ fn call_by_workers<'s, E, T, S: Called<T>, R: Threads + Wait + Sync>(
     starts: &WorkerStarts,
 ) {
     let memory = PartMemory::new(crowd.alloc);
-    match PartCrew::start(
+    match StepCrew::start(
         scope,
         rt,
         crowd.alloc,

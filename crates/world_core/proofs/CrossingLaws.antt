@@ -1,5 +1,6 @@
--- A world may cross threads, as each of its parts may: one search for all of them would come to its limit.
-use denote.Param.Send.{IsSend, sendable}
+-- A world may cross threads, as each of its parts may: one search for all of them would come to its limit. What a collide
+-- reads may be shared by them.
+use denote.Param.Send.{IsSend, IsSync, sendable}
 use Rattle.std.proofs.Crossing.{crosses}
 use Rattle.box_tree.specs.contracts.boxes.BoxTree as BoxTree
 use Rattle.world_core_base.specs.contracts.body_table.BodyTable as BodyTable
@@ -8,6 +9,11 @@ use Rattle.world_core_base.specs.contracts.joint_table.JointTable as JointTable
 use Rattle.contacts_base.specs.contracts.split.SplitContacts as SplitContacts
 use Rattle.contacts.specs.contracts.number_book.NumberBook as NumberBook
 use Rattle.contacts.specs.contracts.pending_update.PendingUpdate as PendingUpdate
+use Rattle.contacts.specs.contracts.survey_pieces.LookedPlaces as LookedPlaces
+use Rattle.contacts.specs.contracts.survey_pieces.LookMemory as LookMemory
+use Rattle.contacts.specs.contracts.pair_pieces.EvaluatedPairs as EvaluatedPairs
+use Rattle.contacts.specs.contracts.pair_sweep.PairSweep as PairSweep
+use Rattle.contacts.specs.contracts.contact_table.Beside as Beside
 use Rattle.contacts.specs.contracts.contact_table.ContactTable as ContactTable
 use Rattle.colour_solver.specs.contracts.colour_rows.Rows as Rows
 use Rattle.impulse_ledger.specs.contracts.ledger.Ledger as Ledger
@@ -21,7 +27,8 @@ use Rattle.islands.specs.contracts.islands.Islands as Islands
 use Rattle.islands.specs.contracts.scratch.SplitScratch as SplitScratch
 use Rattle.contacts.specs.contracts.constraint.Constraint as Constraint
 use Rattle.sleep_wake.specs.contracts.sets.Sets as Sets
-use Rattle.box_tree_base.proofs.CrossingLemmas.{tree_send}
+use Rattle.world_core.specs.contracts.collide.BodyShapes as BodyShapes
+use Rattle.box_tree_base.proofs.CrossingLemmas.{tree_send, tree_sync}
 
 boxes_send : IsSend BoxTree.the_row
 boxes_send = search (tree_send, crosses, sendable) depth 40 fits 60000
@@ -32,10 +39,10 @@ table_send = search (boxes_send, crosses, sendable) depth 60 fits 60000
 handles_send : IsSend Handles.the_row
 handles_send = search (crosses, sendable) depth 60 fits 60000
 
-joints_send : IsSend JointTable.the_row
+pub joints_send : IsSend JointTable.the_row
 joints_send = search (crosses, sendable) depth 60 fits 60000
 
-split_send : IsSend SplitContacts.the_row
+pub split_send : IsSend SplitContacts.the_row
 split_send = search (crosses, sendable) depth 60 fits 60000
 
 pending_send : IsSend PendingUpdate.the_row
@@ -44,8 +51,23 @@ pending_send = search (split_send, crosses, sendable) depth 60 fits 60000
 numbers_send : IsSend NumberBook.the_row
 numbers_send = search (crosses, sendable) depth 60 fits 60000
 
+places_send : IsSend LookedPlaces.the_row
+places_send = search (crosses, sendable) depth 60 fits 60000
+
+looks_send : IsSend LookMemory.the_row
+looks_send = search (places_send, crosses, sendable) depth 60 fits 60000
+
+evaluated_send : IsSend EvaluatedPairs.the_row
+evaluated_send = search (crosses, sendable) depth 60 fits 60000
+
+sweep_send : IsSend PairSweep.the_row
+sweep_send = search (evaluated_send, crosses, sendable) depth 60 fits 60000
+
+beside_send : IsSend Beside.the_row
+beside_send = search (looks_send, sweep_send, crosses, sendable) depth 60 fits 60000
+
 contacts_send : IsSend ContactTable.the_row
-contacts_send = search (split_send, pending_send, numbers_send, crosses, sendable) depth 60 fits 60000
+contacts_send = search (split_send, pending_send, numbers_send, beside_send, looks_send, sweep_send, places_send, crosses, sendable) depth 90 fits 400000
 
 rows_send : IsSend Rows.the_row
 rows_send = search (crosses, sendable) depth 60 fits 60000
@@ -77,3 +99,23 @@ module _ (C : RattleType) (g : Ghosts C.Denot) (s : IsSend C) where
 
 pub world_send : IsSend World.the_row
 world_send = search (sets_send, constraint_send, table_send, handles_send, joints_send, contacts_send, rows_send, ledger_send, events_send, crosses, sendable) depth 60 fits 60000
+
+-- ---- what a collide reads
+
+boxes_sync : IsSync BoxTree.the_row
+boxes_sync = search (tree_sync, crosses, sendable) depth 40 fits 60000
+
+table_sync : IsSync BodyTable.the_row
+table_sync = search (boxes_sync, crosses, sendable) depth 60 fits 60000
+
+pub joints_sync : IsSync JointTable.the_row
+joints_sync = search (crosses, sendable) depth 60 fits 60000
+
+pub split_sync : IsSync SplitContacts.the_row
+split_sync = search (crosses, sendable) depth 60 fits 60000
+
+pub shapes_send : IsSend BodyShapes.the_row
+shapes_send = search (table_send, crosses, sendable) depth 60 fits 60000
+
+pub shapes_sync : IsSync BodyShapes.the_row
+shapes_sync = search (table_sync, crosses, sendable) depth 60 fits 60000

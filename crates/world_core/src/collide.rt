@@ -6,7 +6,7 @@ ghost use Rattle.std.specs.Result.{IsOkUnless};
 ghost use Rattle.contacts_base.specs.Proxies.{number_of};
 ghost use Rattle.contacts.specs.Changes.{keys_touching_only_in};
 ghost use Rattle.contacts.specs.ChangedKeys.{AreRising};
-ghost use Rattle.contacts.specs.Fates.{stirs_in};
+ghost use Rattle.contacts.specs.Fates.{AreWithin, stirs_in};
 ghost use Rattle.plain_world.specs.Bodies.{AreBodies, IsBody};
 ghost use Rattle.plain_world.specs.Changes.{is_awake_in};
 ghost use Rattle.plain_world.specs.InSlots.{is_carried_in};
@@ -17,12 +17,14 @@ ghost use Rattle.world_core.specs.Named.{shape_of};
 ghost use Rattle.world_rules.specs.Collide.{body_proxies, proxies_of, contacts_after};
 
 use body_handles::MAX_SLOTS;
-use contacts::{ContactTable, PairSweep, ShapesById, Touches};
+use contacts::{ContactTable, PairPiece, PairSweep, ShapesById, SurveyPiece, Touches};
 use contacts_base::{Proxy, ShapeId};
+use crew::PieceMap;
 use fixed_geom::{Box2, Refusal};
 use plain_world::{Body, surface_of};
 use std::alloc::Global;
 use std::marker::Model;
+use std::mem;
 use world_core_base::{BodyTable, JointTable};
 
 /// Adds the shapes of an enabled body, in their order.
@@ -144,30 +146,40 @@ fn stirs_by_id(bodies: &[Option<Body>], id: ShapeId) -> bool
     }
 }
 
-/// The table of a world's bodies, whose shapes a collide reads.
+/// The table of a world's bodies, whose shapes a collide reads. Contracts see the table.
 #[derive(Drop)]
-pub(crate) struct BodyShapes<'a> {
-    table: &'a BodyTable,
+pub struct BodyShapes {
+    table: BodyTable,
 }
 
-impl<'a> Model for BodyShapes<'a> {
-    ghost use Rattle.std.specs.Prelude.{List, Option};
-    ghost use Rattle.plain_world.specs.declared.body.Body.{Body};
+impl Model for BodyShapes {
+    ghost use Rattle.world_core_base.specs.Awake.{Bodies};
     ghost use Rattle.world_core.specs.Named.{AreShown};
 
-    ghost Value = { List (Option Body) };
+    ghost Value = { Bodies };
 
-    ghost view = { λ a. a.table.now.bodies };
+    ghost view = { λ a. a.table };
 
-    ghost invariant = { λ a. AreShown a.table.now.bodies a.table.now.pending };
+    ghost invariant = { λ a. AreShown a.table.bodies a.table.pending };
 }
 
-impl ShapesById for BodyShapes<'_> {
-    ghost proxies = { λ s. proxies_of s };
+impl BodyShapes {
+    /// Each body has a mark or none. The function does nothing; its contract is the law.
+    fn know_within(&self)
+        ensures { AreWithin self.now.marks (proxies_of self.now.bodies) }
+    {
+        let _ = self.table.marks();
+    }
+}
 
-    ghost awake = { λ s. places_from is_awake_in 0 s };
+impl ShapesById for BodyShapes {
+    ghost proxies = { λ s. proxies_of s.bodies };
 
-    ghost carried = { λ s. places_from is_carried_in 0 s };
+    ghost awake = { λ s. places_from is_awake_in 0 s.bodies };
+
+    ghost carried = { λ s. places_from is_carried_in 0 s.bodies };
+
+    ghost marks = { λ s. s.marks };
 
     #[inline(always)]
     fn shape(&self, id: ShapeId) -> Option<Proxy> {
@@ -193,36 +205,53 @@ impl ShapesById for BodyShapes<'_> {
     fn gather(&self, broad: &mut PairSweep) -> Result<(), Refusal> {
         gather(broad, self.table.bodies())
     }
+
+    fn marks(&self) -> &[bool] {
+        self.table.marks().flags()
+    }
+
+    fn marked(&self) -> &[u32] {
+        self.table.marks().slots()
+    }
+
+    fn taken(&mut self, alloc: Global) -> BodyShapes {
+        BodyShapes {
+            table: mem::replace(&mut self.table, BodyTable::new(alloc)),
+        }
+    }
 }
 
 /// Finds the near pairs of shapes whose bodies no joint keeps from colliding, and evaluates a contact for each of which
 /// a body stirs: what the contacts become is pending then. Those of bodies that aren't marked are known from the
 /// contacts that there are.
-pub(crate) fn collide(
+pub(crate) fn collide<M: PieceMap<PairPiece> + PieceMap<SurveyPiece<BodyShapes, JointTable>>>(
+    mapper: &mut M,
     alloc: Global,
     contacts: &mut ContactTable,
-    bodies: &BodyTable,
-    joints: &JointTable,
+    bodies: &mut BodyTable,
+    joints: &mut JointTable,
 ) -> Result<Touches, Refusal>
-    requires few { length bodies.now.bodies ≤ MAX_SLOTS }
-    requires bodies { AreBodies bodies.now.bodies }
-    requires flushed { bodies.now.pending ≡ 0 }
-    requires known { AreKnown bodies.now.marks bodies.now.bodies joints.now.joints contacts.old.contacts }
+    requires few { length bodies.old.bodies ≤ MAX_SLOTS }
+    requires bodies { AreBodies bodies.old.bodies }
+    requires flushed { bodies.old.pending ≡ 0 }
+    requires known { AreKnown bodies.old.marks bodies.old.bodies joints.old.joints contacts.old.contacts }
+    ensures bodies { bodies.new ≡ bodies.old }
+    ensures joints { joints.new ≡ joints.old }
     ensures contacts { contacts.new.contacts ≡ contacts.old.contacts }
     ensures numbered { contacts.new.numbered ≡ contacts.old.numbered }
-    ensures pending { OnOk result (contacts.new.pending ≡ contacts_after bodies.now.bodies joints.now.joints contacts.old.contacts) }
-    ensures begin { IfOk result (λ touches. touches.begin.items ≡ keys_touching_only_in contacts.old.contacts (contacts_after bodies.now.bodies joints.now.joints contacts.old.contacts)) }
-    ensures end { IfOk result (λ touches. touches.end.items ≡ keys_touching_only_in (contacts_after bodies.now.bodies joints.now.joints contacts.old.contacts) contacts.old.contacts) }
+    ensures pending { OnOk result (contacts.new.pending ≡ contacts_after bodies.old.bodies joints.old.joints contacts.old.contacts) }
+    ensures begin { IfOk result (λ touches. touches.begin.items ≡ keys_touching_only_in contacts.old.contacts (contacts_after bodies.old.bodies joints.old.joints contacts.old.contacts)) }
+    ensures end { IfOk result (λ touches. touches.end.items ≡ keys_touching_only_in (contacts_after bodies.old.bodies joints.old.joints contacts.old.contacts) contacts.old.contacts) }
     ensures begin_rises { IfOk result (λ touches. AreRising touches.begin.items) }
     ensures end_rises { IfOk result (λ touches. AreRising touches.end.items) }
     ensures memory_only { IsOkUnless result Refusal.NoMemory }
 {
-    let marks = bodies.marks();
-    contacts.collide(
-        alloc,
-        &BodyShapes { table: bodies },
-        marks.flags(),
-        marks.slots(),
-        joints,
-    )
+    let mut shapes = BodyShapes {
+        table: mem::replace(bodies, BodyTable::new(alloc)),
+    };
+    shapes.know_within();
+    let touches = contacts.collide(mapper, alloc, &mut shapes, joints);
+    let BodyShapes { table } = shapes;
+    *bodies = table;
+    touches
 }

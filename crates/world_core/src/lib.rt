@@ -23,13 +23,15 @@ mod scratch;
 mod sleep_phase;
 mod sleep_test;
 mod solving;
+mod step_worker;
 mod telling_movers;
 mod waking_islands;
 mod world;
 mod world_ties;
 
 pub use body_handles::{Handle, SlotEntry};
-pub use colour_solver::{OneThread, StepSolver};
+pub use collide::BodyShapes;
+pub use crew::PieceMap;
 pub use event_feed::Events;
 pub use fixed_geom::{Refusal, Rot, Vec2};
 pub use frame::{Frame, FrameBody};
@@ -42,6 +44,7 @@ pub use plain_world::{
 };
 pub use shapes::{Filter, Pose, Shape, ShapeDef, Shapes};
 pub use solver_sets::{Census, Item, SleepingSet};
+pub use step_worker::{OneThread, StepWorker, WorldLook};
 pub use world::{WorldCore, is_tick_count};
 pub use world_file::{Broken, Clause};
 pub use world_rules::{Command, Reply, each_call_counts};

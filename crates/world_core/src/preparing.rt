@@ -14,13 +14,14 @@ ghost use Rattle.world_core.specs.Inside.{AreKnown};
 ghost use Rattle.world_core.specs.Waking.{HasSleepers, OfAll};
 ghost use Rattle.world_rules.specs.Collide.{contacts_after};
 
-use crate::collide::collide;
+use crate::collide::{BodyShapes, collide};
 use crate::list_to_wake::list_sleepers;
 use crate::scratch::Scratch;
 use crate::solving::reserve_rows;
 use body_handles::MAX_SLOTS;
 use colour_solver::Rows;
-use contacts::{Constraint, ContactTable, Touches};
+use contacts::{Constraint, ContactTable, PairPiece, SurveyPiece, Touches};
+use crew::PieceMap;
 use fixed_geom::Refusal;
 use graph_colours::COLOURS;
 use impulse_ledger::Ledger;
@@ -42,10 +43,11 @@ pub(crate) struct Prepared {
 
 /// Finds out what a step is to carry out, and makes all room that it wants. Nothing of the world is changed: what the
 /// collide made of the contacts is kept beside them, and the table of bodies only brings its lists of slots up to date.
-pub(crate) fn prepare(
+pub(crate) fn prepare<M: PieceMap<PairPiece> + PieceMap<SurveyPiece<BodyShapes, JointTable>>>(
+    mapper: &mut M,
     ledger: &mut Ledger,
     bodies: &mut BodyTable,
-    joints: &JointTable,
+    joints: &mut JointTable,
     contacts: &mut ContactTable,
     sets: &mut Sets<Constraint>,
     rows: &mut Rows,
@@ -53,18 +55,19 @@ pub(crate) fn prepare(
 ) -> Result<Prepared, Refusal>
     requires few { length bodies.old.bodies ≤ MAX_SLOTS }
     requires bodies { AreBodies bodies.old.bodies }
-    requires known { AreKnown bodies.old.marks bodies.old.bodies joints.now.joints contacts.old.contacts }
+    requires known { AreKnown bodies.old.marks bodies.old.bodies joints.old.joints contacts.old.contacts }
     requires consistent { IsConsistent constraint_number sets.old.acting }
     ensures entries { ledger.new.entries ≡ ledger.old.entries }
     ensures settled { ledger.new.settled ≡ ledger.old.settled }
     ensures bodies { bodies.new.bodies ≡ bodies.old.bodies }
     ensures marks { bodies.new.marks ≡ bodies.old.marks }
+    ensures joints { joints.new ≡ joints.old }
     ensures contacts { contacts.new.contacts ≡ contacts.old.contacts }
     ensures numbered { contacts.new.numbered ≡ contacts.old.numbered }
     ensures acting { sets.new.acting ≡ sets.old.acting }
-    ensures pending { OnOk result (contacts.new.pending ≡ contacts_after bodies.old.bodies joints.now.joints contacts.old.contacts) }
-    ensures begin { IfOk result (λ prepared. prepared.touches.begin.items ≡ keys_touching_only_in contacts.old.contacts (contacts_after bodies.old.bodies joints.now.joints contacts.old.contacts)) }
-    ensures end { IfOk result (λ prepared. prepared.touches.end.items ≡ keys_touching_only_in (contacts_after bodies.old.bodies joints.now.joints contacts.old.contacts) contacts.old.contacts) }
+    ensures pending { OnOk result (contacts.new.pending ≡ contacts_after bodies.old.bodies joints.old.joints contacts.old.contacts) }
+    ensures begin { IfOk result (λ prepared. prepared.touches.begin.items ≡ keys_touching_only_in contacts.old.contacts (contacts_after bodies.old.bodies joints.old.joints contacts.old.contacts)) }
+    ensures end { IfOk result (λ prepared. prepared.touches.end.items ≡ keys_touching_only_in (contacts_after bodies.old.bodies joints.old.joints contacts.old.contacts) contacts.old.contacts) }
     ensures begin_rises { IfOk result (λ prepared. AreRising prepared.touches.begin.items) }
     ensures end_rises { IfOk result (λ prepared. AreRising prepared.touches.end.items) }
     ensures changes { IfOk result (λ prepared. prepared.changes.items ≡ key_changes bodies.old.bodies prepared.touches.begin.items prepared.touches.end.items) }
@@ -84,7 +87,7 @@ pub(crate) fn prepare(
     let alloc = bodies.allocator();
     ledger.reserve(MAX_STEP_ENTRIES)?;
     bodies.flush();
-    let touches = collide(alloc, contacts, bodies, joints)?;
+    let touches = collide(mapper, alloc, contacts, bodies, joints)?;
     let changes = list_changes(alloc, bodies.bodies(), &touches.begin, &touches.end)?;
     let begun = touches.begin.len();
     sets.reserve(begun, 0)?;

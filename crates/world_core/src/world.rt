@@ -29,11 +29,13 @@ use crate::colour_ids::copy_ids;
 use crate::frame::{Frame, show_bodies};
 use crate::parts::{copy_body_parts, copy_constraint_parts, copy_joint_parts, copy_records};
 use crate::scratch::Scratch;
+use crate::step_worker::{OneThread, StepWorker, WorldLook};
 use body_handles::{Handle, Handles, SlotEntry};
 use box_tree::BoxTree;
-use colour_solver::{OneThread, Rows, StepSolver};
+use colour_solver::Rows;
 use contacts::{Constraint, ContactTable};
 use contacts_base::ContactEntry;
+use crew::PieceMap;
 use event_feed::Events;
 use fixed_geom::{Refusal, Vec2, ZERO_VECTOR, is_within};
 use impulse_ledger::Ledger;
@@ -156,7 +158,7 @@ impl WorldCore {
     }
 
     /// The same, with this solver to run the ticks of a step, on one thread or on many.
-    pub fn apply_by<S: StepSolver>(
+    pub fn apply_by<S: StepWorker + PieceMap<WorldLook>>(
         &mut self,
         solver: &mut S,
         command: &Command,
@@ -192,7 +194,11 @@ impl WorldCore {
     }
 
     /// The same, its ticks run by this solver.
-    pub fn step_by<S: StepSolver>(&mut self, solver: &mut S, ticks: i64) -> Result<Reply, Refusal>
+    pub fn step_by<S: StepWorker + PieceMap<WorldLook>>(
+        &mut self,
+        solver: &mut S,
+        ticks: i64,
+    ) -> Result<Reply, Refusal>
         ensures { Answers (apply self.old.plain (Command.Step ticks)) self.old result self.new }
     {
         self.apply_by(solver, &Command::Step(ticks))

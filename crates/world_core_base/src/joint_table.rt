@@ -24,6 +24,7 @@ use packed_sets::{PackedSets, SolverSets};
 use plain_world::{Body, BodyJoint, clear_slot, put_item};
 use std::alloc::Global;
 use std::marker::Model;
+use std::mem;
 
 /// The joints by slot. Contracts see what each slot contains (`joints`), and the two bodies for a joint of which there
 /// is room (`room`).
@@ -219,5 +220,9 @@ impl ForbiddenPairs for JointTable {
             return false;
         }
         either_keeps_apart(&self.joints, ends, self.ends.members(b), a, b)
+    }
+
+    fn taken(&mut self, alloc: Global) -> JointTable {
+        mem::replace(self, JointTable::new(alloc))
     }
 }

@@ -24,7 +24,9 @@ use solver_sets::laws::ties_are_within;
 use std::alloc::Global;
 use std::marker::Model;
 use std::sync::Arc;
-use world_core::{Command, Events, Frame, OneThread, Reply, StepSolver, each_call_counts};
+use world_core::{
+    Command, Events, Frame, OneThread, PieceMap, Reply, StepWorker, WorldLook, each_call_counts,
+};
 use world_rules::{
     colours_are_apart, linked_movers_stand_together, sleeping_sets_are_components,
     what_acts_has_a_colour,
@@ -131,7 +133,7 @@ impl<N: Opened> Held<N> {
     }
 
     /// A step of a seat: a call of it, its ticks run by this solver.
-    pub fn step<S: StepSolver>(
+    pub fn step<S: StepWorker + PieceMap<WorldLook>>(
         &mut self,
         book: &Book<N, Command, Reply>,
         seat: &mut Seat<N>,
@@ -149,7 +151,7 @@ impl<N: Opened> Held<N> {
     }
 
     /// A call of a seat, with this solver for the ticks of a step.
-    fn call_by<S: StepSolver>(
+    fn call_by<S: StepWorker + PieceMap<WorldLook>>(
         &mut self,
         book: &Book<N, Command, Reply>,
         seat: &mut Seat<N>,

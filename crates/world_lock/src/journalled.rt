@@ -15,7 +15,7 @@ use fixed_geom::Refusal;
 use seat_book::{Call, Entry};
 use std::marker::Model;
 use std::mem;
-use world_core::{Command, Reply, StepSolver, WorldCore};
+use world_core::{Command, PieceMap, Reply, StepWorker, WorldCore, WorldLook};
 
 /// An accepted call: its seat, which of the seat's calls it is, what was asked, and what was answered.
 pub type JournalEntry = Entry<Command, Reply>;
@@ -41,7 +41,7 @@ impl Model for JournalledWorld {
 }
 
 /// What the world answers to a command, the ticks of a step run by this solver; it is sound whatever it answers.
-fn applied<S: StepSolver>(
+fn applied<S: StepWorker + PieceMap<WorldLook>>(
     world: &mut WorldCore,
     solver: &mut S,
     command: &Command,
@@ -98,7 +98,7 @@ impl JournalledWorld {
     /// A call of a seat: the world applies the command, with this solver for the ticks of a step, and the journal grows
     /// by just this. A refusal changes nothing; the room for the journal's entry is made before all else, so want of it
     /// is answered first.
-    pub fn call<S: StepSolver>(
+    pub fn call<S: StepWorker + PieceMap<WorldLook>>(
         &mut self,
         solver: &mut S,
         seat: u64,

@@ -19,7 +19,7 @@ use fixed_geom::Refusal;
 use seat_book::{Book, Keeper, Pass, Roster, open};
 use std::alloc::Global;
 use std::sync::{Arc, Mutex, Wait};
-use world_core::{Command, Events, Frame, Reply, StepSolver, WorldCore};
+use world_core::{Command, Events, Frame, PieceMap, Reply, StepWorker, WorldCore, WorldLook};
 
 /// A world that seats share. Each accepted call takes the lock, applies one command, appends one entry to the journal,
 /// and gives the lock back.
@@ -182,7 +182,7 @@ impl<N: Opened> SharedWorld<N> {
     }
 
     /// Makes a step through a seat: a call of it, its ticks run by this solver, under the lock.
-    pub fn step<R: Wait, S: StepSolver>(
+    pub fn step<R: Wait, S: StepWorker + PieceMap<WorldLook>>(
         &self,
         rt: &R,
         seat: &mut Seat<N>,

@@ -1,1 +1,3 @@
 mod WorkerLaws
+mod TaskLaws
+mod CrossingLaws

@@ -4,10 +4,11 @@ ghost use Rattle.std.specs.Prelude.{◌≡◌, IfErr};
 ghost use Rattle.crew.specs.Refusals.{MayRefuseStart};
 ghost use Rattle.world_workers.specs.Workers.{AnswersByThreads, step_due};
 
+use crate::step_crew::StepCrew;
 use crate::steps::{are_workers, is_for_one};
 use crew::Gate;
 use fixed_geom::Refusal;
-use part_solver::{PartCrew, PartMemory};
+use part_solver::PartMemory;
 use std::alloc::Global;
 use std::marker::Model;
 use std::mem;
@@ -24,7 +25,7 @@ pub struct StepWorkers<'s, 'e, E, R, G: Gate> {
     alloc: Global,
     gate: &'s G,
     workers: u64,
-    crew: Option<PartCrew<'s, R, G>>,
+    crew: Option<StepCrew<'s, R, G>>,
 }
 
 impl<'s, 'e, E, R, G: Gate> Model for StepWorkers<'s, 'e, E, R, G> {
@@ -58,13 +59,13 @@ impl<'s, 'e, E, R: Threads + Wait + Sync, G: Gate + Sync> StepWorkers<'s, 'e, E,
 
     /// The workers, started where none are. Refused 5 where they aren't 1 to 64, 1 where memory is wanting, and 11
     /// where a thread can't be started.
-    fn hired(&mut self) -> Result<PartCrew<'s, R, G>, Refusal>
+    fn hired(&mut self) -> Result<StepCrew<'s, R, G>, Refusal>
         ensures refused { IfErr result (MayRefuseStart self.old) }
         ensures workers { self.new ≡ self.old }
     {
         match mem::replace(&mut self.crew, None) {
             Some(crew) => Ok(crew),
-            None => PartCrew::start(
+            None => StepCrew::start(
                 self.scope,
                 self.rt,
                 self.alloc,
@@ -76,7 +77,7 @@ impl<'s, 'e, E, R: Threads + Wait + Sync, G: Gate + Sync> StepWorkers<'s, 'e, E,
     }
 
     /// Keeps the workers for the next step.
-    fn keep(&mut self, crew: PartCrew<'s, R, G>)
+    fn keep(&mut self, crew: StepCrew<'s, R, G>)
         ensures { self.new ≡ self.old }
     {
         if let Some(other) = mem::replace(&mut self.crew, Some(crew)) {

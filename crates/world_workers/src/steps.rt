@@ -7,9 +7,10 @@ ghost use Rattle.world_rules.specs.Apply.{apply};
 ghost use Rattle.world_rules.specs.declared.command.Command.TheVariants.{Step};
 ghost use Rattle.world_workers.specs.Workers.{AnswersByThreads, step_due};
 
+use crate::step_crew::StepCrew;
 use crew::Gate;
 use fixed_geom::{Refusal, ZERO_VECTOR};
-use part_solver::{LEAST_CONSTRAINTS, LEAST_PARTS, PartCrew, PartMemory};
+use part_solver::{LEAST_CONSTRAINTS, LEAST_PARTS, PartMemory};
 use std::alloc::Global;
 use std::sync::Wait;
 use std::thread::{Scope, Threads};
@@ -59,7 +60,7 @@ fn step_in<'s, E, R: Threads + Wait + Sync, G: Gate + Sync>(
     ensures { AnswersByThreads (apply task.world.plain (Step task.ticks)) task.world result.answer result.world }
 {
     let Task { mut world, ticks } = task;
-    match PartCrew::start(scope, rt, alloc, gate, workers, PartMemory::new(alloc)) {
+    match StepCrew::start(scope, rt, alloc, gate, workers, PartMemory::new(alloc)) {
         Err(refused) => Done {
             world,
             answer: Err(refused),

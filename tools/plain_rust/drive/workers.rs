@@ -2,7 +2,7 @@
 
 use shim::{Global, Runtime, scope, scope_env};
 use world_core::{Refusal, Reply, WorldCore};
-use world_workers::{OpenGate, PartCrew, PartMemory, StepWorkers};
+use world_workers::{OpenGate, StepCrew, PartMemory, StepWorkers};
 
 /// Makes a step of so many ticks.
 pub type Stepper<'a> = dyn FnMut(&mut WorldCore, i64) -> Result<Reply, Refusal> + 'a;
@@ -27,7 +27,7 @@ pub fn with_steps(run: &mut dyn FnMut(&mut Stepper)) {
     scope(scope_env(), &Runtime, |scope| {
         if all {
             let memory = PartMemory::for_all_steps(Global);
-            let crew = PartCrew::start(scope, &Runtime, Global, &OpenGate, count as usize, memory);
+            let crew = StepCrew::start(scope, &Runtime, Global, &OpenGate, count as usize, memory);
             let mut crew = crew.ok().expect("workers that start");
             run(&mut |world, ticks| world.step_by(&mut crew, ticks));
             drop(crew.end());

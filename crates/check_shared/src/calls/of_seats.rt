@@ -6,7 +6,9 @@ use crate::texts::text_of_frame;
 use check_scenes::{CallMark, World, hit_in};
 use std::alloc::Global;
 use std::sync::{Mutex, Wait};
-use world_core::{Command, Events, Frame, Refusal, Reply, StepSolver, Total, Vec2, WorldCore};
+use world_core::{
+    Command, Events, Frame, PieceMap, Refusal, Reply, StepWorker, Total, Vec2, WorldCore, WorldLook,
+};
 use world_lock::{Closed, JournalEntry, Opened, Receipt, Seat, SharedWorld, Tally};
 use world_queries::Hit;
 
@@ -82,7 +84,7 @@ pub trait Called<T> {
     fn call<R: Wait>(&self, rt: &R, seat: &mut T, command: Command) -> SeatAnswer;
 
     /// A step, its ticks run by this solver under the lock.
-    fn step<R: Wait, S: StepSolver>(
+    fn step<R: Wait, S: StepWorker + PieceMap<WorldLook>>(
         &self,
         rt: &R,
         seat: &mut T,
@@ -144,7 +146,7 @@ impl<N: Opened> Called<Seat<N>> for SharedWorld<N> {
         SharedWorld::call(self, rt, seat, command)
     }
 
-    fn step<R: Wait, S: StepSolver>(
+    fn step<R: Wait, S: StepWorker + PieceMap<WorldLook>>(
         &self,
         rt: &R,
         seat: &mut Seat<N>,

@@ -8,9 +8,9 @@ use std::alloc::Global;
 use std::sync::{Mutex, Wait};
 use std::thread;
 use std::thread::{Scope, Threads};
-use world_core::{Command, Refusal, StepSolver, Vec2};
+use world_core::{Command, PieceMap, Refusal, StepWorker, Vec2, WorldLook};
 use world_lock::{Opened, Seat, SharedWorld, may_be_shared};
-use world_workers::{PartCrew, PartMemory};
+use world_workers::{PartMemory, StepCrew};
 
 /// Where the ray begins that is cast in each frame.
 pub const FROM: Vec2 = Vec2 {
@@ -21,7 +21,7 @@ pub const FROM: Vec2 = Vec2 {
 /// The ray's way.
 pub const ALONG: Vec2 = Vec2 { x: 2_000_000, y: 0 };
 
-fn take_turn<T, S: Called<T>, R: Wait, V: StepSolver>(
+fn take_turn<T, S: Called<T>, R: Wait, V: StepWorker + PieceMap<WorldLook>>(
     rt: &R,
     shared: &S,
     seat: &mut T,
@@ -40,7 +40,7 @@ fn take_turn<T, S: Called<T>, R: Wait, V: StepSolver>(
     }
 }
 
-fn take_turns<T, S: Called<T>, R: Wait, V: StepSolver>(
+fn take_turns<T, S: Called<T>, R: Wait, V: StepWorker + PieceMap<WorldLook>>(
     rt: &R,
     shared: &S,
     seat: &mut T,
@@ -65,7 +65,7 @@ fn take_turns_by_workers<'s, E, T, S: Called<T>, R: Threads + Wait + Sync>(
     round: &'s Round,
 ) {
     let memory = PartMemory::for_all_steps(alloc);
-    if let Ok(mut crew) = PartCrew::start(scope, rt, alloc, round, task.workers, memory) {
+    if let Ok(mut crew) = StepCrew::start(scope, rt, alloc, round, task.workers, memory) {
         let notes = take_turns(rt, shared, seat, &mut crew, task);
         drop(crew.end());
         round.finish(rt, notes);

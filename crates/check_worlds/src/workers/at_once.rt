@@ -9,8 +9,8 @@ use std::alloc::Global;
 use std::sync::Wait;
 use std::thread;
 use std::thread::{Scope, Threads};
-use world_core::{Refusal, StepSolver};
-use world_workers::{PartCrew, PartMemory, StepWorkers};
+use world_core::{PieceMap, Refusal, StepWorker, WorldLook};
+use world_workers::{PartMemory, StepCrew, StepWorkers};
 
 /// How many ticks each step has.
 const TICKS: i64 = 4;
@@ -132,7 +132,7 @@ fn are_alike_kept<R: AllocGlobal + Threads + Wait + Sync, W: WholeWorld>(
 }
 
 /// Whether each step by this solver leaves what one thread leaves.
-fn are_steps_by<W: WholeWorld, S: StepSolver>(
+fn are_steps_by<W: WholeWorld, S: StepWorker + PieceMap<WorldLook>>(
     alloc: Global,
     world: &mut W,
     solver: &mut S,
@@ -148,7 +148,7 @@ fn are_steps_by<W: WholeWorld, S: StepSolver>(
 }
 
 /// The same from the beginning.
-fn are_alike_by<W: WholeWorld, S: StepSolver>(
+fn are_alike_by<W: WholeWorld, S: StepWorker + PieceMap<WorldLook>>(
     alloc: Global,
     worlds: &mut Worlds<W>,
     solver: &mut S,
@@ -169,7 +169,7 @@ fn are_steps_of<'s, E, W: WholeWorld, R: Threads + Wait + Sync, G: Gate + Sync>(
     after: &[String],
 ) -> Result<bool, Refusal> {
     let memory = PartMemory::for_all_steps(alloc);
-    match PartCrew::start(scope, rt, alloc, gate, workers, memory) {
+    match StepCrew::start(scope, rt, alloc, gate, workers, memory) {
         Ok(mut crew) => {
             let are_same = are_alike_by(alloc, worlds, &mut crew, after);
             drop(crew.end());

@@ -7,7 +7,7 @@ use std::sync::Wait;
 use std::thread;
 use std::thread::{Scope, Threads};
 use world_core::{Refusal, Reply, WorldCore};
-use world_workers::{PartCrew, PartMemory, StepWorkers, step_with};
+use world_workers::{PartMemory, StepCrew, StepWorkers, step_with};
 
 /// So many ticks by so many workers.
 #[derive(Clone, Copy)]
@@ -45,7 +45,7 @@ fn step_by_crew<'s, E, R: Threads + Wait + Sync, G: Gate + Sync>(
     step: WorkerStep,
 ) -> Result<Reply, Refusal> {
     let memory = PartMemory::for_all_steps(alloc);
-    let mut crew = PartCrew::start(scope, rt, alloc, gate, step.workers as usize, memory)?;
+    let mut crew = StepCrew::start(scope, rt, alloc, gate, step.workers as usize, memory)?;
     let answer = world.step_by(&mut crew, step.ticks);
     drop(crew.end());
     answer

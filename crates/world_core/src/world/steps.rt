@@ -10,7 +10,8 @@ use crate::committing::commit_collide;
 use crate::preparing::prepare;
 use crate::sleep_phase::rest_after_ticks;
 use crate::solving::solve;
-use colour_solver::StepSolver;
+use crate::step_worker::{StepWorker, WorldLook};
+use crew::PieceMap;
 use fixed_geom::{Refusal, Vec2, is_within};
 use shapes::is_between;
 use world_rules::{MAX_TICKS, Reply};
@@ -45,9 +46,9 @@ impl WorldCore {
         Ok(Reply::Done)
     }
 
-    pub(super) fn step<S: StepSolver>(
+    pub(super) fn step<S: StepWorker + PieceMap<WorldLook>>(
         &mut self,
-        solver: &mut S,
+        worker: &mut S,
         ticks: i64,
     ) -> Result<Reply, Refusal>
         requires { self.old.plain.calls < 2 ^ 40 }
@@ -55,9 +56,10 @@ impl WorldCore {
     {
         let ticks = tick_count(ticks)?;
         let prepared = prepare(
+            worker,
             &mut self.ledger,
             &mut self.bodies,
-            &self.joints,
+            &mut self.joints,
             &mut self.contacts,
             &mut self.sets,
             &mut self.rows,
@@ -77,7 +79,7 @@ impl WorldCore {
             &prepared,
         );
         let sums = solve(
-            solver,
+            worker,
             &mut self.rows,
             &mut self.scratch.contact_places,
             &mut self.bodies,

@@ -221,3 +221,38 @@ where
     }
     Ok(Crew { gate, bell, round: 0, posts, threads })
 }
+
+/// A piece of work over what is lent to all pieces.
+pub trait Piece {
+    type Lent;
+    type Out;
+
+    fn work(self, lent: &Self::Lent) -> Self::Out;
+}
+
+/// What was lent and comes back, and whether the pieces are worked.
+pub struct Returned<L> {
+    pub lent: L,
+    pub is_done: bool,
+}
+
+/// Who works pieces.
+pub trait PieceMap<P: Piece> {
+    fn workers(&self) -> usize;
+
+    fn map_pieces(&mut self, lent: P::Lent, pieces: &mut Vec<P>, answers: &mut Vec<P::Out>) -> Returned<P::Lent>;
+}
+
+/// The thread that calls, which cuts nothing up.
+#[derive(Clone, Copy)]
+pub struct CallingThread;
+
+impl<P: Piece> PieceMap<P> for CallingThread {
+    fn workers(&self) -> usize {
+        1
+    }
+
+    fn map_pieces(&mut self, lent: P::Lent, _: &mut Vec<P>, _: &mut Vec<P::Out>) -> Returned<P::Lent> {
+        Returned { lent, is_done: false }
+    }
+}

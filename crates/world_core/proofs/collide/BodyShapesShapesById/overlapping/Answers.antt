@@ -10,5 +10,5 @@ pub returns-clause-complete : goal.returns-clause-complete
 returns-clause-complete c =
     rw (← c.self.view_is)
     (if_ok_then _ _ c.overlapping.result
-    (λ slots same. subst (λ (keys : List ℕ). All (λ (p : Proxy). overlaps p.fat c.args.wanted.now ≡ true → Contains keys p.id.slot) (proxies_of c.self.inside.table.now.bodies)) (sym same) (overlapping_listed c.args.wanted.now c.self.inside.table.now.bodies c.boxes.result.now c.boxes.ensures.covered))
+    (λ slots same. subst (λ (keys : List ℕ). All (λ (p : Proxy). overlaps p.fat c.args.wanted.now ≡ true → Contains keys p.id.slot) (proxies_of c.self.inside.table.bodies)) (sym same) (overlapping_listed c.args.wanted.now c.self.inside.table.bodies c.boxes.result.now c.boxes.ensures.covered))
     c.overlapping.ensures.keys)

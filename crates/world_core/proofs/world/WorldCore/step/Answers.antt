@@ -56,14 +56,14 @@ returns-in_err-prepared g c =
     let same : to_z w64 (of_z w64 c.args.ticks) ≡ c.args.ticks = grind (arith, to_z-of_z) in
     let counted : AreCounted c.args.ticks c.in_ok-ticks.ticks = are_counted c.args.ticks _ c.in_ok-ticks.ticks same c.in_ok-ticks.ensures in
     let refused : c.from_residual-in_err-prepared.result ≡ Err NoMemory = is_refusal _ _ c.from_residual-in_err-prepared.ensures.0 c.from_residual-in_err-prepared.ensures.1 c.in_err-prepared.ensures.memory_only in
-    rw (← c.self.view_is) (step_refused (the_view c.self.inside) _ c.args.ticks _ counted.between refused (rw (c.in_err-prepared.ensures.bodies, c.in_err-prepared.ensures.contacts, c.in_err-prepared.ensures.acting, c.in_err-prepared.ensures.entries, c.in_err-prepared.ensures.settled) refl))
+    rw (← c.self.view_is) (step_refused (the_view c.self.inside) _ c.args.ticks _ counted.between refused (rw (c.in_err-prepared.ensures.bodies, c.in_err-prepared.ensures.joints, c.in_err-prepared.ensures.contacts, c.in_err-prepared.ensures.acting, c.in_err-prepared.ensures.entries, c.in_err-prepared.ensures.settled) refl))
 
 pub returns-in_err-reserve : goal.returns-in_err-reserve
 returns-in_err-reserve g c =
     let same : to_z w64 (of_z w64 c.args.ticks) ≡ c.args.ticks = grind (arith, to_z-of_z) in
     let counted : AreCounted c.args.ticks c.in_ok-ticks.ticks = are_counted c.args.ticks _ c.in_ok-ticks.ticks same c.in_ok-ticks.ensures in
     let refused : c.from_residual-in_err-reserve.result ≡ Err NoMemory = is_refusal _ _ c.from_residual-in_err-reserve.ensures.0 c.from_residual-in_err-reserve.ensures.1 c.in_err-reserve.ensures.memory_only in
-    rw (← c.self.view_is) (step_refused (the_view c.self.inside) _ c.args.ticks _ counted.between refused (rw (c.in_ok-prepared.ensures.bodies, c.in_ok-prepared.ensures.contacts, c.in_ok-prepared.ensures.acting, c.in_ok-prepared.ensures.entries, c.in_ok-prepared.ensures.settled) refl))
+    rw (← c.self.view_is) (step_refused (the_view c.self.inside) _ c.args.ticks _ counted.between refused (rw (c.in_ok-prepared.ensures.bodies, c.in_ok-prepared.ensures.joints, c.in_ok-prepared.ensures.contacts, c.in_ok-prepared.ensures.acting, c.in_ok-prepared.ensures.entries, c.in_ok-prepared.ensures.settled) refl))
 
 -- ---- what is carried out before the ticks
 
@@ -91,10 +91,10 @@ pub commit_collide-requires-clause-told : goal.commit_collide-requires-clause-to
 commit_collide-requires-clause-told g c = rw (c.in_ok-prepared.ensures.bodies, c.in_ok-prepared.ensures.acting) (kept_of _ _ c.self.invariant.whole).told
 
 pub commit_collide-requires-clause-can_tell : goal.commit_collide-requires-clause-can_tell
-commit_collide-requires-clause-can_tell g c = rw (c.slot_entries.ensures, c.in_ok-prepared.ensures.contacts) (world_can_tell (the_view c.self.inside) c.self.inside.sets.acting c.self.invariant.whole)
+commit_collide-requires-clause-can_tell g c = rw (c.slot_entries.ensures, c.in_ok-prepared.ensures.joints, c.in_ok-prepared.ensures.contacts) (world_can_tell (the_view c.self.inside) c.self.inside.sets.acting c.self.invariant.whole)
 
 pub commit_collide-requires-clause-ties : goal.commit_collide-requires-clause-ties
-commit_collide-requires-clause-ties g c = rw (c.slot_entries.ensures, c.in_ok-prepared.ensures.bodies, c.in_ok-prepared.ensures.contacts, c.in_ok-prepared.ensures.acting) (world_ties (the_view c.self.inside) c.self.inside.sets.acting c.self.invariant.whole)
+commit_collide-requires-clause-ties g c = rw (c.slot_entries.ensures, c.in_ok-prepared.ensures.bodies, c.in_ok-prepared.ensures.joints, c.in_ok-prepared.ensures.contacts, c.in_ok-prepared.ensures.acting) (world_ties (the_view c.self.inside) c.self.inside.sets.acting c.self.invariant.whole)
 
 pub commit_collide-requires-clause-contacts_standing : goal.commit_collide-requires-clause-contacts_standing
 commit_collide-requires-clause-contacts_standing g c =
@@ -129,7 +129,7 @@ pub solve-sums-requires-clause-bodies : goal.solve-sums-requires-clause-bodies
 solve-sums-requires-clause-bodies g c = bodies_changed (the_view c.self.inside) c.self.inside.sets.acting c.commit_collide.new.sets.acting c.commit_collide.new.bodies.bodies c.commit_collide.new.contacts.contacts c.self.invariant.whole (changed_then g c)
 
 pub solve-sums-requires-clause-can : goal.solve-sums-requires-clause-can
-solve-sums-requires-clause-can g c = rw c.colours.ensures.lists (can_solve_changed (the_view c.self.inside) c.self.inside.sets.acting c.commit_collide.new.sets.acting c.commit_collide.new.bodies.bodies c.commit_collide.new.contacts.contacts c.self.invariant.whole (changed_then g c))
+solve-sums-requires-clause-can g c = rw (c.colours.ensures.lists, c.in_ok-prepared.ensures.joints) (can_solve_changed (the_view c.self.inside) c.self.inside.sets.acting c.commit_collide.new.sets.acting c.commit_collide.new.bodies.bodies c.commit_collide.new.contacts.contacts c.self.invariant.whole (changed_then g c))
 
 pub solve-sums-requires-clause-ticks : goal.solve-sums-requires-clause-ticks
 solve-sums-requires-clause-ticks g c =
@@ -141,7 +141,7 @@ pub solve-sums-requires-clause-apart : goal.solve-sums-requires-clause-apart
 solve-sums-requires-clause-apart g c = rw c.colours.ensures.lists (apart_changed (the_view c.self.inside) c.self.inside.sets.acting c.commit_collide.new.sets.acting c.commit_collide.new.bodies.bodies c.commit_collide.new.contacts.contacts c.self.invariant.whole (changed_then g c))
 
 pub solve-sums-requires-clause-movers : goal.solve-sums-requires-clause-movers
-solve-sums-requires-clause-movers g c = rw c.colours.ensures.lists (movers_changed (the_view c.self.inside) c.self.inside.sets.acting c.commit_collide.new.sets.acting c.commit_collide.new.bodies.bodies c.commit_collide.new.contacts.contacts c.self.invariant.whole (changed_then g c))
+solve-sums-requires-clause-movers g c = rw (c.colours.ensures.lists, c.in_ok-prepared.ensures.joints) (movers_changed (the_view c.self.inside) c.self.inside.sets.acting c.commit_collide.new.sets.acting c.commit_collide.new.bodies.bodies c.commit_collide.new.contacts.contacts c.self.invariant.whole (changed_then g c))
 
 pub solve-sums-requires-clause-room : goal.solve-sums-requires-clause-room
 solve-sums-requires-clause-room g c =
@@ -157,10 +157,10 @@ changed_left g c =
 
 solved_left : (g : given.Over) (c : goal.After-rest_after_ticks-arg-7-1 g) → HasSolved (the_view c.self.inside) c.in_ok-ticks.ticks c.solve-sums.new.bodies.bodies c.solve-sums.new.joints.joints c.solve-sums.new.contacts.contacts c.solve-sums.result
 solved_left g c =
-    let to_bodies = rw c.colours.ensures.lists at c.solve-sums.ensures.bodies in
-    let to_joints = rw c.colours.ensures.lists at c.solve-sums.ensures.joints in
-    let to_contacts = rw c.colours.ensures.lists at c.solve-sums.ensures.contacts in
-    let to_sums = rw c.colours.ensures.lists at c.solve-sums.ensures.sums in
+    let to_bodies = rw (c.colours.ensures.lists, c.in_ok-prepared.ensures.joints) at c.solve-sums.ensures.bodies in
+    let to_joints = rw (c.colours.ensures.lists, c.in_ok-prepared.ensures.joints) at c.solve-sums.ensures.joints in
+    let to_contacts = rw (c.colours.ensures.lists, c.in_ok-prepared.ensures.joints) at c.solve-sums.ensures.contacts in
+    let to_sums = rw (c.colours.ensures.lists, c.in_ok-prepared.ensures.joints) at c.solve-sums.ensures.sums in
     let are : AreTicks c.commit_collide.new.bodies.bodies c.solve-sums.new.bodies.bodies c.solve-sums.new.joints.joints c.solve-sums.new.contacts.contacts c.solve-sums.result = record {
       bodies = c.solve-sums.ensures.all_bodies;
       slots = c.solve-sums.ensures.slots;
@@ -232,10 +232,10 @@ changed_at_last g c =
 
 solved_at_last : (g : given.Over) (c : goal.After-record_step-arg-3-1 g) → HasSolved (the_view c.self.inside) c.in_ok-ticks.ticks c.solve-sums.new.bodies.bodies c.solve-sums.new.joints.joints c.solve-sums.new.contacts.contacts c.solve-sums.result
 solved_at_last g c =
-    let to_bodies = rw c.colours.ensures.lists at c.solve-sums.ensures.bodies in
-    let to_joints = rw c.colours.ensures.lists at c.solve-sums.ensures.joints in
-    let to_contacts = rw c.colours.ensures.lists at c.solve-sums.ensures.contacts in
-    let to_sums = rw c.colours.ensures.lists at c.solve-sums.ensures.sums in
+    let to_bodies = rw (c.colours.ensures.lists, c.in_ok-prepared.ensures.joints) at c.solve-sums.ensures.bodies in
+    let to_joints = rw (c.colours.ensures.lists, c.in_ok-prepared.ensures.joints) at c.solve-sums.ensures.joints in
+    let to_contacts = rw (c.colours.ensures.lists, c.in_ok-prepared.ensures.joints) at c.solve-sums.ensures.contacts in
+    let to_sums = rw (c.colours.ensures.lists, c.in_ok-prepared.ensures.joints) at c.solve-sums.ensures.sums in
     let are : AreTicks c.commit_collide.new.bodies.bodies c.solve-sums.new.bodies.bodies c.solve-sums.new.joints.joints c.solve-sums.new.contacts.contacts c.solve-sums.result = record {
       bodies = c.solve-sums.ensures.all_bodies;
       slots = c.solve-sums.ensures.slots;
@@ -272,10 +272,10 @@ after_changes g c =
 
 solved : (g : given.Over) (c : goal.After-drop-prepared-3 g) → HasSolved (the_view c.self.inside) c.in_ok-ticks.ticks c.solve-sums.new.bodies.bodies c.solve-sums.new.joints.joints c.solve-sums.new.contacts.contacts c.solve-sums.result
 solved g c =
-    let to_bodies = rw c.colours.ensures.lists at c.solve-sums.ensures.bodies in
-    let to_joints = rw c.colours.ensures.lists at c.solve-sums.ensures.joints in
-    let to_contacts = rw c.colours.ensures.lists at c.solve-sums.ensures.contacts in
-    let to_sums = rw c.colours.ensures.lists at c.solve-sums.ensures.sums in
+    let to_bodies = rw (c.colours.ensures.lists, c.in_ok-prepared.ensures.joints) at c.solve-sums.ensures.bodies in
+    let to_joints = rw (c.colours.ensures.lists, c.in_ok-prepared.ensures.joints) at c.solve-sums.ensures.joints in
+    let to_contacts = rw (c.colours.ensures.lists, c.in_ok-prepared.ensures.joints) at c.solve-sums.ensures.contacts in
+    let to_sums = rw (c.colours.ensures.lists, c.in_ok-prepared.ensures.joints) at c.solve-sums.ensures.sums in
     let are : AreTicks c.commit_collide.new.bodies.bodies c.solve-sums.new.bodies.bodies c.solve-sums.new.joints.joints c.solve-sums.new.contacts.contacts c.solve-sums.result = record {
       bodies = c.solve-sums.ensures.all_bodies;
       slots = c.solve-sums.ensures.slots;
@@ -305,8 +305,8 @@ are_left g c =
 pub rest_after_ticks-rest-requires-clause-standing : goal.rest_after_ticks-rest-requires-clause-standing
 rest_after_ticks-rest-requires-clause-standing g c =
     let same = c.solve-sums.ensures.slots.slots in
-    joints_by_ends c.solve-sums.new.bodies.bodies c.self.inside.joints.joints c.solve-sums.new.joints.joints c.commit_collide.new.stands c.solve-sums.ensures.ends
-    (joints_alike c.commit_collide.new.bodies.bodies c.solve-sums.new.bodies.bodies c.self.inside.joints.joints c.commit_collide.new.stands (omega (arith, same)) c.solve-sums.ensures.stands c.commit_collide.ensures.standing)
+    joints_by_ends c.solve-sums.new.bodies.bodies c.prepare.new.joints.joints c.solve-sums.new.joints.joints c.commit_collide.new.stands c.solve-sums.ensures.ends
+    (joints_alike c.commit_collide.new.bodies.bodies c.solve-sums.new.bodies.bodies c.prepare.new.joints.joints c.commit_collide.new.stands (omega (arith, same)) c.solve-sums.ensures.stands c.commit_collide.ensures.standing)
 
 pub rest_after_ticks-rest-requires-clause-contacts_standing : goal.rest_after_ticks-rest-requires-clause-contacts_standing
 rest_after_ticks-rest-requires-clause-contacts_standing g c =
@@ -330,7 +330,7 @@ invariant_of-self-2 g c =
     c.solve-sums.result (as_vector c.rest_after_ticks-rest.result) c.record_step.new.events c.self.invariant.whole calls few (are_left g c))))
     c.in_ok-prepared.ensures.bodies refl
     (marked_after (cleared c.prepare.new.bodies) c.solve-sums.new.bodies c.rest_after_ticks-rest.new.bodies (marked_after (cleared c.prepare.new.bodies) c.commit_collide.new.bodies c.solve-sums.new.bodies c.commit_collide.ensures.marked c.solve-sums.ensures.marked) c.rest_after_ticks-rest.ensures.marked)
-    c.solve-sums.ensures.forbidden (c.solve-sums.ensures.numbers ∙ ap (λ (es : List ContactEntry). map number_of es) (c.commit_collide.ensures.contacts ∙ c.in_ok-prepared.ensures.pending))
+    (rw c.in_ok-prepared.ensures.joints at c.solve-sums.ensures.forbidden) (c.solve-sums.ensures.numbers ∙ ap (λ (es : List ContactEntry). map number_of es) (c.commit_collide.ensures.contacts ∙ c.in_ok-prepared.ensures.pending))
     c.rest_after_ticks-rest.new.stands c.rest_after_ticks-rest.ensures.standing c.solve-sums.new.contacts.numbered c.rest_after_ticks-rest.new.contact_stands c.rest_after_ticks-rest.ensures.contacts_standing
 
 pub returns : goal.returns
