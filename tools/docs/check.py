@@ -11,7 +11,8 @@ It tests that each of these is there:
 - the page, the file and the heading to which a link leads;
 
 and that a number of crates or of definitions is one that the sources have, and a version the one that the program prints. A section that is
-meant to name every crate does, and the headline is the same sentence on each page that has it.
+meant to name every crate does, and the headline is the same sentence on each page that has it. So is each figure of `SAME`, and README.md's speed is
+that of BENCH.md's first table.
 What fails is printed with its page and line. Where dist/ is of other sources than the tree's, a line says so, and fails nothing.
 The last line is `N passed, M failed`.
 """
@@ -44,6 +45,15 @@ BOOK = TOP / "docs" / "definitions"
 NAME_ALL = {"PROVED.md": "## What wrong code would pass", "ARCHITECTURE.md": "## The crates"}
 # How the headline begins and ends.
 HEADLINE = re.compile(r"Whenever the (?:world's )?lock is free, (.*? called or solved)\.", re.S)
+# Figures that several pages say.
+SAME = {
+    "the Box2D that is measured": re.compile(r"Box2D (2\.\d+\.\d+)"),
+    "the kit": re.compile(r"rattle-kit-(\w+)"),
+    "the gate's minutes": re.compile(r"\b(\d+) (?:minutes |by the clock )?on four processors"),
+    "the milliseconds of a save": re.compile(r"some (\d+) milliseconds (?:of a processor for )?a megabyte"),
+}
+# A row of BENCH.md's first table: the scene, and then nanoseconds, with a ratio after those of another program.
+STEPS = re.compile(r"^\| \w+, [\d,]+ \| ([\d,]+) \| ([\d,]+) \| ([\d.]+) \| ([\d,]+) \| ([\d.]+) \|", re.M)
 # CRATE/NAME is short for a file of one of these folders of a crate, without its ending.
 SHORT_FORMS = [(folder, end) for folder in ("src", "specs", "proofs", ".") for end in ("", ".rt", ".antt")]
 SHORT_FORMS += [(folder, ".edit") for folder in ("must-fail", "must-fail-beside-the-gate", ".")]
@@ -167,6 +177,7 @@ class Check:
         self.repository = repository
         self.passed = self.failed = 0
         self.anchors = {}
+        self.figures = {}
         self.headline = None
 
     def test(self, holds, page, place, complaint):
@@ -201,6 +212,19 @@ class Check:
             said = " ".join(found.group(1).replace("\n>", " ").split())
             self.headline = self.headline or said
             self.test(said == self.headline, page, text[: found.start()].count("\n") + 1, "another headline than that of the page before")
+        for what, figure in SAME.items():
+            for said in figure.findall(" ".join(text.split())):
+                first = self.figures.setdefault(what, (said, page.name))
+                self.test(said == first[0], page, 1, f"{what}: {said}, where {first[1]} says {first[0]}")
+        if page == TOP / "README.md":
+            self.speed(page, " ".join(text.split()))
+
+    def speed(self, page, text):
+        """README.md's ranges of a step's time, beside other programs."""
+        rows = STEPS.findall((TOP / "docs" / "BENCH.md").read_text(encoding="utf-8"))
+        for name, column in (("Box2D", 2), ("Chipmunk", 4)):
+            ratios = sorted((row[column] for row in rows), key=float)
+            self.test(f"{ratios[0]} to {ratios[-1]} times as long as in {name}" in text, page, 1, f"another speed beside {name} than BENCH.md's")
 
     def code(self, page, place, code):
         for word in code.replace("<", " ").replace(">", " ").split():
