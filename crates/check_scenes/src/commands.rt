@@ -1,15 +1,15 @@
 //! Commands from a text.
 //!
-//! A line is a command: a word and whole numbers, of which those that are left out are 0. Bodies and joints are named
-//! by their slots, and are the first of them.
+//! A line is a command: a word and whole numbers, of which those that are left out are 0. A body or a joint is named by
+//! its slot, and is the first of it, or by its slot, a point and its generation.
 //!
 //! | Line | Command |
 //! |---|---|
 //! | `gravity X Y` | another gravity |
 //! | `floor X Y HALF` | a static body with a segment of twice that length |
 //! | `circle MASS INERTIA X Y RADIUS FRICTION MORE` | a dynamic body of a circle, and of so many more beside it; a static one where the mass is 0 |
-//! | `lift RADIUS X Y` | a kinematic circle |
-//! | `joint A B LENGTH` | a joint of the centres |
+//! | `lift RADIUS X Y ACROSS UP` | a kinematic circle, with this velocity |
+//! | `joint A B LENGTH X Y` | a joint of the first body's centre and of this point of the second |
 //! | `unjoin`, `destroy`, `disable`, `enable`, `wake`, `sleep` | the command on the joint or the body of a slot |
 //! | `push BODY X Y`, `push_at BODY X Y AT_X AT_Y` | a push |
 //! | `set_pose BODY X Y`, `set_velocity BODY X Y SPIN` | another pose, another velocity |
@@ -18,18 +18,23 @@
 use crate::making::{NO_MASS, UPRIGHT, add_made, between, body_of, right};
 use std::alloc::Global;
 use world_core::{
-    BodyDef, Command, Course, Handle, Kind, MassData, NO_COURSE, Pose, Refusal, Shape, ShapeDef,
+    BodyDef, Command, Course, Handle, JointDef, Kind, MassData, Pose, Refusal, Shape, ShapeDef,
     Shapes, Vec2,
 };
 
-fn number_at(numbers: &[i64], place: usize) -> i64 {
+/// How far the numbers of handles of one slot are apart, from generation to generation.
+const SLOTS: i64 = 1 << 32;
+
+/// The number in a place, or 0 where there is none.
+pub fn number_at(numbers: &[i64], place: usize) -> i64 {
     match numbers.get(place) {
         Some(number) => *number,
         None => 0,
     }
 }
 
-fn vector_at(numbers: &[i64], place: usize) -> Vec2 {
+/// The vector of the numbers from a place on.
+pub fn vector_at(numbers: &[i64], place: usize) -> Vec2 {
     let (x, y) = (
         number_at(numbers, place),
         number_at(numbers, place.saturating_add(1)),
@@ -37,12 +42,19 @@ fn vector_at(numbers: &[i64], place: usize) -> Vec2 {
     Vec2 { x, y }
 }
 
-fn handle_at(numbers: &[i64], place: usize) -> Handle {
-    let slot = u32::try_from(number_at(numbers, place)).unwrap_or(u32::MAX);
+/// The body or the joint with this number.
+pub fn handle_of(number: i64) -> Handle {
+    let generation = number.max(0) / SLOTS;
     Handle {
-        slot,
-        generation: 1,
+        slot: u32::try_from(number % SLOTS).unwrap_or(u32::MAX),
+        generation: u32::try_from(generation)
+            .unwrap_or(u32::MAX)
+            .saturating_add(1),
     }
+}
+
+fn handle_at(numbers: &[i64], place: usize) -> Handle {
+    handle_of(number_at(numbers, place))
 }
 
 /// A circle, so many diameters to the right of the centre.
@@ -100,9 +112,26 @@ fn floor(alloc: Global, numbers: &[i64]) -> Result<Command, Refusal> {
 }
 
 fn lift(alloc: Global, numbers: &[i64]) -> Result<Command, Refusal> {
-    let kind = Kind::Kinematic(NO_COURSE);
+    let course = Course {
+        velocity: vector_at(numbers, 3),
+        spin: 0,
+    };
     let shape = circle_beside(number_at(numbers, 0), 0, 0);
-    body_of(alloc, kind, NO_MASS, vector_at(numbers, 1), shape)
+    body_of(
+        alloc,
+        Kind::Kinematic(course),
+        NO_MASS,
+        vector_at(numbers, 1),
+        shape,
+    )
+}
+
+fn joint(numbers: &[i64]) -> Command {
+    let (a, b) = (handle_at(numbers, 0), handle_at(numbers, 1));
+    Command::CreateJoint(JointDef {
+        to: vector_at(numbers, 3),
+        ..between(a, b, number_at(numbers, 2))
+    })
 }
 
 fn pose(numbers: &[i64]) -> Pose {
@@ -121,13 +150,13 @@ fn course(numbers: &[i64]) -> Course {
 
 /// The command of a word with its numbers. Refused 5 where no command has that word.
 fn command_with(alloc: Global, word: &str, numbers: &[i64]) -> Result<Command, Refusal> {
-    let (first, second) = (handle_at(numbers, 0), handle_at(numbers, 1));
+    let first = handle_at(numbers, 0);
     match word {
         "floor" => floor(alloc, numbers),
         "circle" => circle(alloc, numbers),
         "lift" => lift(alloc, numbers),
         "gravity" => Ok(Command::SetGravity(vector_at(numbers, 0))),
-        "joint" => Ok(Command::CreateJoint(between(first, second, number_at(numbers, 2)))),
+        "joint" => Ok(joint(numbers)),
         "unjoin" => Ok(Command::DestroyJoint(first)),
         "destroy" => Ok(Command::DestroyBody(first)),
         "disable" => Ok(Command::Disable(first)),
@@ -143,12 +172,30 @@ fn command_with(alloc: Global, word: &str, numbers: &[i64]) -> Result<Command, R
     }
 }
 
+/// The number that stands for this slot and generation.
+fn number_named(slot: u32, generation: u16) -> i64 {
+    i64::from(slot) + (i64::from(generation) - 1) * SLOTS
+}
+
+/// The number of a word, which is a whole number, or a handle's slot, a point and its generation.
+fn number_of(word: &str) -> Option<i64> {
+    match word.split_once('.') {
+        Some((slot, generation)) => Some(number_named(
+            slot.parse::<u32>().ok()?,
+            generation.parse::<u16>().ok()?,
+        )),
+        None => word.parse::<i64>().ok(),
+    }
+}
+
 /// The numbers of words. Refused 5 where one is no number.
-fn numbers_of(alloc: Global, words: &[&str]) -> Result<Vec<i64>, Refusal> {
+pub fn numbers_of(alloc: Global, words: &[&str]) -> Result<Vec<i64>, Refusal> {
     let mut numbers = Vec::new(alloc);
     for word in words {
-        let number = word.parse::<i64>().map_err(|_| Refusal::OutOfRange)?;
-        numbers.push(number)?;
+        match number_of(word) {
+            Some(number) => numbers.push(number)?,
+            None => return Err(Refusal::OutOfRange),
+        }
     }
     Ok(numbers)
 }
@@ -162,7 +209,7 @@ fn command_of_words(alloc: Global, words: &[&str]) -> Result<Command, Refusal> {
 }
 
 /// The command of a line. Refused 5 where the line is none.
-fn command_of(alloc: Global, line: &str) -> Result<Command, Refusal> {
+pub fn command_of(alloc: Global, line: &str) -> Result<Command, Refusal> {
     let words: Vec<&str> = line.split_whitespace().collect(alloc)?;
     command_of_words(alloc, words.as_slice())
 }

@@ -16,7 +16,7 @@ mod world;
 mod worlds;
 
 pub use call_mark::CallMark;
-pub use commands::commands_of;
+pub use commands::{command_of, commands_of, handle_of, number_at, numbers_of, vector_at};
 pub use making::{
     FIRST, NO_GRAVITY, NO_MASS, ORIGIN, PULL, UPRIGHT, add_made, apply_all, between, body_of, right,
 };

@@ -65,6 +65,22 @@ fn circle(alloc: Global, center: Vec2) -> Result<Command, Refusal> {
     body_of(alloc, Kind::Dynamic, MASS, center, shape)
 }
 
+/// The place so many neighbours to the right of another.
+fn beside(left: Vec2, column: i64) -> Vec2 {
+    Vec2 {
+        x: column.saturating_mul(APART).saturating_add(left.x),
+        y: left.y,
+    }
+}
+
+/// Where a row of a pile begins whose left side is there.
+fn row_at(left: i64, row: i64) -> Vec2 {
+    Vec2 {
+        x: left,
+        y: row.saturating_mul(APART).saturating_add(LOWEST),
+    }
+}
+
 /// Adds a row of circles to the right of a place.
 fn add_row(
     alloc: Global,
@@ -73,8 +89,7 @@ fn add_row(
     left: Vec2,
 ) -> Result<(), Refusal> {
     for column in 0..columns {
-        let x = column.saturating_mul(APART).saturating_add(left.x);
-        add_made(commands, circle(alloc, Vec2 { x, y: left.y }))?;
+        add_made(commands, circle(alloc, beside(left, column)))?;
     }
     Ok(())
 }
@@ -87,8 +102,7 @@ fn add_pile(
     left: i64,
 ) -> Result<(), Refusal> {
     for row in 0..ROWS {
-        let y = row.saturating_mul(APART).saturating_add(LOWEST);
-        add_row(alloc, commands, columns, Vec2 { x: left, y })?;
+        add_row(alloc, commands, columns, row_at(left, row))?;
     }
     Ok(())
 }

@@ -1,7 +1,7 @@
 //! Checks worlds in two parts: worlds that were worked by hand, and steps by workers.
 //!
 //! Without a word it makes the checks of both parts, one after another, each under its name. It prints the same lines
-//! whatever the schedule, which the gate compares. `check_worlds PART` makes those of one part: `worlds` or `workers`.
+//! whatever the schedule, which the gate compares. Most checks of worlds are a script on standard input. `check_worlds PART` makes those of one part: `worlds` or `workers`.
 //! Further words go to the part.
 //!
 //! `check_worlds worlds WORLD CALL` makes one call while memory may be refused to it, in the world that the commands of
@@ -25,20 +25,20 @@ use world_core::WorldCore;
 const PARTS: [&str; 2] = ["worlds", "workers"];
 
 /// Does what a part is asked for.
-fn do_part<R: AllocGlobal + Print + Threads + Wait + Sync>(
+fn do_part<R: AllocGlobal + Input + Print + Threads + Wait + Sync>(
     rt: &R,
     part: &str,
     words: &[String],
 ) -> Result<(), Stop> {
     match part {
-        "worlds" => worlds::do_words::<R, WorldCore>(rt, rt.alloc(), words),
+        "worlds" => worlds::do_words::<R, WorldCore>(rt, words),
         "workers" => workers::do_words(rt, words),
         _ => Err(Stop::UnknownWords),
     }
 }
 
 /// Makes the checks of all parts. There are no words for them.
-fn do_all<R: AllocGlobal + Print + Threads + Wait + Sync>(
+fn do_all<R: AllocGlobal + Input + Print + Threads + Wait + Sync>(
     rt: &R,
     none: &[String],
 ) -> Result<(), Stop> {
@@ -50,7 +50,7 @@ fn do_all<R: AllocGlobal + Print + Threads + Wait + Sync>(
 }
 
 /// Does what the words ask for, of which the first is the program's name.
-fn do_words<R: AllocGlobal + Print + Threads + Wait + Sync>(
+fn do_words<R: AllocGlobal + Input + Print + Threads + Wait + Sync>(
     rt: &R,
     words: &[String],
 ) -> Result<(), Stop> {
@@ -61,14 +61,16 @@ fn do_words<R: AllocGlobal + Print + Threads + Wait + Sync>(
     }
 }
 
-fn do_read<R: AllocGlobal + Env + Print + Threads + Wait + Sync>(rt: &R) -> Result<(), Stop> {
+fn do_read<R: AllocGlobal + Env + Input + Print + Threads + Wait + Sync>(
+    rt: &R,
+) -> Result<(), Stop> {
     match read_words(rt) {
         Ok(words) => do_words(rt, words.as_slice()),
         Err(_) => print_outside(rt),
     }
 }
 
-fn start<R: AllocGlobal + Env + Print + Threads + Wait + Sync>(rt: &R) -> ExitCode {
+fn start<R: AllocGlobal + Env + Input + Print + Threads + Wait + Sync>(rt: &R) -> ExitCode {
     status_of(rt, do_read(rt))
 }
 

@@ -1,47 +1,24 @@
 //! Worlds whose values were worked by hand: each check makes a world of its own, gives it commands, and tells what it
 //! saw, a name on a line and each value on one of its own.
 //!
-//! They are lines and no tests, since a test that calls a world costs the proof minutes, and a line none.
+//! Most checks are a script, the program's `stdin`, so that a further one costs the proof nothing. Those that a script
+//! can't say come after it.
 
 mod check;
-mod fat_boxes;
 mod filters;
-mod frames;
-mod islands_apart;
-mod joints;
 mod making;
-mod meetings;
-mod one_body;
-mod parts;
-mod platforms;
-mod queries;
 mod readme;
+mod script;
 mod seen;
-mod sleeping;
 mod trials;
 
 use crate::whole_world::WholeWorld;
 use check::Check;
 use check_scenes::Stop;
+use script::{name_in, run_line};
 use std::alloc::Global;
 use trials::try_call;
 use world_core::Refusal;
-
-fn run_all<W: WholeWorld>(check: &mut Check<W>) {
-    one_body::run(check);
-    meetings::run(check);
-    joints::run(check);
-    fat_boxes::run(check);
-    frames::run(check);
-    sleeping::run(check);
-    islands_apart::run(check);
-    parts::run(check);
-    platforms::run(check);
-    queries::run(check);
-    filters::run(check);
-    readme::run(check);
-    trials::run(check);
-}
 
 fn print_lines<R: Print, W: WholeWorld>(rt: &R, check: &Check<W>) -> Result<(), Stop> {
     for line in check.lines() {
@@ -50,9 +27,32 @@ fn print_lines<R: Print, W: WholeWorld>(rt: &R, check: &Check<W>) -> Result<(), 
     Ok(())
 }
 
+/// Does what a line of the script asks for, and prints what it told.
+fn run_and_print_line<R: Print, W: WholeWorld>(
+    rt: &R,
+    check: &mut Check<W>,
+    line: &str,
+) -> Result<(), Stop> {
+    if let Some(name) = name_in(line) {
+        println!(rt; "{name}")?;
+    }
+    run_line(check, line);
+    print_lines(rt, check)?;
+    check.forget_lines();
+    Ok(())
+}
+
 /// Runs all checks, and prints what they told.
-fn run_and_print<R: Print, W: WholeWorld>(rt: &R, check: &mut Check<W>) -> Result<(), Stop> {
-    run_all(check);
+fn run_and_print<R: AllocGlobal + Input + Print, W: WholeWorld>(
+    rt: &R,
+    check: &mut Check<W>,
+) -> Result<(), Stop> {
+    for line in rt.lines(rt.alloc()) {
+        run_and_print_line(rt, check, line?.as_str())?;
+    }
+    filters::run(check);
+    readme::run(check);
+    trials::run(check);
     print_lines(rt, check)?;
     if check.is_cut() {
         return Err(Stop::Refused(Refusal::NoMemory));
@@ -60,8 +60,8 @@ fn run_and_print<R: Print, W: WholeWorld>(rt: &R, check: &mut Check<W>) -> Resul
     Ok(())
 }
 
-fn print_checks<R: Print, W: WholeWorld>(rt: &R, alloc: Global) -> Result<(), Stop> {
-    match Check::<W>::new(alloc) {
+fn print_checks<R: AllocGlobal + Input + Print, W: WholeWorld>(rt: &R) -> Result<(), Stop> {
+    match Check::<W>::new(rt.alloc()) {
         Ok(mut check) => run_and_print(rt, &mut check),
         Err(refusal) => Err(Stop::Refused(refusal)),
     }
@@ -82,14 +82,13 @@ fn print_trial<R: Print, W: WholeWorld>(
 }
 
 /// Does what the words after the part's name ask for.
-pub fn do_words<R: Print, W: WholeWorld>(
+pub fn do_words<R: AllocGlobal + Input + Print, W: WholeWorld>(
     rt: &R,
-    alloc: Global,
     words: &[String],
 ) -> Result<(), Stop> {
     match words {
-        [] => print_checks::<R, W>(rt, alloc),
-        [text, call] => print_trial::<R, W>(rt, alloc, text.as_str(), call.as_str()),
+        [] => print_checks::<R, W>(rt),
+        [text, call] => print_trial::<R, W>(rt, rt.alloc(), text.as_str(), call.as_str()),
         _ => Err(Stop::UnknownWords),
     }
 }

@@ -5,14 +5,13 @@ use crate::whole_world::{WholeWorld, first_static, over_in};
 use crate::worlds::making::create_of;
 use crate::worlds::readme::fall;
 use crate::worlds::seen::{Line, Seen};
-use check_scenes::{Answer, NO_GRAVITY, ORIGIN, body_of, hit_in};
+use check_scenes::{Answer, NO_GRAVITY, ORIGIN, hit_in};
 use contacts_base::ContactEntry;
 use fixed_geom::Box2;
 use islands::Label;
 use std::alloc::Global;
 use world_core::{
-    Body, Cause, Command, Constraint, Course, Handle, Item, JointDef, Kind, MassData, Plain, Pose,
-    Refusal, ShapeDef, ShapeId, Vec2,
+    Body, Cause, Command, Constraint, Handle, Item, Plain, Refusal, ShapeDef, ShapeId, Vec2,
 };
 use world_queries::QueryFilter;
 
@@ -27,11 +26,13 @@ enum Excerpt {
     Timer,
 }
 
-/// The world of a check, and the lines of all checks so far.
+/// The world of a check, and the lines that were told and not yet printed.
 #[derive(Drop)]
 pub struct Check<W: WholeWorld> {
     alloc: Global,
     world: W,
+    /// The world that was left for its copy.
+    left: Option<W>,
     lines: Vec<Line>,
     /// Memory was wanting for something that had to be seen.
     is_cut: bool,
@@ -43,6 +44,7 @@ impl<W: WholeWorld> Check<W> {
             Ok(world) => Ok(Check {
                 alloc,
                 world,
+                left: None,
                 lines: Vec::new(alloc),
                 is_cut: false,
             }),
@@ -52,6 +54,11 @@ impl<W: WholeWorld> Check<W> {
 
     pub fn lines(&self) -> &[Line] {
         self.lines.as_slice()
+    }
+
+    /// Forgets the lines that were printed.
+    pub fn forget_lines(&mut self) {
+        self.lines.clear();
     }
 
     pub fn is_cut(&self) -> bool {
@@ -81,10 +88,21 @@ impl<W: WholeWorld> Check<W> {
     /// A check of this name begins, in an empty world.
     pub fn begin(&mut self, name: &'static str, gravity: Vec2) {
         self.name(name);
+        self.restart(gravity);
+    }
+
+    /// Goes on in an empty world.
+    pub fn restart(&mut self, gravity: Vec2) {
         match W::empty(self.alloc, gravity) {
             Ok(world) => self.world = world,
             Err(_) => self.is_cut = true,
         }
+    }
+
+    /// Tells why a line of a script can't be done.
+    pub fn tell_unread(&mut self, refusal: Refusal) {
+        self.name("a line that asks for nothing");
+        self.see(Seen::Answer(Err(refusal)));
     }
 
     /// Applies a command, and tells what it answers. The command is given away, so that whoever asks for many has none
@@ -106,13 +124,6 @@ impl<W: WholeWorld> Check<W> {
         }
     }
 
-    fn ask_made(&mut self, made: Result<Command, Refusal>) {
-        match made {
-            Ok(command) => self.ask(command),
-            Err(_) => self.is_cut = true,
-        }
-    }
-
     fn apply_made(&mut self, made: Result<Command, Refusal>) {
         match made {
             Ok(command) => self.apply(command),
@@ -120,60 +131,10 @@ impl<W: WholeWorld> Check<W> {
         }
     }
 
-    /// Adds a body of one shape, a static one where the mass is 0, and tells the answer.
-    pub fn ask_add(&mut self, mass: i64, x: Vec2, shape: ShapeDef) {
-        let made = create_of(self.alloc, mass, x, shape);
-        self.ask_made(made);
-    }
-
-    /// Adds such a body.
+    /// Adds a body of one shape, a static one where the mass is 0.
     pub fn add(&mut self, mass: i64, x: Vec2, shape: ShapeDef) {
         let made = create_of(self.alloc, mass, x, shape);
         self.apply_made(made);
-    }
-
-    /// Adds a body of any kind at the origin.
-    pub fn add_of(&mut self, kind: Kind, mass: MassData, x: Vec2, shape: ShapeDef) {
-        let made = body_of(self.alloc, kind, mass, x, shape);
-        self.apply_made(made);
-    }
-
-    pub fn join(&mut self, def: JointDef) {
-        self.apply(Command::CreateJoint(def));
-    }
-
-    pub fn push(&mut self, handle: Handle, x: i64, y: i64) {
-        self.apply(Command::Push(handle, Vec2 { x, y }));
-    }
-
-    /// Pushes, and tells what it answers.
-    pub fn ask_push(&mut self, handle: Handle, x: i64, y: i64) {
-        self.ask(Command::Push(handle, Vec2 { x, y }));
-    }
-
-    pub fn put(&mut self, handle: Handle, pose: Pose) {
-        self.apply(Command::SetPose(handle, pose));
-    }
-
-    pub fn steer(&mut self, handle: Handle, course: Course) {
-        self.apply(Command::SetVelocity(handle, course));
-    }
-
-    /// Lets ticks pass.
-    pub fn step(&mut self, ticks: i64) {
-        self.apply(Command::Step(ticks));
-    }
-
-    /// Lets ticks pass, and tells what it answers.
-    pub fn ask_step(&mut self, ticks: i64) {
-        self.ask(Command::Step(ticks));
-    }
-
-    /// Takes so many steps.
-    pub fn steps(&mut self, count: u32, ticks: i64) {
-        for _ in 0..count {
-            self.step(ticks);
-        }
     }
 
     /// Replays commands, and tells what each answers.
@@ -190,20 +151,17 @@ impl<W: WholeWorld> Check<W> {
         }
     }
 
-    /// Goes on in a copy of the world, and gives back the world itself.
-    pub fn go_on_in_copy(&mut self) -> Option<W> {
+    /// Goes on in a copy of the world.
+    pub fn go_on_in_copy(&mut self) {
         match self.world.copied() {
-            Ok(copy) => Some(self.exchange(copy)),
-            Err(_) => {
-                self.is_cut = true;
-                None
-            }
+            Ok(copy) => self.left = Some(self.exchange(copy)),
+            Err(_) => self.is_cut = true,
         }
     }
 
-    /// Goes back to a world that was left for its copy, and tells whether the copy still has the world's entries.
-    pub fn go_back_to(&mut self, left: Option<W>) {
-        match left {
+    /// Goes back to the world that was left for its copy, and tells whether the copy still has the world's entries.
+    pub fn go_back(&mut self) {
+        match self.left.take() {
             Some(world) => {
                 let copy = self.exchange(world);
                 self.compare_entries(&copy);
@@ -314,11 +272,6 @@ impl<W: WholeWorld> Check<W> {
                 self.see(Seen::Entry(entry));
             }
         }
-    }
-
-    /// Tells all entries of the book, or that there are none.
-    pub fn see_entries(&mut self) {
-        self.see_entries_after(0);
     }
 
     /// Tells what the last step told.

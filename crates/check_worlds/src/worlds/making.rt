@@ -1,4 +1,4 @@
-//! What the worlds are made of, beside what all programs that check worlds have for that.
+//! What worlds are made of, beside what all programs that check worlds have for that.
 
 use check_scenes::{ORIGIN, body_of, right};
 use std::alloc::Global;
@@ -13,50 +13,17 @@ pub const SECOND: Handle = Handle {
     generation: 1,
 };
 
-/// That in the third slot.
-pub const THIRD: Handle = Handle {
-    slot: 2,
-    generation: 1,
-};
-
 /// A handle that no check gives out.
 pub const STALE: Handle = Handle {
     slot: 0,
     generation: 9,
 };
 
-/// The radius of the circles that lie on a floor, in u.
-pub const RADIUS: i64 = 65_536;
-
-/// A handle as its slot is first given out.
-pub fn first_in(slot: u32) -> Handle {
-    Handle {
-        slot,
-        generation: 1,
-    }
-}
-
-/// A place on a floor through the origin, where a circle of `RADIUS` lies.
-pub fn on_floor(x: i64) -> Vec2 {
-    Vec2 { x, y: RADIUS }
-}
-
 pub fn circle(radius: i64) -> ShapeDef {
     ShapeDef {
         shape: Shape::Circle {
             center: ORIGIN,
             radius,
-        },
-        ..ShapeDef::default()
-    }
-}
-
-/// A segment of two metres through the origin.
-pub fn floor() -> ShapeDef {
-    ShapeDef {
-        shape: Shape::Segment {
-            first: right(-1_048_576),
-            second: right(1_048_576),
         },
         ..ShapeDef::default()
     }
