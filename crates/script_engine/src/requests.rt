@@ -1,5 +1,8 @@
 //! What a line asks for.
 
+ghost use Rattle.std.specs.Prelude.{◌≡◌, IfOk};
+ghost use Rattle.std.specs.Result.{IsOkUnless};
+
 use crate::extended::{Extended, take_box, take_extended};
 use body_handles::Handle;
 use fixed_geom::{Box2, Refusal, Rot, Vec2, ZERO_VECTOR};
@@ -45,9 +48,12 @@ pub enum Request<'a> {
 }
 
 /// A copy of a command.
-pub(crate) fn copy_of(command: &Command) -> Result<Command, Refusal> {
+pub(crate) fn copy_of(command: &Command) -> Result<Command, Refusal>
+    ensures copy { IfOk result (λ copy. copy ≡ command.now) }
+    ensures memory_only { IsOkUnless result Refusal.NoMemory }
+{
     match command {
-        Command::CreateBody(def) => copy_of_create(def),
+        Command::CreateBody(def) => Ok(Command::CreateBody(copy_of_def(def)?)),
         Command::CreateJoint(def) => Ok(Command::CreateJoint(*def)),
         Command::DestroyBody(body) => Ok(Command::DestroyBody(*body)),
         Command::DestroyJoint(joint) => Ok(Command::DestroyJoint(*joint)),
@@ -64,15 +70,18 @@ pub(crate) fn copy_of(command: &Command) -> Result<Command, Refusal> {
     }
 }
 
-fn copy_of_create(def: &BodyDef) -> Result<Command, Refusal> {
+fn copy_of_def(def: &BodyDef) -> Result<BodyDef, Refusal>
+    ensures copy { IfOk result (λ copy. copy ≡ def.now) }
+    ensures memory_only { IsOkUnless result Refusal.NoMemory }
+{
     let shapes = def.shapes.try_copy()?;
-    Ok(Command::CreateBody(BodyDef {
+    Ok(BodyDef {
         kind: def.kind,
         mass: def.mass,
         x: def.x,
         rot: def.rot,
         shapes,
-    }))
+    })
 }
 
 /// The mass of a body that isn't dynamic.

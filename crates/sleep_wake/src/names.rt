@@ -1,6 +1,6 @@
 //! The names of islands that sleep.
 
-ghost use Rattle.std.specs.Prelude.{◌≡◌, ◌<◌, ◌≤◌, ◌+◌, ◌++◌, ℕ, true, Contains, IfOk, OnOk, is_some, vec_capacity, vec_len};
+ghost use Rattle.std.specs.Prelude.{◌≡◌, ◌<◌, ◌≤◌, ◌+◌, ◌++◌, ℕ, true, Contains, IfOk, OnErr, OnOk, is_some, vec_capacity, vec_len};
 ghost use Rattle.std.specs.List.Sorted.{IsStrictlyIncreasing};
 ghost use Rattle.std.specs.Option.{option_to_list};
 ghost use Rattle.std.specs.Result.{IsOkUnless};
@@ -20,6 +20,7 @@ fn name_at(islands: &Islands, slot: u32) -> Option<u32>
 /// Adds an item, if there is one.
 pub fn push_some<T: Copy + Drop>(items: &mut Vec<T>, item: Option<T>) -> Result<(), Refusal>
     ensures pushed { OnOk result (items.new.items ≡ items.old.items ++ option_to_list item) }
+    ensures refused { OnErr result (items.new.items ≡ items.old.items) }
     ensures memory_only { IsOkUnless result Refusal.NoMemory }
 {
     if let Some(item) = item {
