@@ -53,7 +53,7 @@ DROPPED = [
 WRITTEN = [
     (re.compile(r"\buse (?:std::alloc|smallvec)::"), "use shim::"),
     (re.compile(r"\buse std::num::\{"), "use shim::{"),
-    (re.compile(r"\buse std::(?:sync::(?=Wait;|Arc;|\{Arc)|snapshot::|thread::(?=\{))"), "use shim::"),
+    (re.compile(r"\buse std::(?:sync::(?=Wait;|Arc;|\{Arc)|snapshot::|thread::(?=\{|Threads;))"), "use shim::"),
     (re.compile(r"\bthread::scope(?=\(|_env)"), "shim::scope"),
     (re.compile(r", Error\)\]"), ")]"),
     (re.compile(r": Copy \+ Drop\b"), ": Copy"),
