@@ -1,66 +1,15 @@
--- The kinds of rows that are kept, and the rows of one colour.
-use Rattle.std.proofs.Common.{◌≡◌, ℕ, zero, suc, ◌+◌, ◌-◌, ◌<◌, ◌≤◌, Bool, true, false, List, [], ◌∷◌, ◌++◌, length, get_or, take, drop, map, arith, refl, sym, ap, ap₂, ◌∙◌}
-use Rattle.std.specs.List.{flat_map}
-use Rattle.std.proofs.lemmas.List.{drop-drop, map-append}
+-- The rows of one colour.
+use Rattle.std.proofs.Common.{◌≡◌, ℕ, zero, suc, ◌+◌, ◌-◌, ◌<◌, ◌≤◌, List, [], ◌∷◌, length, get_or, take, drop, arith, refl, sym, ap, ap₂, ◌∙◌}
+use Rattle.std.proofs.lemmas.List.{drop-drop}
 use Rattle.joint_rows.specs.declared.row.JointRow.{JointRow}
 use Rattle.colour_solver_base.specs.declared.row.ContactRow.{ContactRow}
 use Rattle.colour_solver.specs.declared.constraint_row.ConstraintRow.{ConstraintRow}
-use Rattle.colour_solver.specs.declared.constraint_row.ConstraintRow.TheVariants.{Joint, Contact}
 use Rattle.colour_solver.specs.RowVisits.{between}
-use Rattle.colour_solver.specs.ConstraintVisits.{contacts_among, is_joint, joints_among}
-use Rattle.colour_solver.specs.ColourRows.{AreEnds, colours_of, cut, each_joints_first, joints_first, last_end, left_of, rows_kept, rows_left}
-use Rattle.colour_solver.proofs.ColourRowLaws.{cut_count, cut_long, drop-long, ends_taken, last_low}
+use Rattle.colour_solver.specs.ConstraintVisits.{contacts_among, joints_among}
+use Rattle.colour_solver.specs.ColourRows.{AreEnds, colours_of, cut, each_joints_first, joints_first, last_end, left_of, rows_left}
+use Rattle.colour_solver.proofs.ColourRowLaws.{cut_count, ends_taken, last_low}
 use Rattle.colour_solver.proofs.KindLaws.{joints_first_contacts, joints_first_joints}
 use Rattle.colour_solver.proofs.KeptRowLaws.{as_many_cuts}
-
--- ---- the kinds of rows that are kept hang on how many there are
-
-joint_kinds : (js os : List JointRow) → length js ≡ length os → map is_joint (map Joint js) ≡ map is_joint (map Joint os)
-joint_kinds [] [] h = refl
-joint_kinds [] (o ∷ os) h = absurd (cc h)
-joint_kinds (j ∷ js) [] h = absurd (cc h)
-joint_kinds (j ∷ js) (o ∷ os) h = ap (λ (l : List Bool). true ∷ l) (joint_kinds js os (omega (arith, h)))
-
-contact_kinds : (cs os : List ContactRow) → length cs ≡ length os → map is_joint (map Contact cs) ≡ map is_joint (map Contact os)
-contact_kinds [] [] h = refl
-contact_kinds [] (o ∷ os) h = absurd (cc h)
-contact_kinds (c ∷ cs) [] h = absurd (cc h)
-contact_kinds (c ∷ cs) (o ∷ os) h = ap (λ (l : List Bool). false ∷ l) (contact_kinds cs os (omega (arith, h)))
-
-first_kinds : (js os : List JointRow) (cs bs : List ContactRow) → length js ≡ length os → length cs ≡ length bs → map is_joint (joints_first js cs) ≡ map is_joint (joints_first os bs)
-first_kinds js os cs bs h k =
-    map-append is_joint (map Joint js) (map Contact cs)
-    ∙ ap₂ (λ (l m : List Bool). l ++ m) (joint_kinds js os h) (contact_kinds cs bs k)
-    ∙ sym (map-append is_joint (map Joint os) (map Contact bs))
-
-each_kinds : (joints old : List (List JointRow)) (contacts before : List (List ContactRow)) → length joints ≡ length contacts → map length joints ≡ map length old → map length contacts ≡ map length before
-    → map is_joint (flat_map (λ (rs : List ConstraintRow). rs) (each_joints_first joints contacts)) ≡ map is_joint (flat_map (λ (rs : List ConstraintRow). rs) (each_joints_first old before))
-each_kinds [] [] contacts before h j k = refl
-each_kinds [] (o ∷ old) contacts before h j k = absurd (cc j)
-each_kinds (x ∷ joints) [] contacts before h j k = absurd (cc j)
-each_kinds (x ∷ joints) (o ∷ old) [] before h j k = absurd (omega (arith, h))
-each_kinds (x ∷ joints) (o ∷ old) (y ∷ contacts) [] h j k = absurd (cc k)
-each_kinds (x ∷ joints) (o ∷ old) (y ∷ contacts) (b ∷ before) h j k =
-    let first : length x ≡ length o = cc j in
-    let second : length y ≡ length b = cc k in
-    let more : map length joints ≡ map length old = cc j in
-    let others : map length contacts ≡ map length before = cc k in
-    map-append is_joint (joints_first x y) (flat_map (λ (rs : List ConstraintRow). rs) (each_joints_first joints contacts))
-    ∙ ap₂ (λ (l m : List Bool). l ++ m) (first_kinds x o y b first second) (each_kinds joints old contacts before (omega (arith, h)) more others)
-    ∙ sym (map-append is_joint (joints_first o b) (flat_map (λ (rs : List ConstraintRow). rs) (each_joints_first old before)))
-
-left_long : {R : Type 0} (n : ℕ) (ends : List ℕ) (rows now : List R) → length now ≡ length rows → length (left_of n ends now) ≡ length (left_of n ends rows)
-left_long n [] rows now h = h
-left_long n (e ∷ ends) rows now h = left_long e ends (drop (e - n) rows) (drop (e - n) now) (drop-long (e - n) rows now h)
-
-pub kinds_kept : (je ce : List ℕ) (joints old : List JointRow) (contacts before : List ContactRow) → length je ≡ length ce → length joints ≡ length old → length contacts ≡ length before
-    → map is_joint (rows_kept je ce joints contacts) ≡ map is_joint (rows_kept je ce old before)
-kinds_kept je ce joints old contacts before same j k =
-    map-append is_joint (flat_map (λ (rs : List ConstraintRow). rs) (colours_of je ce joints contacts)) (rows_left je ce joints contacts)
-    ∙ ap₂ (λ (l m : List Bool). l ++ m)
-    (each_kinds (cut 0 je joints) (cut 0 je old) (cut 0 ce contacts) (cut 0 ce before) (as_many_cuts 0 0 je ce joints contacts same) (cut_long 0 je old joints j) (cut_long 0 ce before contacts k))
-    (first_kinds (left_of 0 je joints) (left_of 0 je old) (left_of 0 ce contacts) (left_of 0 ce before) (left_long 0 je old joints j) (left_long 0 ce before contacts k))
-    ∙ sym (map-append is_joint (flat_map (λ (rs : List ConstraintRow). rs) (colours_of je ce old before)) (rows_left je ce old before))
 
 -- ---- the rows of one colour
 

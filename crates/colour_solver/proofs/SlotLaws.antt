@@ -1,10 +1,12 @@
--- What visits keep of rows: where their bodies stand, and which kind they are of.
-use Rattle.std.proofs.Common.{◌≡◌, ℕ, zero, suc, List, [], ◌∷◌, Option, Some, None, map, refl, ap₂, ◌∙◌}
+-- What visits keep of rows: which constraint each is of, where its bodies stand, and its kind.
+use Rattle.std.proofs.Common.{◌≡◌, ℕ, zero, suc, List, [], ◌∷◌, Option, Some, None, map, refl, sym, ap, ap₂, ◌∙◌}
 use Rattle.fixed_geom.specs.declared.vectors.Vec2.{Vec2}
 use Rattle.momenta.specs.declared.state.BodyState.{BodyState}
 use Rattle.momenta.specs.declared.state.Ends.{Ends}
+use Rattle.joint_rows.specs.declared.row.JointBodies.{JointBodies}
 use Rattle.joint_rows.specs.declared.row.JointRow.{JointRow}
 use Rattle.joint_rows.specs.Rows.{joint_solved, joint_warmed}
+use Rattle.colour_solver_base.specs.declared.row.Bodies.{Bodies}
 use Rattle.colour_solver_base.specs.declared.row.ContactRow.{ContactRow}
 use Rattle.colour_solver_base.specs.declared.row.PointRow.{PointRow}
 use Rattle.colour_solver_base.specs.declared.solve.PointAfter.{PointAfter}
@@ -15,48 +17,73 @@ use Rattle.colour_solver.specs.declared.constraint_row.ConstraintRow.{Constraint
 use Rattle.colour_solver.specs.declared.constraint_row.ConstraintRow.TheVariants.{Contact, Joint}
 use Rattle.colour_solver.specs.declared.phase.Phase.{Phase}
 use Rattle.colour_solver.specs.declared.phase.Phase.TheVariants.{Bounce, Solve, Warm}
-use Rattle.colour_solver.specs.ConstraintVisits.{constraint_slots, constraint_solved, constraint_warmed, contact_slots, is_joint, joint_slots, visited_joint}
+use Rattle.colour_solver.specs.ConstraintVisits.{RowName, constraint_slots, constraint_solved, constraint_warmed, is_joint, row_name, visited_joint}
 use Rattle.colour_solver.specs.Phases.{constraint_visit}
 use Rattle.colour_solver.specs.Ticks.{Run, tick, ticks}
 use Rattle.colour_solver.specs.RowVisits.{after, ends_of, rows_passed}
 
--- ---- the slots of one row
+-- ---- the constraint of one row
 
-joint_warmed_slots : (r : JointRow) (e : Ends) → joint_slots (visited_joint (joint_warmed r e)).row ≡ joint_slots r
+joint_warmed_name : (r : JointRow) (e : Ends) → (visited_joint (joint_warmed r e)).row.bodies ≡ r.bodies
 unfolding joint_warmed
-joint_warmed_slots r e = refl
+joint_warmed_name r e = refl
 
-joint_solved_slots : (r : JointRow) (e : Ends) → joint_slots (visited_joint (joint_solved r e)).row ≡ joint_slots r
+joint_solved_name : (r : JointRow) (e : Ends) → (visited_joint (joint_solved r e)).row.bodies ≡ r.bodies
 unfolding joint_solved
-joint_solved_slots r e = refl
+joint_solved_name r e = refl
 
-second_slots : (f : PointRow → Ends → PointAfter) (t : RowAfter ContactRow) (o : Option PointRow) → contact_slots (then_second f t o).row ≡ contact_slots t.row
-second_slots f t None = refl
-second_slots f t (Some p) = refl
+second_name : (f : PointRow → Ends → PointAfter) (t : RowAfter ContactRow) (o : Option PointRow) → (then_second f t o).row.bodies ≡ t.row.bodies
+second_name f t None = refl
+second_name f t (Some p) = refl
 
-points_slots : (f : PointRow → Ends → PointAfter) (r : ContactRow) (e : Ends) → contact_slots (at_points f r e).row ≡ contact_slots r
-points_slots f r e = second_slots f (after_first r (f r.first e)) r.second
+points_name : (f : PointRow → Ends → PointAfter) (r : ContactRow) (e : Ends) → (at_points f r e).row.bodies ≡ r.bodies
+points_name f r e = second_name f (after_first r (f r.first e)) r.second
 
-contact_warmed_slots : (r : ContactRow) (e : Ends) → contact_slots (row_warmed r e).row ≡ contact_slots r
+contact_warmed_name : (r : ContactRow) (e : Ends) → (row_warmed r e).row.bodies ≡ r.bodies
 unfolding row_warmed
-contact_warmed_slots r e = points_slots (λ p e. record { point = p; ends = point_warmed p e }) r e
+contact_warmed_name r e = points_name (λ p e. record { point = p; ends = point_warmed p e }) r e
 
-contact_solved_slots : (r : ContactRow) (e : Ends) → contact_slots (row_solved r e).row ≡ contact_slots r
+contact_solved_name : (r : ContactRow) (e : Ends) → (row_solved r e).row.bodies ≡ r.bodies
 unfolding row_solved
-contact_solved_slots r e = points_slots (point_solved r.bodies.friction) r e
+contact_solved_name r e = points_name (point_solved r.bodies.friction) r e
 
-contact_bounced_slots : (r : ContactRow) (e : Ends) → contact_slots (row_bounced r e).row ≡ contact_slots r
+contact_bounced_name : (r : ContactRow) (e : Ends) → (row_bounced r e).row.bodies ≡ r.bodies
 unfolding row_bounced
-contact_bounced_slots r e = points_slots (point_bounced r.bodies.restitution) r e
+contact_bounced_name r e = points_name (point_bounced r.bodies.restitution) r e
 
--- a visit leaves a row's bodies where they stand
+abbrev of_joint : JointBodies → RowName
+of_joint b = record { joint = Some b; contact = None }
+
+abbrev of_contact : Bodies → RowName
+of_contact b = record { joint = None; contact = Some b }
+
+-- a visit leaves a row to its constraint
+pub visit_name : (phase : Phase) (r : ConstraintRow) (e : Ends) → row_name (constraint_visit phase r e).row ≡ row_name r
+visit_name Warm (Joint r) e = ap of_joint (joint_warmed_name r e)
+visit_name Warm (Contact r) e = ap of_contact (contact_warmed_name r e)
+visit_name Solve (Joint r) e = ap of_joint (joint_solved_name r e)
+visit_name Solve (Contact r) e = ap of_contact (contact_solved_name r e)
+visit_name Bounce (Joint r) e = refl
+visit_name Bounce (Contact r) e = ap of_contact (contact_bounced_name r e)
+
+-- and its bodies where they stand
+abbrev pub contact_or : Option Bodies → Slots
+contact_or None = record { a = 0; b = 0 }
+contact_or (Some b) = record { a = b.a; b = b.b }
+
+abbrev pub joint_or : Option JointBodies → Slots → Slots
+joint_or None s = s
+joint_or (Some b) s = record { a = b.a; b = b.b }
+
+abbrev pub named_slots : RowName → Slots
+named_slots n = joint_or n.joint (contact_or n.contact)
+
+pub slots_named : (r : ConstraintRow) → constraint_slots r ≡ named_slots (row_name r)
+slots_named (Joint r) = refl
+slots_named (Contact r) = refl
+
 pub visit_slots : (phase : Phase) (r : ConstraintRow) (e : Ends) → constraint_slots (constraint_visit phase r e).row ≡ constraint_slots r
-visit_slots Warm (Joint r) e = joint_warmed_slots r e
-visit_slots Warm (Contact r) e = contact_warmed_slots r e
-visit_slots Solve (Joint r) e = joint_solved_slots r e
-visit_slots Solve (Contact r) e = contact_solved_slots r e
-visit_slots Bounce (Joint r) e = refl
-visit_slots Bounce (Contact r) e = contact_bounced_slots r e
+visit_slots phase r e = slots_named (constraint_visit phase r e).row ∙ ap named_slots (visit_name phase r e) ∙ sym (slots_named r)
 
 -- ---- a pass
 

@@ -2,9 +2,11 @@
 use Rattle.std.specs.Prelude.{ℕ, Bool, true, false, List, Option, Some, None}
 use Rattle.std.specs.List.{filter_map}
 use Rattle.momenta.specs.declared.state.Ends.{Ends}
+use Rattle.joint_rows.specs.declared.row.JointBodies.{JointBodies}
 use Rattle.joint_rows.specs.declared.row.JointRow.{JointRow}
 use Rattle.joint_rows.specs.declared.solve.JointAfter.{JointAfter}
 use Rattle.joint_rows.specs.Rows.{IsJointRow, joint_solved, joint_warmed}
+use Rattle.colour_solver_base.specs.declared.row.Bodies.{Bodies}
 use Rattle.colour_solver_base.specs.declared.row.ContactRow.{ContactRow}
 use Rattle.colour_solver_base.specs.RowsAfter.{RowAfter}
 use Rattle.colour_solver_base.specs.Rows.{IsRow, row_bounced, row_solved, row_warmed}
@@ -24,6 +26,15 @@ contact_slots r = record { a = r.bodies.a; b = r.bodies.b }
 abbrev pub constraint_slots : ConstraintRow → Slots
 constraint_slots (Joint r) = record { a = r.bodies.a; b = r.bodies.b }
 constraint_slots (Contact r) = record { a = r.bodies.a; b = r.bodies.b }
+
+-- which constraint a row is of: a joint, or a contact
+pub record RowName : Type 0 where
+  pub joint : Option JointBodies
+  pub contact : Option Bodies
+
+abbrev pub row_name : ConstraintRow → RowName
+row_name (Joint r) = record { joint = Some r.bodies; contact = None }
+row_name (Contact r) = record { joint = None; contact = Some r.bodies }
 
 abbrev pub IsConstraintRow : ConstraintRow → Type 0
 IsConstraintRow (Joint r) = IsJointRow r

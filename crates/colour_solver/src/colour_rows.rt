@@ -9,7 +9,7 @@ ghost use Rattle.momenta.specs.Gains.{IsGain};
 ghost use Rattle.colour_solver.specs.States.{AreAllStates, AreSameStates, as_vector, total};
 ghost use Rattle.colour_solver.specs.Phases.{constraint_visit};
 ghost use Rattle.colour_solver.specs.RowVisits.{AreRowsOn, IsPassed, between, passed, rows_passed, share};
-ghost use Rattle.colour_solver.specs.ConstraintVisits.{AreRowsBelow, IsConstraintRow, both_visits, constraint_slots, contact_slots, contacts_among, is_joint, joint_slots, joints_among};
+ghost use Rattle.colour_solver.specs.ConstraintVisits.{AreRowsBelow, IsConstraintRow, both_visits, constraint_slots, contact_slots, contacts_among, joint_slots, joints_among};
 ghost use Rattle.colour_solver.specs.declared.constraint_row.ConstraintRow.TheVariants.{Joint, Contact};
 ghost use Rattle.colour_solver.specs.ColourRows.{AreEnds, all_rows, cut, joints_first, last_end, left_of, rows_kept};
 
@@ -76,15 +76,6 @@ fn end_of(ends: &[ColourEnd], colour: usize) -> ColourEnd
     ensures { result ≡ slice_index_or ends.now colour (record { joints = 0; contacts = 0 }) }
 {
     ends[colour]
-}
-
-/// Puts a row into its place.
-#[inline(always)]
-fn put_row<T: Copy>(rows: &mut Vec<T>, place: usize, row: T)
-    requires { place < length rows.old.items }
-    ensures { rows.new.items ≡ slice_set rows.old.items place row }
-{
-    rows[place] = row;
 }
 
 /// The rows from one place up to another.
@@ -404,30 +395,6 @@ impl Rows {
             Phase::Solve => self.pass_one(colour, states, &Solve, &Solve),
             Phase::Bounce => self.pass_one(colour, states, &Bounce, &Bounce),
         }
-    }
-
-    /// Puts the row of a joint that was visited elsewhere in place of the one with that number among the joints.
-    #[inline(always)]
-    pub fn put_joint(&mut self, number: usize, row: &JointRow)
-        requires { number < length (joints_among (all_rows self.old)) }
-        ensures joints { joints_among (all_rows self.new) ≡ slice_set (joints_among (all_rows self.old)) number row.now }
-        ensures contacts { contacts_among (all_rows self.new) ≡ contacts_among (all_rows self.old) }
-        ensures kinds { map is_joint (all_rows self.new) ≡ map is_joint (all_rows self.old) }
-        ensures counts { map length self.new.colours ≡ map length self.old.colours }
-    {
-        put_row(&mut self.joints, number, *row);
-    }
-
-    /// Puts the row of a contact that was visited elsewhere in place of the one with that number among the contacts.
-    #[inline(always)]
-    pub fn put_contact(&mut self, number: usize, row: &ContactRow)
-        requires { number < length (contacts_among (all_rows self.old)) }
-        ensures contacts { contacts_among (all_rows self.new) ≡ slice_set (contacts_among (all_rows self.old)) number row.now }
-        ensures joints { joints_among (all_rows self.new) ≡ joints_among (all_rows self.old) }
-        ensures kinds { map is_joint (all_rows self.new) ≡ map is_joint (all_rows self.old) }
-        ensures counts { map length self.new.colours ≡ map length self.old.colours }
-    {
-        put_row(&mut self.contacts, number, *row);
     }
 
     /// The rows of all joints, in solve order.

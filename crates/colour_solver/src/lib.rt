@@ -17,7 +17,6 @@ mod courses;
 mod passes;
 mod phase;
 mod row_visits;
-mod step_solver;
 mod ticks;
 
 pub use colour_rows::Rows;
@@ -28,5 +27,4 @@ pub use courses::carry_along;
 pub use passes::{Change, Gains, pass_two};
 pub use phase::Phase;
 pub use row_visits::{Row, Slots, Visit, colours_at_once, pass_rows, solve_one};
-pub use step_solver::{OneThread, StepSolver};
 pub use ticks::{Limit, Move, Pull, StepSums, run_step, run_ticks};

@@ -8,7 +8,7 @@ use Rattle.momenta.specs.declared.state.Ends.{Ends}
 use Rattle.colour_solver_base.specs.RowsAfter.{RowAfter}
 use Rattle.colour_solver.specs.declared.constraint_row.ConstraintRow.{ConstraintRow}
 use Rattle.colour_solver.specs.declared.row_visits.Slots.{Slots}
-use Rattle.colour_solver.specs.ConstraintVisits.{constraint_slots, is_joint}
+use Rattle.colour_solver.specs.ConstraintVisits.{RowName, constraint_slots, row_name}
 use Rattle.colour_solver.specs.RowVisits.{passed, rows_passed, share}
 use Rattle.colour_solver.proofs.SlotLaws.{passed_same}
 use Rattle.part_runs.specs.Hidden.{SameMovers, owned}
@@ -30,14 +30,14 @@ module _ (f : ConstraintRow → Ends → RowAfter ConstraintRow) (fair : IsFairV
   after_long [] ss = refl
   after_long (rs ∷ rows) ss = after_long rows (passed constraint_slots f ss rs) ∙ passed_long f fair rs ss
 
-  -- rows stay where they are, each of its kind
+  -- rows stay where they are, each of its constraint
   pub slots_after : (rows : List (List ConstraintRow)) (ss : List BodyState) → map (map constraint_slots) (rows_after f ss rows) ≡ map (map constraint_slots) rows
   slots_after [] ss = refl
   slots_after (rs ∷ rows) ss = ap₂ (λ (x : List Slots) (l : List (List Slots)). x ∷ l) (passed_same constraint_slots f constraint_slots fair.slots ss rs) (slots_after rows (passed constraint_slots f ss rs))
 
-  pub kinds_after : (rows : List (List ConstraintRow)) (ss : List BodyState) → map (map is_joint) (rows_after f ss rows) ≡ map (map is_joint) rows
-  kinds_after [] ss = refl
-  kinds_after (rs ∷ rows) ss = ap₂ (λ (x : List Bool) (l : List (List Bool)). x ∷ l) (passed_same constraint_slots f is_joint fair.kind ss rs) (kinds_after rows (passed constraint_slots f ss rs))
+  pub names_after : (rows : List (List ConstraintRow)) (ss : List BodyState) → map (map row_name) (rows_after f ss rows) ≡ map (map row_name) rows
+  names_after [] ss = refl
+  names_after (rs ∷ rows) ss = ap₂ (λ (x : List RowName) (l : List (List RowName)). x ∷ l) (passed_same constraint_slots f row_name fair.name ss rs) (names_after rows (passed constraint_slots f ss rs))
 
 -- ---- stage after stage
 

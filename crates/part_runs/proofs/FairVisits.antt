@@ -25,7 +25,7 @@ use Rattle.colour_solver.specs.Phases.{constraint_visit}
 use Rattle.colour_solver.specs.declared.constraint_row.ConstraintRow.{ConstraintRow}
 use Rattle.colour_solver.specs.declared.constraint_row.ConstraintRow.TheVariants.{Contact, Joint}
 use Rattle.colour_solver.specs.declared.phase.Phase.TheVariants.{Bounce, Solve, Warm}
-use Rattle.colour_solver.proofs.SlotLaws.{visit_kind, visit_slots}
+use Rattle.colour_solver.proofs.SlotLaws.{visit_name, visit_slots}
 use Rattle.part_runs.specs.Passes.{AreFair, IsFairVisit}
 use Rattle.part_runs.specs.Laws.{VisitsAreFair}
 
@@ -140,13 +140,13 @@ either_fair f g h k (Joint r) e = h r e
 either_fair f g h k (Contact r) e = k r e
 
 pub all_warmed_fair : IsFairVisit constraint_warmed
-all_warmed_fair = record { ends = either_fair joint_warmed row_warmed joint_warmed_fair row_warmed_fair; slots = λ r e. visit_slots Warm r e; kind = λ r e. visit_kind Warm r e }
+all_warmed_fair = record { ends = either_fair joint_warmed row_warmed joint_warmed_fair row_warmed_fair; slots = λ r e. visit_slots Warm r e; name = λ r e. visit_name Warm r e }
 
 pub all_solved_fair : IsFairVisit constraint_solved
-all_solved_fair = record { ends = either_fair joint_solved row_solved joint_solved_fair row_solved_fair; slots = λ r e. visit_slots Solve r e; kind = λ r e. visit_kind Solve r e }
+all_solved_fair = record { ends = either_fair joint_solved row_solved joint_solved_fair row_solved_fair; slots = λ r e. visit_slots Solve r e; name = λ r e. visit_name Solve r e }
 
 pub all_bounced_fair : IsFairVisit constraint_bounced
-all_bounced_fair = record { ends = either_fair joint_unbounced row_bounced (λ r e. still e) row_bounced_fair; slots = λ r e. visit_slots Bounce r e; kind = λ r e. visit_kind Bounce r e }
+all_bounced_fair = record { ends = either_fair joint_unbounced row_bounced (λ r e. still e) row_bounced_fair; slots = λ r e. visit_slots Bounce r e; name = λ r e. visit_name Bounce r e }
 
 -- ---- the passes by their names
 

@@ -22,7 +22,6 @@ pub mod MailLaws
 pub mod PickLaws
 pub mod OwnerLaws
 pub mod BackLaws
-pub mod KindLaws
 pub mod KeptLaws
 pub mod HomeLaws
 pub mod MoveLaws

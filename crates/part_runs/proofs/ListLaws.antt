@@ -9,10 +9,6 @@ pub same_if : {X : Type 0} (t : Bool) (x : X) → cond t x x ≡ x
 same_if true x = refl
 same_if false x = refl
 
-pub length_if : {X : Type 0} (t : Bool) (x : X) (xs : List X) → length (cond t (x ∷ xs) xs) ≡ cond t (suc (length xs)) (length xs)
-length_if true x xs = refl
-length_if false x xs = refl
-
 -- ---- maps
 
 pub length_mapped : {X Y : Type 0} (f : X → Y) (xs : List X) → length (map f xs) ≡ length xs

@@ -1,24 +1,20 @@
--- The parts of all rows in one list: what a part has are the rows that have its number there, and so it is with joints
--- and with contacts.
-use Rattle.std.proofs.Common.{◌≡◌, ℕ, suc, ◌+◌, Bool, true, false, cond, not, List, [], ◌∷◌, ◌++◌, length, map, arith, refl, sym, ap, ap₂, ◌∙◌}
-use Rattle.std.specs.Prelude.{nat_eq}
+-- The parts of all rows in one list: what a part has are the rows that have its number there.
+use Rattle.std.proofs.Common.{◌≡◌, ℕ, ◌+◌, ◌<◌, Bool, true, false, cond, List, [], ◌∷◌, ◌++◌, length, map, All, refl, sym, ap, ap₂, ◌∙◌}
 use Rattle.std.proofs.lemmas.List.{append-nil, append_assoc, length-append, map-append}
+use Rattle.std.proofs.lemmas.List.Elements.{All-append, All-cons, All-nil}
 use Rattle.momenta.specs.declared.state.BodyState.{BodyState}
-use Rattle.joint_rows.specs.declared.row.JointRow.{JointRow}
-use Rattle.colour_solver_base.specs.declared.row.ContactRow.{ContactRow}
 use Rattle.colour_solver.specs.declared.constraint_row.ConstraintRow.{ConstraintRow}
-use Rattle.colour_solver.specs.declared.constraint_row.ConstraintRow.TheVariants.{Contact, Joint}
 use Rattle.colour_solver.specs.declared.row_visits.Slots.{Slots}
 use Rattle.colour_solver.specs.Colour.{is_mover}
-use Rattle.colour_solver.specs.ConstraintVisits.{constraint_slots, contact_slots, contacts_among, is_joint, joint_slots, joints_among}
-use Rattle.part_runs.specs.Hidden.{owned, part_at, part_of}
+use Rattle.colour_solver.specs.ConstraintVisits.{constraint_slots}
+use Rattle.part_runs.specs.Hidden.{ArePartsBelow, owned, part_at, part_of}
 use Rattle.part_runs.specs.Walks.{first_part, home_of, own_left}
 use Rattle.part_runs.specs.Runs.{own_stages}
-use Rattle.part_runs.specs.ReadBack.{owners_of}
+use Rattle.part_runs.specs.ReadBack.{owners_of, picked}
 use Rattle.part_runs.proofs.AfterLaws.{left_is}
 use Rattle.part_runs.proofs.FlatLaws.{flat}
-use Rattle.part_runs.proofs.ListLaws.{length_mapped, map_mapped, same_if}
-use Rattle.part_runs.proofs.PickLaws.{picked, picked_on, picked_owned}
+use Rattle.part_runs.proofs.ListLaws.{length_mapped, map_mapped}
+use Rattle.part_runs.proofs.PickLaws.{picked_on, picked_owned}
 
 -- ---- stage by stage
 
@@ -67,90 +63,18 @@ pub count_owners : {R : Type 0} (at : R → Slots) (home : List ℕ) (first : Li
 count_owners at home first coloured left =
     length-append (map (part_of at (part_at home) first) coloured) (map (λ r. 0) left) ∙ ap₂ (λ (x y : ℕ). x + y) (length_mapped (part_of at (part_at home) first) coloured) (length_mapped (λ r. 0) left) ∙ sym (length-append coloured left)
 
--- ---- of joints, or of contacts
+-- ---- each is one of the parts
 
--- the parts of those of a kind
-abbrev pub owners_where : List Bool → List ℕ → List ℕ
-owners_where [] owners = []
-owners_where (b ∷ kinds) [] = []
-owners_where (b ∷ kinds) (o ∷ owners) = cond b (o ∷ owners_where kinds owners) (owners_where kinds owners)
+mapped_below : {X : Type 0} (n : ℕ) (f : X → ℕ) (xs : List X) → ((x : X) → f x < n) → All (λ owner. owner < n) (map f xs)
+mapped_below n f [] below = All-nil (λ owner. owner < n)
+mapped_below n f (x ∷ xs) below = All-cons (λ owner. owner < n) (f x) (map f xs) (below x) (mapped_below n f xs below)
 
-joints_if : (t : Bool) (r : ConstraintRow) (rs : List ConstraintRow) → joints_among (cond t (r ∷ rs) rs) ≡ cond t (joints_among (r ∷ rs)) (joints_among rs)
-joints_if true r rs = refl
-joints_if false r rs = refl
+below_if : (t : Bool) (n a b : ℕ) → a < n → b < n → cond t a b < n
+below_if true n a b h k = h
+below_if false n a b h k = k
 
-contacts_if : (t : Bool) (r : ConstraintRow) (rs : List ConstraintRow) → contacts_among (cond t (r ∷ rs) rs) ≡ cond t (contacts_among (r ∷ rs)) (contacts_among rs)
-contacts_if true r rs = refl
-contacts_if false r rs = refl
-
-pub joints_picked : (k : ℕ) (owners : List ℕ) (rows : List ConstraintRow) → joints_among (picked k owners rows) ≡ picked k (owners_where (map is_joint rows) owners) (joints_among rows)
-joints_picked k [] [] = refl
-joints_picked k [] (Joint r ∷ rows) = refl
-joints_picked k [] (Contact r ∷ rows) = refl
-joints_picked k (o ∷ owners) [] = refl
-joints_picked k (o ∷ owners) (Joint r ∷ rows) = joints_if (nat_eq o k) (Joint r) (picked k owners rows) ∙ ap (λ (l : List JointRow). cond (nat_eq o k) (r ∷ l) l) (joints_picked k owners rows)
-joints_picked k (o ∷ owners) (Contact r ∷ rows) = joints_if (nat_eq o k) (Contact r) (picked k owners rows) ∙ same_if (nat_eq o k) (joints_among (picked k owners rows)) ∙ joints_picked k owners rows
-
-pub contacts_picked : (k : ℕ) (owners : List ℕ) (rows : List ConstraintRow) → contacts_among (picked k owners rows) ≡ picked k (owners_where (map not (map is_joint rows)) owners) (contacts_among rows)
-contacts_picked k [] [] = refl
-contacts_picked k [] (Joint r ∷ rows) = refl
-contacts_picked k [] (Contact r ∷ rows) = refl
-contacts_picked k (o ∷ owners) [] = refl
-contacts_picked k (o ∷ owners) (Joint r ∷ rows) = contacts_if (nat_eq o k) (Joint r) (picked k owners rows) ∙ same_if (nat_eq o k) (contacts_among (picked k owners rows)) ∙ contacts_picked k owners rows
-contacts_picked k (o ∷ owners) (Contact r ∷ rows) = contacts_if (nat_eq o k) (Contact r) (picked k owners rows) ∙ ap (λ (l : List ContactRow). cond (nat_eq o k) (r ∷ l) l) (contacts_picked k owners rows)
-
-pub count_joints : (owners : List ℕ) (rows : List ConstraintRow) → length owners ≡ length rows → length (owners_where (map is_joint rows) owners) ≡ length (joints_among rows)
-count_joints [] [] long = refl
-count_joints [] (r ∷ rows) long = absurd (omega (arith, long))
-count_joints (o ∷ owners) [] long = absurd (omega (arith, long))
-count_joints (o ∷ owners) (Joint r ∷ rows) long = ap suc (count_joints owners rows (omega (arith, long)))
-count_joints (o ∷ owners) (Contact r ∷ rows) long = count_joints owners rows (omega (arith, long))
-
-pub count_contacts : (owners : List ℕ) (rows : List ConstraintRow) → length owners ≡ length rows → length (owners_where (map not (map is_joint rows)) owners) ≡ length (contacts_among rows)
-count_contacts [] [] long = refl
-count_contacts [] (r ∷ rows) long = absurd (omega (arith, long))
-count_contacts (o ∷ owners) [] long = absurd (omega (arith, long))
-count_contacts (o ∷ owners) (Joint r ∷ rows) long = count_contacts owners rows (omega (arith, long))
-count_contacts (o ∷ owners) (Contact r ∷ rows) long = ap suc (count_contacts owners rows (omega (arith, long)))
-
-where_on : (kinds more : List Bool) (owners rest : List ℕ) → length kinds ≡ length owners → owners_where (kinds ++ more) (owners ++ rest) ≡ owners_where kinds owners ++ owners_where more rest
-where_on [] more [] rest long = refl
-where_on [] more (o ∷ owners) rest long = absurd (omega (arith, long))
-where_on (b ∷ kinds) more [] rest long = absurd (omega (arith, long))
-where_on (true ∷ kinds) more (o ∷ owners) rest long = ap (λ (l : List ℕ). o ∷ l) (where_on kinds more owners rest (omega (arith, long)))
-where_on (false ∷ kinds) more (o ∷ owners) rest long = where_on kinds more owners rest (omega (arith, long))
-
-module _ (home : List ℕ) (first : List BodyState) where
-  joints_coloured : (rows : List ConstraintRow) → owners_where (map is_joint rows) (map (part_of constraint_slots (part_at home) first) rows) ≡ map (part_of joint_slots (part_at home) first) (joints_among rows)
-  joints_coloured [] = refl
-  joints_coloured (Joint r ∷ rows) = ap (λ (l : List ℕ). part_of joint_slots (part_at home) first r ∷ l) (joints_coloured rows)
-  joints_coloured (Contact r ∷ rows) = joints_coloured rows
-
-  contacts_coloured : (rows : List ConstraintRow) → owners_where (map not (map is_joint rows)) (map (part_of constraint_slots (part_at home) first) rows) ≡ map (part_of contact_slots (part_at home) first) (contacts_among rows)
-  contacts_coloured [] = refl
-  contacts_coloured (Joint r ∷ rows) = contacts_coloured rows
-  contacts_coloured (Contact r ∷ rows) = ap (λ (l : List ℕ). part_of contact_slots (part_at home) first r ∷ l) (contacts_coloured rows)
-
-  joints_left : (rows : List ConstraintRow) → owners_where (map is_joint rows) (map (λ r. 0) rows) ≡ map (λ r. 0) (joints_among rows)
-  joints_left [] = refl
-  joints_left (Joint r ∷ rows) = ap (λ (l : List ℕ). 0 ∷ l) (joints_left rows)
-  joints_left (Contact r ∷ rows) = joints_left rows
-
-  contacts_left : (rows : List ConstraintRow) → owners_where (map not (map is_joint rows)) (map (λ r. 0) rows) ≡ map (λ r. 0) (contacts_among rows)
-  contacts_left [] = refl
-  contacts_left (Joint r ∷ rows) = contacts_left rows
-  contacts_left (Contact r ∷ rows) = ap (λ (l : List ℕ). 0 ∷ l) (contacts_left rows)
-
-  pub joint_owners : (coloured left : List ConstraintRow) → owners_where (map is_joint (coloured ++ left)) (owners_of constraint_slots home first coloured left) ≡ owners_of joint_slots home first (joints_among coloured) (joints_among left)
-  joint_owners coloured left =
-      let to : ConstraintRow → ℕ = part_of constraint_slots (part_at home) first in
-      ap (λ (l : List Bool). owners_where l (owners_of constraint_slots home first coloured left)) (map-append is_joint coloured left)
-      ∙ where_on (map is_joint coloured) (map is_joint left) (map to coloured) (map (λ r. 0) left) (length_mapped is_joint coloured ∙ sym (length_mapped to coloured))
-      ∙ ap₂ (λ (x y : List ℕ). x ++ y) (joints_coloured coloured) (joints_left left)
-
-  pub contact_owners : (coloured left : List ConstraintRow) → owners_where (map not (map is_joint (coloured ++ left))) (owners_of constraint_slots home first coloured left) ≡ owners_of contact_slots home first (contacts_among coloured) (contacts_among left)
-  contact_owners coloured left =
-      let to : ConstraintRow → ℕ = part_of constraint_slots (part_at home) first in
-      ap (λ (l : List Bool). owners_where l (owners_of constraint_slots home first coloured left)) (ap (map not) (map-append is_joint coloured left) ∙ map-append not (map is_joint coloured) (map is_joint left))
-      ∙ where_on (map not (map is_joint coloured)) (map not (map is_joint left)) (map to coloured) (map (λ r. 0) left) (length_mapped not (map is_joint coloured) ∙ length_mapped is_joint coloured ∙ sym (length_mapped to coloured))
-      ∙ ap₂ (λ (x y : List ℕ). x ++ y) (contacts_coloured coloured) (contacts_left left)
+pub owners_below : {R : Type 0} (n : ℕ) (at : R → Slots) (home : List ℕ) (first : List BodyState) (coloured left : List R) → 0 < n → ArePartsBelow (part_at home) n → All (λ owner. owner < n) (owners_of at home first coloured left)
+owners_below {R} n at home first coloured left positive below =
+    All-append (λ owner. owner < n) (map (part_of at (part_at home) first) coloured) (map (λ r. 0) left)
+    (mapped_below n (part_of at (part_at home) first) coloured (λ (r : R). below_if (is_mover first (at r).a) n (part_at home (at r).a) (part_at home (at r).b) (below (at r).a) (below (at r).b)))
+    (mapped_below n (λ r. 0) left (λ r. positive))

@@ -10,9 +10,9 @@ use Rattle.colour_solver_base.specs.RowsAfter.{RowAfter}
 use Rattle.colour_solver.specs.declared.constraint_row.ConstraintRow.{ConstraintRow}
 use Rattle.colour_solver.specs.declared.row_visits.Slots.{Slots}
 use Rattle.colour_solver.specs.Colour.{is_mover}
-use Rattle.colour_solver.specs.ConstraintVisits.{AreRowsBelow, IsRowBelow, constraint_slots}
+use Rattle.colour_solver.specs.ConstraintVisits.{constraint_slots}
 use Rattle.colour_solver.specs.RowVisits.{passed, rows_passed}
-use Rattle.part_runs.specs.Hidden.{AreAt, IsAt, SameMovers, hidden, owned, part_at}
+use Rattle.part_runs.specs.Hidden.{AreAt, ArePlaced, IsAt, IsPlacedRow, SameMovers, hidden, owned, part_at}
 use Rattle.part_runs.specs.Walks.{Walk, first_part, home_of}
 use Rattle.part_runs.specs.Passes.{AreVisited, IsFairVisit}
 use Rattle.part_runs.specs.Runs.{IsReached, Stand, Step, stage_rows, visited, walks_of}
@@ -121,11 +121,11 @@ module _ (n : ℕ) (t : Step) (f : ConstraintRow → Ends → RowAfter Constrain
   -- ---- all of them
 
   module _ (positive : 0 < n) (can : CanRun t.states t.rows) (homes : AreHomes n t) where
-    placed : All (AreRowsBelow (length t.states)) t.rows.colours
-    placed = all_flat (IsRowBelow (length t.states)) t.rows.colours (all_left (IsRowBelow (length t.states)) (flat_map (λ rs. rs) t.rows.colours) t.rows.left can.rows)
+    placed : All (ArePlaced (length t.states)) t.rows.colours
+    placed = all_flat (IsPlacedRow (length t.states)) t.rows.colours (all_left (IsPlacedRow (length t.states)) (flat_map (λ rs. rs) t.rows.colours) t.rows.left can.rows)
 
-    left_placed : AreRowsBelow (length t.states) t.rows.left
-    left_placed = all_right (IsRowBelow (length t.states)) (flat_map (λ rs. rs) t.rows.colours) t.rows.left can.rows
+    left_placed : ArePlaced (length t.states) t.rows.left
+    left_placed = all_right (IsPlacedRow (length t.states)) (flat_map (λ rs. rs) t.rows.colours) t.rows.left can.rows
 
     at_first : IsStanding n t.states t.home t.home
     at_first = standing_first n t.states t.home homes.long homes.below

@@ -1,5 +1,5 @@
 -- Whatever a step does to its bodies and rows, the same slots have movers, and rows are where they were, each of its
--- kind.
+-- constraint.
 use Rattle.std.proofs.Common.{zero, suc, map, refl, ◌∙◌}
 use Rattle.fixed_geom.specs.declared.vectors.Vec2.{Vec2}
 use Rattle.momenta.specs.Motions.{advanced, pulled, speed_clamped}
@@ -16,7 +16,7 @@ use Rattle.colour_solver.proofs.CourseLaws.{courses-carry, courses_same}
 use Rattle.part_runs.specs.Passes.{IsFairVisit}
 use Rattle.part_runs.specs.Runs.{IsReached, Stand, Step, begun, ended, ran_stand, solved_stand, stand_of, ticks_stand, visited, warm_stand}
 use Rattle.part_runs.specs.Laws.{StandsAreReached, TicksAreReached}
-use Rattle.part_runs.proofs.AfterLaws.{kinds_after, slots_after}
+use Rattle.part_runs.proofs.AfterLaws.{names_after, slots_after}
 use Rattle.part_runs.proofs.FairVisits.{all_bounced_fair, all_solved_fair, all_warmed_fair}
 use Rattle.part_runs.proofs.HiddenLaws.{IsChange, beside-map}
 use Rattle.part_runs.proofs.KeptLaws.{changed_same, stages_same}
@@ -30,7 +30,7 @@ changed_reached h is t s courses reached = record {
   mass = λ slot. (beside-map h is s.states).mass slot ∙ reached.mass slot;
   courses = λ all. courses (reached.courses all);
   slots = reached.slots;
-  kinds = reached.kinds;
+  names = reached.names;
 }
 
 pub pass_reached : (f : MassData → Motion → Motion) (t : Step) (s : Stand) → IsReached t s → IsReached t (record s { states = pass f s.states })
@@ -46,7 +46,7 @@ visited_reached f fair t s reached =
       mass = λ slot. same.mass slot ∙ reached.mass slot;
       courses = λ all. courses_same s.states (visited f s).states same (reached.courses all);
       slots = slots_after f fair s.rows s.states ∙ reached.slots;
-      kinds = kinds_after f fair s.rows s.states ∙ reached.kinds;
+      names = names_after f fair s.rows s.states ∙ reached.names;
     }
 
 pub begun_reached : (g : Vec2) (t : Step) (s : Stand) → IsReached t s → IsReached t (begun g s)
@@ -69,7 +69,7 @@ stands_reached t s reached = record {
 }
 
 pub first_reached : (t : Step) → IsReached t (stand_of t)
-first_reached t = record { movers = λ slot. refl; long = refl; mass = λ slot. refl; courses = λ all. all; slots = refl; kinds = refl }
+first_reached t = record { movers = λ slot. refl; long = refl; mass = λ slot. refl; courses = λ all. all; slots = refl; names = refl }
 
 pub warm_reached : (t : Step) (s : Stand) → IsReached t s → IsReached t (warm_stand t.gravity s)
 warm_reached t s reached = visited_reached constraint_warmed all_warmed_fair t (begun t.gravity s) (begun_reached t.gravity t s reached)

@@ -12,7 +12,7 @@ use Rattle.momenta.specs.declared.state.Ends.{Ends}
 use Rattle.colour_solver_base.specs.RowsAfter.{RowAfter}
 use Rattle.colour_solver.specs.declared.constraint_row.ConstraintRow.{ConstraintRow}
 use Rattle.colour_solver.specs.declared.row_visits.Slots.{Slots}
-use Rattle.colour_solver.specs.ConstraintVisits.{constraint_bounced, constraint_slots, constraint_solved, constraint_warmed, is_joint}
+use Rattle.colour_solver.specs.ConstraintVisits.{constraint_bounced, constraint_slots, constraint_solved, constraint_warmed, row_name}
 use Rattle.colour_solver.specs.Passes.{carried_along, carry, changed, gain, pass}
 use Rattle.colour_solver.specs.States.{AreSameBeside, total}
 use Rattle.colour_solver.specs.Ticks.{Run, carry_all, clamp_all, pull_all, ran, start, tick, ticks, visit_all}
@@ -20,13 +20,13 @@ use Rattle.colour_solver.specs.RowVisits.{passed, share}
 use Rattle.colour_solver.proofs.CourseLaws.{beside_on, beside_same, total-carry}
 use Rattle.colour_solver.proofs.VectorLaws.{plus_zero}
 use Rattle.colour_solver.proofs.SlotLaws.{passed_same}
-use Rattle.part_runs.specs.Hidden.{SameMovers}
+use Rattle.part_runs.specs.Hidden.{ArePlaced, IsPlaced, SameMovers}
 use Rattle.part_runs.specs.Passes.{IsFairVisit}
 use Rattle.part_runs.specs.Runs.{added_in}
 use Rattle.part_runs.proofs.FairVisits.{all_bounced_fair, all_solved_fair, all_warmed_fair}
 use Rattle.part_runs.proofs.HiddenLaws.{beside-map}
 use Rattle.part_runs.proofs.PassApart.{passed_long, passed_moves}
-use Rattle.part_runs.proofs.WholeLaws.{ArePlaced, IsPlaced, along_is, changed_is, more_clamp, more_gravity, more_immovable, same-passed, same_still, total-pass, total-passed}
+use Rattle.part_runs.proofs.WholeLaws.{along_is, changed_is, more_clamp, more_gravity, more_immovable, same-passed, same_still, total-pass, total-passed}
 
 -- ---- what a run keeps of the bodies and rows with which it began
 
@@ -34,7 +34,7 @@ pub record IsKept (first : List BodyState) (before : List ConstraintRow) (r : Ru
   pub movers : SameMovers first r.states
   pub long : length r.states ≡ length first
   pub slots : map constraint_slots r.rows ≡ map constraint_slots before
-  pub kinds : map is_joint r.rows ≡ map is_joint before
+  pub names : map row_name r.rows ≡ map row_name before
 
 all_unmapped : {X Y : Type 0} (f : X → Y) (P : Y → Type 0) (xs : List X) → All P (map f xs) → All (λ (x : X). P (f x)) xs
 all_unmapped f P [] all = λ k d lt. absurd (omega (arith, lt))
@@ -73,7 +73,7 @@ pull_act v = record {
     movers = λ slot. (beside-map (changed (pulled v)) (changed_is (pulled v)) r.states).movable slot ∙ kept.movers slot;
     long = (beside-map (changed (pulled v)) (changed_is (pulled v)) r.states).long ∙ kept.long;
     slots = kept.slots;
-    kinds = kept.kinds;
+    names = kept.names;
   };
   whole = λ first before r placed kept whole. record {
     same = beside_on first r.states (pass (pulled v) r.states) whole.same (beside-map (changed (pulled v)) (changed_is (pulled v)) r.states);
@@ -87,7 +87,7 @@ clamp_act f = record {
     movers = λ slot. (beside-map (changed f) (changed_is f) r.states).movable slot ∙ kept.movers slot;
     long = (beside-map (changed f) (changed_is f) r.states).long ∙ kept.long;
     slots = kept.slots;
-    kinds = kept.kinds;
+    names = kept.names;
   };
   whole = λ first before r placed kept whole. record {
     same = beside_on first r.states (pass f r.states) whole.same (beside-map (changed f) (changed_is f) r.states);
@@ -101,7 +101,7 @@ carry_act = record {
     movers = λ slot. (beside-map carried_along along_is r.states).movable slot ∙ kept.movers slot;
     long = (beside-map carried_along along_is r.states).long ∙ kept.long;
     slots = kept.slots;
-    kinds = kept.kinds;
+    names = kept.names;
   };
   whole = λ first before r placed kept whole. record {
     same = beside_on first r.states (carry r.states) whole.same (beside-map carried_along along_is r.states);
@@ -115,7 +115,7 @@ visit_act f fair = record {
     movers = λ slot. passed_moves f fair r.rows r.states slot ∙ kept.movers slot;
     long = passed_long f fair r.rows r.states ∙ kept.long;
     slots = passed_same constraint_slots f constraint_slots fair.slots r.states r.rows ∙ kept.slots;
-    kinds = passed_same constraint_slots f is_joint fair.kind r.states r.rows ∙ kept.kinds;
+    names = passed_same constraint_slots f row_name fair.name r.states r.rows ∙ kept.names;
   };
   whole = λ first before r placed kept whole.
       let at : ArePlaced (length r.states) r.rows = placed_kept first before r kept placed in
@@ -155,7 +155,7 @@ ran_act count v = then_act (ticks count v) (visit_all constraint_bounced) (ticks
 -- ---- from the start
 
 start_kept : (states : List BodyState) (rows : List ConstraintRow) → IsKept states rows (start states rows)
-start_kept states rows = record { movers = λ slot. refl; long = refl; slots = refl; kinds = refl }
+start_kept states rows = record { movers = λ slot. refl; long = refl; slots = refl; names = refl }
 
 pub ran_kept : (count : ℕ) (v : Vec2) (states : List BodyState) (rows : List ConstraintRow) → IsKept states rows (ran count v (start states rows))
 ran_kept count v states rows = (ran_act count v).kept states rows (start states rows) (start_kept states rows)

@@ -7,9 +7,9 @@ use Rattle.std.proofs.lemmas.List.Elements.{All-head, All-tail}
 use Rattle.momenta.specs.declared.state.BodyState.{BodyState}
 use Rattle.colour_solver.specs.declared.constraint_row.ConstraintRow.{ConstraintRow}
 use Rattle.colour_solver.specs.Colour.{IsColour, is_mover}
-use Rattle.colour_solver.specs.ConstraintVisits.{AreRowsBelow, constraint_slots}
+use Rattle.colour_solver.specs.ConstraintVisits.{constraint_slots}
 use Rattle.colour_solver.specs.States.{movers_of}
-use Rattle.part_runs.specs.Hidden.{AreAt, ArePartsBelow, part_at}
+use Rattle.part_runs.specs.Hidden.{AreAt, ArePartsBelow, ArePlaced, part_at}
 use Rattle.part_runs.specs.Walks.{IsWalk, Walk, first_part, home_of, setting_out, stages_from, walk_home, walk_rows}
 use Rattle.part_runs.specs.Stages.{rows_at, stood, walk_at}
 use Rattle.part_runs.specs.Laws.{HomesAreBelow}
@@ -49,7 +49,7 @@ pub record IsStageWalk (n : ℕ) (first : List BodyState) (home at : List ℕ) (
   pub there : AreAt constraint_slots (part_at w.at) to first rows
   pub below : All (λ r. to r < n) rows
 
-stage_walk : (n : ℕ) (first : List BodyState) (home at : List ℕ) (aim : ℕ → ℕ) (to : ConstraintRow → ℕ) (rows : List ConstraintRow) → IsStanding n first home at → AreRowsBelow (length first) rows → All (λ r. to r < n) rows → AreAt constraint_slots aim to first rows
+stage_walk : (n : ℕ) (first : List BodyState) (home at : List ℕ) (aim : ℕ → ℕ) (to : ConstraintRow → ℕ) (rows : List ConstraintRow) → IsStanding n first home at → ArePlaced (length first) rows → All (λ r. to r < n) rows → AreAt constraint_slots aim to first rows
     → IsStageWalk n first home at (walk_rows first to rows (setting_out at)) to rows
 stage_walk n first home at aim to rows is placed below aims =
     let going : IsGoing n first at aim (setting_out at) = going_first n first at aim is.long is.below in
@@ -61,11 +61,11 @@ stage_walk n first home at aim to rows is placed below aims =
     }
 
 module _ (n : ℕ) (first : List BodyState) (home : List ℕ) (at_home : ArePartsBelow (part_at home) n) (positive : 0 < n) where
-  colour_walk : (at : List ℕ) (rows : List ConstraintRow) → IsStanding n first home at → AreRowsBelow (length first) rows → IsColour constraint_slots first rows → IsStageWalk n first home at (walk_rows first (home_of home first) rows (setting_out at)) (home_of home first) rows
+  colour_walk : (at : List ℕ) (rows : List ConstraintRow) → IsStanding n first home at → ArePlaced (length first) rows → IsColour constraint_slots first rows → IsStageWalk n first home at (walk_rows first (home_of home first) rows (setting_out at)) (home_of home first) rows
   colour_walk at rows is placed colour =
       stage_walk n first home at (aim_of first (home_of home first) rows) (home_of home first) rows is placed (λ k d lt. part_below constraint_slots (part_at home) n first (get_or rows k d) at_home) (colour_aims first (home_of home first) rows colour)
 
-  left_walk : (at : List ℕ) (rows : List ConstraintRow) → IsStanding n first home at → AreRowsBelow (length first) rows → IsStageWalk n first home at (walk_rows first first_part rows (setting_out at)) first_part rows
+  left_walk : (at : List ℕ) (rows : List ConstraintRow) → IsStanding n first home at → ArePlaced (length first) rows → IsStageWalk n first home at (walk_rows first first_part rows (setting_out at)) first_part rows
   left_walk at rows is placed = stage_walk n first home at (λ slot. 0) first_part rows is placed (λ k d lt. positive) (λ k d lt. record { a = λ m. refl; b = λ m. refl })
 
   -- ---- the way home
@@ -91,34 +91,34 @@ module _ (n : ℕ) (first : List BodyState) (home : List ℕ) (at_home : ArePart
 
   -- ---- all of them
 
-  module _ (left : List ConstraintRow) (left_placed : AreRowsBelow (length first) left) where
+  module _ (left : List ConstraintRow) (left_placed : ArePlaced (length first) left) where
     abbrev pub walks_from : List (List ConstraintRow) → List ℕ → List Walk
     walks_from colours at = stages_from home (movers_of first) first colours left at
 
-    pub colours_walked : (colours : List (List ConstraintRow)) (at : List ℕ) (i : ℕ) → IsStanding n first home at → All (AreRowsBelow (length first)) colours → All (IsColour constraint_slots first) colours → i < length colours
+    pub colours_walked : (colours : List (List ConstraintRow)) (at : List ℕ) (i : ℕ) → IsStanding n first home at → All (ArePlaced (length first)) colours → All (IsColour constraint_slots first) colours → i < length colours
         → IsStageWalk n first home (stood at (walks_from colours at) i) (walk_at (walks_from colours at) i) (home_of home first) (rows_at colours i)
     colours_walked [] at i is placed apart lt = absurd (omega (arith, lt))
-    colours_walked (rows ∷ colours) at zero is placed apart lt = colour_walk at rows is (All-head (AreRowsBelow (length first)) rows colours placed) (All-head (IsColour constraint_slots first) rows colours apart)
+    colours_walked (rows ∷ colours) at zero is placed apart lt = colour_walk at rows is (All-head (ArePlaced (length first)) rows colours placed) (All-head (IsColour constraint_slots first) rows colours apart)
     colours_walked (rows ∷ colours) at (suc i) is placed apart lt =
-        let now = colour_walk at rows is (All-head (AreRowsBelow (length first)) rows colours placed) (All-head (IsColour constraint_slots first) rows colours apart) in
+        let now = colour_walk at rows is (All-head (ArePlaced (length first)) rows colours placed) (All-head (IsColour constraint_slots first) rows colours apart) in
         let w : Walk = walk_rows first (home_of home first) rows (setting_out at) in
-        colours_walked colours w.at i (standing_on n first home at w is now.walk) (All-tail (AreRowsBelow (length first)) rows colours placed) (All-tail (IsColour constraint_slots first) rows colours apart) (omega (arith, lt))
+        colours_walked colours w.at i (standing_on n first home at w is now.walk) (All-tail (ArePlaced (length first)) rows colours placed) (All-tail (IsColour constraint_slots first) rows colours apart) (omega (arith, lt))
 
-    pub left_walked : (colours : List (List ConstraintRow)) (at : List ℕ) → IsStanding n first home at → All (AreRowsBelow (length first)) colours → All (IsColour constraint_slots first) colours
+    pub left_walked : (colours : List (List ConstraintRow)) (at : List ℕ) → IsStanding n first home at → All (ArePlaced (length first)) colours → All (IsColour constraint_slots first) colours
         → IsStageWalk n first home (stood at (walks_from colours at) (length colours)) (walk_at (walks_from colours at) (length colours)) first_part left
     left_walked [] at is placed apart = left_walk at left is left_placed
     left_walked (rows ∷ colours) at is placed apart =
-        let now = colour_walk at rows is (All-head (AreRowsBelow (length first)) rows colours placed) (All-head (IsColour constraint_slots first) rows colours apart) in
+        let now = colour_walk at rows is (All-head (ArePlaced (length first)) rows colours placed) (All-head (IsColour constraint_slots first) rows colours apart) in
         let w : Walk = walk_rows first (home_of home first) rows (setting_out at) in
-        left_walked colours w.at (standing_on n first home at w is now.walk) (All-tail (AreRowsBelow (length first)) rows colours placed) (All-tail (IsColour constraint_slots first) rows colours apart)
+        left_walked colours w.at (standing_on n first home at w is now.walk) (All-tail (ArePlaced (length first)) rows colours placed) (All-tail (IsColour constraint_slots first) rows colours apart)
 
-    pub home_walked : (colours : List (List ConstraintRow)) (at : List ℕ) → length home ≡ length first → IsStanding n first home at → All (AreRowsBelow (length first)) colours → All (IsColour constraint_slots first) colours
+    pub home_walked : (colours : List (List ConstraintRow)) (at : List ℕ) → length home ≡ length first → IsStanding n first home at → All (ArePlaced (length first)) colours → All (IsColour constraint_slots first) colours
         → IsWalkHome (stood at (walks_from colours at) (suc (length colours))) (walk_at (walks_from colours at) (suc (length colours)))
     home_walked [] at long is placed apart =
         let now = left_walk at left is left_placed in
         let w : Walk = walk_rows first first_part left (setting_out at) in
         way_home w.at long (standing_on n first home at w is now.walk)
     home_walked (rows ∷ colours) at long is placed apart =
-        let now = colour_walk at rows is (All-head (AreRowsBelow (length first)) rows colours placed) (All-head (IsColour constraint_slots first) rows colours apart) in
+        let now = colour_walk at rows is (All-head (ArePlaced (length first)) rows colours placed) (All-head (IsColour constraint_slots first) rows colours apart) in
         let w : Walk = walk_rows first (home_of home first) rows (setting_out at) in
-        home_walked colours w.at long (standing_on n first home at w is now.walk) (All-tail (AreRowsBelow (length first)) rows colours placed) (All-tail (IsColour constraint_slots first) rows colours apart)
+        home_walked colours w.at long (standing_on n first home at w is now.walk) (All-tail (ArePlaced (length first)) rows colours placed) (All-tail (IsColour constraint_slots first) rows colours apart)

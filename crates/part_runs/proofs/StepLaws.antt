@@ -29,7 +29,6 @@ use Rattle.part_runs.proofs.PassLaws.{passes}
 use Rattle.part_runs.proofs.ReachLaws.{ran_reached}
 use Rattle.part_runs.proofs.RunWhole.{IsKept, IsWhole, ran_kept, ran_whole}
 use Rattle.part_runs.proofs.SummedLaws.{ran_summed}
-use Rattle.part_runs.proofs.WholeLaws.{placed_rows}
 
 -- ---- bodies
 
@@ -89,7 +88,7 @@ parts_step t n positive can homes each =
     let kept : IsKept t.states (all_rows t.rows) r = ran_kept t.count t.gravity t.states (all_rows t.rows) in
     let summed = ran_summed t n positive can homes in
     let reached : IsReached t s = ran_reached t in
-    let whole : IsWhole t.states r = ran_whole t.count t.gravity t.states (all_rows t.rows) (placed_rows (length t.states) (all_rows t.rows) can.rows) in
+    let whole : IsWhole t.states r = ran_whole t.count t.gravity t.states (all_rows t.rows) can.rows in
     let from : ℕ → ℕ = source (part_at t.home) t.states in
     let below : (slot : ℕ) → from slot < n = λ slot. source_below (is_mover t.states slot) (part_at t.home slot) n positive (homes.below slot) in
     let long : length r.states ≡ length s.states = ap length summed.states in

@@ -8,8 +8,8 @@ use Rattle.std.proofs.lemmas.List.Quantifiers.{all_pairs_push}
 use Rattle.momenta.specs.declared.state.BodyState.{BodyState}
 use Rattle.colour_solver.specs.declared.constraint_row.ConstraintRow.{ConstraintRow}
 use Rattle.colour_solver.specs.Colour.{is_mover}
-use Rattle.colour_solver.specs.ConstraintVisits.{AreRowsBelow, IsRowBelow, constraint_slots}
-use Rattle.part_runs.specs.Hidden.{AreAt, ArePartsBelow, IsAt, part_at}
+use Rattle.colour_solver.specs.ConstraintVisits.{constraint_slots}
+use Rattle.part_runs.specs.Hidden.{AreAt, ArePartsBelow, ArePlaced, IsAt, IsPlacedRow, part_at}
 use Rattle.part_runs.specs.Walks.{IsMoved, IsWalk, Move, Walk, fetched, fetched_mover, row_fetched, setting_out, walk_home, walk_rows}
 
 -- ---- lists
@@ -143,16 +143,16 @@ module _ (n : ℕ) (states : List BodyState) (before : List ℕ) (aim : ℕ → 
     abbrev with_first : ConstraintRow → Walk → Walk
     with_first r w = fetched_mover states (to r) (constraint_slots r).a w
 
-    first_fetched : (r : ConstraintRow) (w : Walk) → IsRowBelow (length states) r → to r < n → IsAt constraint_slots aim to states r → IsGoing n states before aim w → IsFetched n states before aim w (with_first r w)
+    first_fetched : (r : ConstraintRow) (w : Walk) → IsPlacedRow (length states) r → to r < n → IsAt constraint_slots aim to states r → IsGoing n states before aim w → IsFetched n states before aim w (with_first r w)
     first_fetched r w placed below aims is = mover_fetched (to r) (constraint_slots r).a w placed.a below aims.a is
 
-    both_fetched : (r : ConstraintRow) (w : Walk) → IsRowBelow (length states) r → to r < n → IsAt constraint_slots aim to states r → IsGoing n states before aim w → IsFetched n states before aim w (row_fetched states (to r) r w)
+    both_fetched : (r : ConstraintRow) (w : Walk) → IsPlacedRow (length states) r → to r < n → IsAt constraint_slots aim to states r → IsGoing n states before aim w → IsFetched n states before aim w (row_fetched states (to r) r w)
     both_fetched r w placed below aims is =
         let one = first_fetched r w placed below aims is in
         way_on n states before aim w (with_first r w) (row_fetched states (to r) r w) one (mover_fetched (to r) (constraint_slots r).b (with_first r w) placed.b below aims.b one.going)
 
     -- its movers are there
-    both_there : (r : ConstraintRow) (w : Walk) → IsRowBelow (length states) r → to r < n → IsAt constraint_slots aim to states r → IsGoing n states before aim w → IsAt constraint_slots (part_at (row_fetched states (to r) r w).at) to states r
+    both_there : (r : ConstraintRow) (w : Walk) → IsPlacedRow (length states) r → to r < n → IsAt constraint_slots aim to states r → IsGoing n states before aim w → IsAt constraint_slots (part_at (row_fetched states (to r) r w).at) to states r
     both_there r w placed below aims is =
         let one = first_fetched r w placed below aims is in
         record {
@@ -162,28 +162,28 @@ module _ (n : ℕ) (states : List BodyState) (before : List ℕ) (aim : ℕ → 
 
     -- ---- all rows of a stage
 
-    pub rows_fetched : (rs : List ConstraintRow) (w : Walk) → AreRowsBelow (length states) rs → All (λ r. to r < n) rs → AreAt constraint_slots aim to states rs → IsGoing n states before aim w → IsFetched n states before aim w (walk_rows states to rs w)
+    pub rows_fetched : (rs : List ConstraintRow) (w : Walk) → ArePlaced (length states) rs → All (λ r. to r < n) rs → AreAt constraint_slots aim to states rs → IsGoing n states before aim w → IsFetched n states before aim w (walk_rows states to rs w)
     rows_fetched [] w placed below aims is = no_way n states before aim w is
     rows_fetched (r ∷ rs) w placed below aims is =
-        let one = both_fetched r w (All-head (IsRowBelow (length states)) r rs placed) (All-head (λ x. to x < n) r rs below) (All-head (IsAt constraint_slots aim to states) r rs aims) is in
+        let one = both_fetched r w (All-head (IsPlacedRow (length states)) r rs placed) (All-head (λ x. to x < n) r rs below) (All-head (IsAt constraint_slots aim to states) r rs aims) is in
         way_on n states before aim w (row_fetched states (to r) r w) (walk_rows states to rs (row_fetched states (to r) r w)) one
-        (rows_fetched rs (row_fetched states (to r) r w) (All-tail (IsRowBelow (length states)) r rs placed) (All-tail (λ x. to x < n) r rs below) (All-tail (IsAt constraint_slots aim to states) r rs aims) one.going)
+        (rows_fetched rs (row_fetched states (to r) r w) (All-tail (IsPlacedRow (length states)) r rs placed) (All-tail (λ x. to x < n) r rs below) (All-tail (IsAt constraint_slots aim to states) r rs aims) one.going)
 
-    pub rows_there : (rs : List ConstraintRow) (w : Walk) → AreRowsBelow (length states) rs → All (λ r. to r < n) rs → AreAt constraint_slots aim to states rs → IsGoing n states before aim w → AreAt constraint_slots (part_at (walk_rows states to rs w).at) to states rs
+    pub rows_there : (rs : List ConstraintRow) (w : Walk) → ArePlaced (length states) rs → All (λ r. to r < n) rs → AreAt constraint_slots aim to states rs → IsGoing n states before aim w → AreAt constraint_slots (part_at (walk_rows states to rs w).at) to states rs
     rows_there [] w placed below aims is = All-nil (IsAt constraint_slots (part_at w.at) to states)
     rows_there (r ∷ rs) w placed below aims is =
         let head = All-head (IsAt constraint_slots aim to states) r rs aims in
-        let one = both_fetched r w (All-head (IsRowBelow (length states)) r rs placed) (All-head (λ x. to x < n) r rs below) head is in
-        let here = both_there r w (All-head (IsRowBelow (length states)) r rs placed) (All-head (λ x. to x < n) r rs below) head is in
+        let one = both_fetched r w (All-head (IsPlacedRow (length states)) r rs placed) (All-head (λ x. to x < n) r rs below) head is in
+        let here = both_there r w (All-head (IsPlacedRow (length states)) r rs placed) (All-head (λ x. to x < n) r rs below) head is in
         let now : Walk = row_fetched states (to r) r w in
         let last : Walk = walk_rows states to rs now in
-        let rest = rows_fetched rs now (All-tail (IsRowBelow (length states)) r rs placed) (All-tail (λ x. to x < n) r rs below) (All-tail (IsAt constraint_slots aim to states) r rs aims) one.going in
+        let rest = rows_fetched rs now (All-tail (IsPlacedRow (length states)) r rs placed) (All-tail (λ x. to x < n) r rs below) (All-tail (IsAt constraint_slots aim to states) r rs aims) one.going in
         All-cons (IsAt constraint_slots (part_at last.at) to states) r rs
         (record {
           a = λ m. rest.keeps (constraint_slots r).a (here.a m ∙ sym (head.a m)) ∙ head.a m;
           b = λ m. rest.keeps (constraint_slots r).b (here.b m ∙ sym (head.b m)) ∙ head.b m;
         })
-        (rows_there rs now (All-tail (IsRowBelow (length states)) r rs placed) (All-tail (λ x. to x < n) r rs below) (All-tail (IsAt constraint_slots aim to states) r rs aims) one.going)
+        (rows_there rs now (All-tail (IsPlacedRow (length states)) r rs placed) (All-tail (λ x. to x < n) r rs below) (All-tail (IsAt constraint_slots aim to states) r rs aims) one.going)
 
 -- ---- the way home
 

@@ -1,9 +1,8 @@
 -- What passes leave alone of all bodies, whatever the bodies are, and by how much the movers' momentum grows.
-use Rattle.std.proofs.Common.{◌≡◌, ◌≢◌, ℕ, ◌<◌, Bool, true, false, cond, List, [], ◌∷◌, length, get_or, arith, refl, sym, ap, ◌∙◌, subst}
-use Rattle.std.specs.Prelude.{All}
+use Rattle.std.proofs.Common.{◌≡◌, ℕ, ◌<◌, Bool, true, false, cond, List, [], ◌∷◌, length, get_or, arith, refl, sym, ap, ◌∙◌, subst}
 use Rattle.std.proofs.lemmas.Int.{ints}
 use Rattle.std.proofs.lemmas.List.{get_or_default}
-use Rattle.std.proofs.lemmas.List.Elements.{All-head, All-tail, All-weaker}
+use Rattle.std.proofs.lemmas.List.Elements.{All-head, All-tail}
 use Rattle.fixed_geom.specs.Vectors.{minus, plus, zero_vector}
 use Rattle.fixed_geom.specs.declared.vectors.Vec2.{Vec2}
 use Rattle.momenta.specs.Motions.{advanced}
@@ -14,14 +13,14 @@ use Rattle.momenta.specs.declared.state.Ends.{Ends}
 use Rattle.colour_solver_base.specs.RowsAfter.{RowAfter}
 use Rattle.colour_solver.specs.declared.constraint_row.ConstraintRow.{ConstraintRow}
 use Rattle.colour_solver.specs.declared.row_visits.Slots.{Slots}
-use Rattle.colour_solver.specs.ConstraintVisits.{AreRowsBelow, IsRowBelow, constraint_slots}
+use Rattle.colour_solver.specs.ConstraintVisits.{constraint_slots}
 use Rattle.colour_solver.specs.Passes.{carried_along, changed, gain, one_gain, pass}
 use Rattle.colour_solver.specs.States.{AreSameStates, is_carried, momentum_of, nobody, total}
 use Rattle.colour_solver.specs.RowVisits.{after, ends_of, got, passed, share, visit_of}
 use Rattle.colour_solver.proofs.SameLaws.{same_on, same_visited}
 use Rattle.colour_solver.proofs.VisitLaws.{total-after}
 use Rattle.colour_solver.proofs.VectorLaws.{plus_assoc, plus_zero, same_vector, same_x, same_y}
-use Rattle.part_runs.specs.Hidden.{ArePartsBelow, hidden, sum_below}
+use Rattle.part_runs.specs.Hidden.{ArePartsBelow, ArePlaced, IsPlaced, hidden, sum_below}
 use Rattle.part_runs.specs.Passes.{IsFairVisit}
 use Rattle.part_runs.proofs.HiddenLaws.{IsChange, sum-hidden}
 
@@ -76,18 +75,6 @@ total-pass f [] = refl
 total-pass f (s ∷ ss) = grown (momentum_of s) (momentum_of (changed f s)) (total ss) (gain f ss) (total (pass f ss)) (total-pass f ss)
 
 -- ---- visits of rows
-
--- two slots below n, which are two
-pub record IsPlaced (n : ℕ) (s : Slots) : Type 0 where
-  pub a : s.a < n
-  pub b : s.b < n
-  pub apart : s.a ≢ s.b
-
-abbrev pub ArePlaced : ℕ → List ConstraintRow → Type 0
-ArePlaced n rows = All (λ r. IsPlaced n (constraint_slots r)) rows
-
-pub placed_rows : (n : ℕ) (rows : List ConstraintRow) → AreRowsBelow n rows → ArePlaced n rows
-placed_rows n rows all = All-weaker (IsRowBelow n) (λ r. IsPlaced n (constraint_slots r)) (λ r is. record { a = is.a; b = is.b; apart = is.apart }) rows all
 
 pub same_still : (ss : List BodyState) → AreSameStates ss ss
 same_still ss = record { long = refl; immovable = λ slot h. refl; reciprocals = λ slot. refl; movable = λ slot. refl; mass = λ slot. refl }

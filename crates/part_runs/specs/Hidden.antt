@@ -1,11 +1,13 @@
 -- Trusted: Bodies by parts: each slot is of one part, and a part has the movers of its slots. What no impulse moves is
 -- in each part. No slot gets another number: where a mover of another part is, a part sees nobody.
-use Rattle.std.specs.Prelude.{◌≡◌, ℕ, zero, suc, ◌<◌, true, cond, nat_eq, List, [], ◌∷◌, All, filter, slice_index_or}
+use Rattle.std.specs.Prelude.{◌≡◌, ◌≢◌, ℕ, zero, suc, ◌<◌, true, cond, nat_eq, List, [], ◌∷◌, All, filter, slice_index_or}
 use Rattle.fixed_geom.specs.Vectors.{plus, zero_vector}
 use Rattle.fixed_geom.specs.declared.vectors.Vec2.{Vec2}
 use Rattle.momenta.specs.declared.state.BodyState.{BodyState}
+use Rattle.colour_solver.specs.declared.constraint_row.ConstraintRow.{ConstraintRow}
 use Rattle.colour_solver.specs.declared.row_visits.Slots.{Slots}
 use Rattle.colour_solver.specs.Colour.{is_mover}
+use Rattle.colour_solver.specs.ConstraintVisits.{constraint_slots}
 use Rattle.colour_solver.specs.States.{nobody}
 
 -- the part of a slot, as a list says it
@@ -36,6 +38,19 @@ abbrev pub SameMovers : List BodyState → List BodyState → Type 0
 SameMovers first now = (slot : ℕ) → is_mover now slot ≡ is_mover first slot
 
 -- ---- rows
+
+-- two slots below n, which are two
+pub record IsPlaced (n : ℕ) (s : Slots) : Type 0 where
+  pub a : s.a < n
+  pub b : s.b < n
+  pub apart : s.a ≢ s.b
+
+-- the bodies of a row stand in such slots
+abbrev pub IsPlacedRow : ℕ → ConstraintRow → Type 0
+IsPlacedRow n r = IsPlaced n (constraint_slots r)
+
+abbrev pub ArePlaced : ℕ → List ConstraintRow → Type 0
+ArePlaced n rows = All (IsPlacedRow n) rows
 
 -- the part of a row: that of its first body if this is a mover, else that of its second
 abbrev pub part_of : {R : Type 0} → (R → Slots) → (ℕ → ℕ) → List BodyState → R → ℕ

@@ -1,6 +1,6 @@
 -- Trusted: The laws of runs by parts: what a part may be given, that bodies are handed on rightly, that a stage's
 -- visits are those of the parts, that all parts together make the whole run, and that the whole is read back from them.
-use Rattle.std.specs.Prelude.{◌≡◌, ℕ, ◌+◌, ◌<◌, cond, nat_eq, List, [], ◌∷◌, ◌++◌, drop, filter, length, map, All, slice_get, slice_index_or}
+use Rattle.std.specs.Prelude.{◌≡◌, ℕ, ◌+◌, ◌<◌, nat_eq, List, [], ◌∷◌, ◌++◌, drop, filter, length, map, All, slice_get}
 use Rattle.std.specs.List.{flat_map}
 use Rattle.momenta.specs.Motions.{advanced, pulled, speed_clamped}
 use Rattle.momenta.specs.declared.mass.MassData.{MassData}
@@ -11,26 +11,26 @@ use Rattle.colour_solver_base.specs.RowsAfter.{RowAfter}
 use Rattle.colour_solver.specs.declared.constraint_row.ConstraintRow.{ConstraintRow}
 use Rattle.colour_solver.specs.Colour.{AreColours}
 use Rattle.colour_solver.specs.ColourRows.{ColourRows, all_rows}
-use Rattle.colour_solver.specs.ConstraintVisits.{AreRowsBelow, constraint_bounced, constraint_slots, constraint_solved, constraint_warmed, contact_slots, contacts_among, is_joint, joint_slots, joints_among}
+use Rattle.colour_solver.specs.ConstraintVisits.{constraint_bounced, constraint_slots, constraint_solved, constraint_warmed, row_name}
 use Rattle.colour_solver.specs.Passes.{carry, pass}
 use Rattle.colour_solver.specs.Phases.{constraint_visit}
 use Rattle.colour_solver.specs.declared.phase.Phase.TheVariants.{Bounce, Solve, Warm}
 use Rattle.colour_solver.specs.States.{AreAllStates, HaveCourses, carried_of, movers_of}
 use Rattle.colour_solver.specs.Ticks.{Run, ran, start}
-use Rattle.part_runs.specs.Hidden.{ArePartsBelow, hidden, part_at, rows_of}
+use Rattle.part_runs.specs.Hidden.{ArePartsBelow, ArePlaced, hidden, part_at, rows_of}
 use Rattle.part_runs.specs.Walks.{Move, Walk, first_part, goes, home_of, own_left, own_moves, row_fetched, setting_out, walk_home, walk_rows}
 use Rattle.part_runs.specs.Passes.{IsFairVisit}
-use Rattle.part_runs.specs.Runs.{AreOwnRows, IsInRange, IsParted, IsReached, IsStepped, Stand, Step, at_home, begun, ended, mail, own_stages, part_ran, pass_mail, stage_rows, stand_of, ticks_mail, ticks_stand, visited, walks_of, warm_stand}
+use Rattle.part_runs.specs.Runs.{IsInRange, IsParted, IsReached, IsStepped, Stand, Step, at_home, begun, ended, mail, own_stages, part_ran, pass_mail, stage_rows, stand_of, ticks_mail, ticks_stand, visited, walks_of, warm_stand}
 use Rattle.part_runs.specs.Stages.{IsPassOf, rows_at, sent_in, stood, walk_at}
-use Rattle.part_runs.specs.ReadBack.{AreBodiesBack, AreRowsBack, cursor, owners_of}
+use Rattle.part_runs.specs.ReadBack.{AreBodiesBack, owners_of, picked}
 
 -- ---- what a part is given
 
--- the bodies and rows of a step
+-- the bodies and rows of a step; that the rows are within their limits each part knows of its own
 pub record CanRun (bodies : List BodyState) (parts : ColourRows ConstraintRow) : Type 0 where
   pub states : AreAllStates bodies
   pub courses : HaveCourses bodies
-  pub rows : AreRowsBelow (length bodies) (all_rows parts)
+  pub rows : ArePlaced (length bodies) (all_rows parts)
   pub apart : AreColours bodies parts
 
 -- its homes: each slot has one, in one of the parts below n
@@ -55,14 +55,13 @@ pub record AreHidden (g : ℕ → ℕ) (k : ℕ) (bodies : List BodyState) : Typ
 abbrev pub BodiesAreHidden : Type 0
 BodiesAreHidden = (g : ℕ → ℕ) (k : ℕ) (states : List BodyState) → AreHidden g k states
 
--- the part k's bodies and rows are within their limits
-pub record IsPart (t : Step) (k : ℕ) (part : ColourRows ConstraintRow) : Type 0 where
+-- the part k's bodies are within their limits
+pub record IsPart (t : Step) (k : ℕ) : Type 0 where
   pub states : AreAllStates (at_home t k t.states)
   pub courses : HaveCourses (at_home t k t.states)
-  pub rows : AreRowsBelow (length (at_home t k t.states)) (all_rows part)
 
 abbrev pub PartsCanRun : Type 0
-PartsCanRun = (t : Step) (k : ℕ) (part : ColourRows ConstraintRow) → CanRun t.states t.rows → AreOwnRows t k (stand_of t) part → IsPart t k part
+PartsCanRun = (t : Step) (k : ℕ) → CanRun t.states t.rows → IsPart t k
 
 -- what the part k has of the bodies at home, at any time of a run
 pub record IsPartAt (t : Step) (k : ℕ) (s : Stand) : Type 0 where
@@ -168,28 +167,14 @@ LettersFollow = (sent next whole : List BodyState) → AreFirst (sent ++ next) w
 
 -- ---- reading back
 
--- the bodies, joints and contacts after the run r are read back from the parts' runs
-pub record IsReadBack (t : Step) (r : Run) (part : ℕ → Run) : Type 0 where
+-- the bodies after the run r are read back from the runs of the parts below n, and each of these has its rows
+pub record IsReadBack (n : ℕ) (t : Step) (r : Run) (part : ℕ → Run) : Type 0 where
   pub states : AreBodiesBack (part_at t.home) t.states (λ k. (part k).states) r.states
   pub long : length r.states ≡ length t.states
-  pub rows : AreRowsBack (owners_of constraint_slots t.home t.states (flat_map (λ rs. rs) t.rows.colours) t.rows.left) (λ k. (part k).rows) r.rows
-  pub joints : AreRowsBack (owners_of joint_slots t.home t.states (joints_among (flat_map (λ rs. rs) t.rows.colours)) (joints_among t.rows.left)) (λ k. joints_among (part k).rows) (joints_among r.rows)
-  pub contacts : AreRowsBack (owners_of contact_slots t.home t.states (contacts_among (flat_map (λ rs. rs) t.rows.colours)) (contacts_among t.rows.left)) (λ k. contacts_among (part k).rows) (contacts_among r.rows)
-  pub joint_count : (k : ℕ) → length (joints_among (part k).rows) ≡ length (filter (λ owner. nat_eq owner k) (owners_of joint_slots t.home t.states (joints_among (flat_map (λ rs. rs) t.rows.colours)) (joints_among t.rows.left)))
-  pub contact_count : (k : ℕ) → length (contacts_among (part k).rows) ≡ length (filter (λ owner. nat_eq owner k) (owners_of contact_slots t.home t.states (contacts_among (flat_map (λ rs. rs) t.rows.colours)) (contacts_among t.rows.left)))
-  pub kinds : map is_joint r.rows ≡ map is_joint (all_rows t.rows)
+  pub names : map row_name r.rows ≡ map row_name (all_rows t.rows)
+  pub count : length (owners_of constraint_slots t.home t.states (flat_map (λ rs. rs) t.rows.colours) t.rows.left) ≡ length r.rows
+  pub below : All (λ owner. owner < n) (owners_of constraint_slots t.home t.states (flat_map (λ rs. rs) t.rows.colours) t.rows.left)
+  pub rows : (k : ℕ) → (part k).rows ≡ picked k (owners_of constraint_slots t.home t.states (flat_map (λ rs. rs) t.rows.colours) t.rows.left) r.rows
 
 abbrev pub RunsAreReadBack : Type 0
-RunsAreReadBack = (t : Step) (n : ℕ) → 0 < n → CanRun t.states t.rows → AreHomes n t → IsReadBack t (ran t.count t.gravity (start t.states (all_rows t.rows))) (part_ran t)
-
--- the next row of a part is there, and one row further its cursor alone moves
-pub record IsCursor (owners : List ℕ) (i : ℕ) : Type 0 where
-  pub there : cursor owners (slice_index_or owners i 0) i < length (filter (λ owner. nat_eq owner (slice_index_or owners i 0)) owners)
-  pub further : (k : ℕ) → cursor owners k (i + 1) ≡ cursor owners k i + cond (nat_eq (slice_index_or owners i 0) k) 1 0
-
-abbrev pub CursorsMove : Type 0
-CursorsMove = (owners : List ℕ) (i : ℕ) → i < length owners → IsCursor owners i
-
--- rows of the same kinds with the same joints and contacts are the same
-abbrev pub KindsDetermineRows : Type 0
-KindsDetermineRows = (old new : List ConstraintRow) → map is_joint old ≡ map is_joint new → joints_among old ≡ joints_among new → contacts_among old ≡ contacts_among new → old ≡ new
+RunsAreReadBack = (t : Step) (n : ℕ) → 0 < n → CanRun t.states t.rows → AreHomes n t → IsReadBack n t (ran t.count t.gravity (start t.states (all_rows t.rows))) (part_ran t)

@@ -8,7 +8,7 @@ use Rattle.momenta.specs.declared.state.Ends.{Ends}
 use Rattle.colour_solver_base.specs.RowsAfter.{RowAfter}
 use Rattle.colour_solver.specs.declared.constraint_row.ConstraintRow.{ConstraintRow}
 use Rattle.momenta.specs.ImpulseBounds.{AreSameBodies, IsMomentumKept}
-use Rattle.colour_solver.specs.ConstraintVisits.{constraint_slots, is_joint}
+use Rattle.colour_solver.specs.ConstraintVisits.{constraint_slots, row_name}
 use Rattle.colour_solver.specs.RowVisits.{passed, rows_passed, share}
 use Rattle.part_runs.specs.Hidden.{hidden, owned, part_at, sum_below}
 use Rattle.part_runs.specs.Walks.{Walk}
@@ -21,11 +21,11 @@ pub record AreFair (before after : Ends) : Type 0 where
   pub same : AreSameBodies before after
   pub kept : IsMomentumKept before after
 
--- a visit is fair to its two bodies, and leaves where they stand, and the row's kind
+-- a visit is fair to its two bodies, and leaves where they stand, and which constraint the row is of
 pub record IsFairVisit (f : ConstraintRow → Ends → RowAfter ConstraintRow) : Type 0 where
   pub ends : (r : ConstraintRow) (e : Ends) → AreFair e (f r e).ends
   pub slots : (r : ConstraintRow) (e : Ends) → constraint_slots (f r e).row ≡ constraint_slots r
-  pub kind : (r : ConstraintRow) (e : Ends) → is_joint (f r e).row ≡ is_joint r
+  pub name : (r : ConstraintRow) (e : Ends) → row_name (f r e).row ≡ row_name r
 
 -- the visits of some rows, each of the part `to`, are those of the parts below n, the bodies being with the parts as g
 -- says

@@ -1,6 +1,5 @@
--- The bodies and rows of all parts read back into one list: of each slot and of each row, from which part, and which of
--- its rows.
-use Rattle.std.specs.Prelude.{◌≡◌, ℕ, ◌<◌, cond, nat_eq, List, ◌++◌, filter, length, map, take, slice_index_or}
+-- The bodies of all parts read back into one list, and the rows of each part among all.
+use Rattle.std.specs.Prelude.{◌≡◌, ℕ, cond, nat_eq, List, [], ◌∷◌, ◌++◌, map, slice_index_or}
 use Rattle.momenta.specs.declared.state.BodyState.{BodyState}
 use Rattle.colour_solver.specs.declared.row_visits.Slots.{Slots}
 use Rattle.colour_solver.specs.Colour.{is_mover}
@@ -19,11 +18,8 @@ AreBodiesBack g first part now = (slot : ℕ) → slice_index_or now slot nobody
 abbrev pub owners_of : {R : Type 0} → (R → Slots) → List ℕ → List BodyState → List R → List R → List ℕ
 owners_of at home first coloured left = map (part_of at (part_at home) first) coloured ++ map (λ r. 0) left
 
--- how many of the first i rows are of the part k, whose parts are `owners`: the number of its next one
-abbrev pub cursor : List ℕ → ℕ → ℕ → ℕ
-cursor owners k i = length (filter (λ owner. nat_eq owner k) (take i owners))
-
--- each of the rows `now` is the next one of its part
-abbrev pub AreRowsBack : {R : Type 0} → List ℕ → (ℕ → List R) → List R → Type 0
-AreRowsBack {R} owners part now =
-    (i : ℕ) (d : R) → i < length owners → slice_index_or now i d ≡ slice_index_or (part (slice_index_or owners i 0)) (cursor owners (slice_index_or owners i 0) i) d
+-- the rows whose part is k, their parts being `owners`
+abbrev pub picked : {R : Type 0} → ℕ → List ℕ → List R → List R
+picked k [] rows = []
+picked k (o ∷ owners) [] = []
+picked k (o ∷ owners) (r ∷ rows) = cond (nat_eq o k) (r ∷ picked k owners rows) (picked k owners rows)

@@ -10,7 +10,7 @@ use Rattle.momenta.specs.declared.state.Ends.{Ends}
 use Rattle.colour_solver_base.specs.RowsAfter.{RowAfter}
 use Rattle.colour_solver.specs.declared.constraint_row.ConstraintRow.{ConstraintRow}
 use Rattle.colour_solver.specs.ColourRows.{ColourRows}
-use Rattle.colour_solver.specs.ConstraintVisits.{AreRowsBelow, constraint_bounced, constraint_slots, constraint_solved, constraint_warmed, is_joint}
+use Rattle.colour_solver.specs.ConstraintVisits.{AreRowsBelow, constraint_bounced, constraint_slots, constraint_solved, constraint_warmed, row_name}
 use Rattle.colour_solver.specs.Passes.{carry, gain, pass}
 use Rattle.colour_solver.specs.States.{AreAllStates, AreSameBeside, HaveCourses, movers_of, nobody, total}
 use Rattle.colour_solver.specs.Ticks.{Run}
@@ -72,14 +72,14 @@ abbrev pub ran_stand : ℕ → Vec2 → Stand → Stand
 ran_stand n g s = visited constraint_bounced (ticks_stand n g s)
 
 -- the bodies and rows that a run of the step has at some time: the same movers, masses and courses, the rows where they
--- were, each of its kind
+-- were, each of its constraint
 pub record IsReached (t : Step) (s : Stand) : Type 0 where
   pub movers : SameMovers t.states s.states
   pub long : length s.states ≡ length t.states
   pub mass : (slot : ℕ) → (slice_index_or s.states slot nobody).mass ≡ (slice_index_or t.states slot nobody).mass
   pub courses : HaveCourses t.states → HaveCourses s.states
   pub slots : map (map constraint_slots) s.rows ≡ map (map constraint_slots) (stage_rows t.rows)
-  pub kinds : map (map is_joint) s.rows ≡ map (map is_joint) (stage_rows t.rows)
+  pub names : map (map row_name) s.rows ≡ map (map row_name) (stage_rows t.rows)
 
 -- ---- what the part u sends to the part v
 

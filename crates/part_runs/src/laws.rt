@@ -1,6 +1,6 @@
 //! The laws. Their functions do nothing; each contract is a law.
 
-ghost use Rattle.part_runs.specs.Laws.{BodiesAreHidden, CursorsMove, HomesAreBelow, KindsDetermineRows, LettersFollow, MailIsSent, OwnMovesTell, PartsAreRuns, PartsAtHome, PartsCanRun, PartsStepAll, PassesByParts, RowsStay, RunsAreReadBack, StandsAreReached, TicksAreReached, VisitsAreFair, WalksAreMade};
+ghost use Rattle.part_runs.specs.Laws.{BodiesAreHidden, HomesAreBelow, LettersFollow, MailIsSent, OwnMovesTell, PartsAreRuns, PartsAtHome, PartsCanRun, PartsStepAll, PassesByParts, RowsStay, RunsAreReadBack, StandsAreReached, TicksAreReached, VisitsAreFair, WalksAreMade};
 
 /// What a part sees has the same slots, the movers of that part, and all bodies that are carried along.
 pub fn bodies_are_hidden()
@@ -12,7 +12,7 @@ pub fn homes_are_below()
     ensures { HomesAreBelow }
 {}
 
-/// A part's bodies and rows are within their limits.
+/// A part's bodies are within their limits.
 pub fn parts_can_run()
     ensures { PartsCanRun }
 {}
@@ -79,18 +79,8 @@ pub fn letters_follow()
     ensures { LettersFollow }
 {}
 
-/// A mover is read back from its own part, and any other body from the first. A row is read back as the next one of its
-/// part.
+/// A mover is read back from its own part, and any other body from the first. Each part has its rows of the run, in
+/// their order.
 pub fn runs_are_read_back()
     ensures { RunsAreReadBack }
-{}
-
-/// Which row of a part is the next one: so many of its rows stood before.
-pub fn cursors_move()
-    ensures { CursorsMove }
-{}
-
-/// Rows are told by their kinds, in order, with their joints and their contacts.
-pub fn kinds_determine_rows()
-    ensures { KindsDetermineRows }
 {}

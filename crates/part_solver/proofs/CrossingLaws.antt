@@ -14,7 +14,14 @@ use Rattle.rtrb.specs.contracts.end.End as End
 use Rattle.rtrb.specs.contracts.producer.Producer as Producer
 use Rattle.rtrb.proofs.end.End.TheSendSync as ends
 use Rattle.momenta.specs.contracts.state.BodyState as BodyState
+use Rattle.contacts_base.specs.contracts.split.SplitContacts as SplitContacts
+use Rattle.contacts.specs.contracts.survey_pieces.LookedPlaces as LookedPlaces
+use Rattle.contacts.specs.contracts.pair_pieces.EvaluatedPairs as EvaluatedPairs
+use Rattle.contacts.specs.contracts.pair_sweep.PairSweep as PairSweep
+use Rattle.contacts.specs.contracts.contact_table.ContactTable as ContactTable
+use Rattle.world_core_base.specs.contracts.joint_table.JointTable as JointTable
 use Rattle.colour_solver.specs.contracts.colour_rows.Rows as Rows
+use Rattle.part_solver.specs.contracts.lent.Lent as Lent
 use Rattle.part_solver.specs.contracts.mail.Item as Item
 use Rattle.part_solver.specs.contracts.mail.Mail as Mail
 use Rattle.part_solver.specs.contracts.mail.MailProtocolItem.TheImpl as mail
@@ -46,19 +53,60 @@ letter_send = search (body_send, crosses, sendable) depth 60 fits 60000
 item_send : IsSend Item.the_row
 item_send = search (letter_send, crosses, sendable) depth 60 fits 60000
 
+-- ---- what is lent
+
+joints_send : IsSend JointTable.the_row
+joints_send = search (crosses, sendable) depth 60 fits 60000
+
+joints_sync : IsSync JointTable.the_row
+joints_sync = search (crosses, sendable) depth 60 fits 60000
+
+split_send : IsSend SplitContacts.the_row
+split_send = search (crosses, sendable) depth 60 fits 60000
+
+split_sync : IsSync SplitContacts.the_row
+split_sync = search (crosses, sendable) depth 60 fits 60000
+
+places_send : IsSend LookedPlaces.the_row
+places_send = search (crosses, sendable) depth 60 fits 60000
+
+places_sync : IsSync LookedPlaces.the_row
+places_sync = search (crosses, sendable) depth 60 fits 60000
+
+evaluated_send : IsSend EvaluatedPairs.the_row
+evaluated_send = search (crosses, sendable) depth 60 fits 60000
+
+evaluated_sync : IsSync EvaluatedPairs.the_row
+evaluated_sync = search (crosses, sendable) depth 60 fits 60000
+
+sweep_send : IsSend PairSweep.the_row
+sweep_send = search (evaluated_send, crosses, sendable) depth 60 fits 60000
+
+sweep_sync : IsSync PairSweep.the_row
+sweep_sync = search (evaluated_sync, crosses, sendable) depth 60 fits 60000
+
+contacts_send : IsSend ContactTable.the_row
+contacts_send = search (split_send, places_send, sweep_send, crosses, sendable) depth 90 fits 400000
+
+contacts_sync : IsSync ContactTable.the_row
+contacts_sync = search (split_sync, places_sync, sweep_sync, crosses, sendable) depth 90 fits 400000
+
+lent_send : IsSend Lent.the_row
+lent_send = search (joints_send, contacts_send, crosses, sendable) depth 60 fits 60000
+
+lent_sync : IsSync Lent.the_row
+lent_sync = search (joints_sync, contacts_sync, crosses, sendable) depth 60 fits 60000
+
 -- ---- a seat
 
 rows_send : IsSend Rows.the_row
 rows_send = search (crosses, sendable) depth 60 fits 60000
 
-rows_sync : IsSync Rows.the_row
-rows_sync = search (crosses, sendable) depth 60 fits 60000
-
 step_send : IsSend StepLists.the_row
-step_send = search (letter_send, rows_send, crosses, sendable) depth 60 fits 60000
+step_send = search (letter_send, crosses, sendable) depth 60 fits 60000
 
 step_sync : IsSync StepLists.the_row
-step_sync = search (rows_sync, crosses, sendable) depth 60 fits 60000
+step_sync = search (crosses, sendable) depth 60 fits 60000
 
 outs_send : IsSend (Vec.the_row (Producer.the_row Item.the_row Global.the_row Mail.the_row over.ghosts mail.ghosts) Global.the_row over.ghosts)
 outs_send = heap.Vec-send _ (producer_send Item.the_row Mail.the_row mail.ghosts item_send)
@@ -79,4 +127,4 @@ ports_send : IsSend Ports.the_row
 ports_send = search (ends_send, sendable) depth 60 fits 60000
 
 pub seat_send : IsSend Seat.the_row
-seat_send = search (step_send, step_sync, ports_send, crosses, sendable) depth 60 fits 60000
+seat_send = search (step_send, step_sync, lent_send, lent_sync, rows_send, ports_send, crosses, sendable) depth 60 fits 60000

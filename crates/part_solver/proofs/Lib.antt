@@ -10,10 +10,19 @@ mod TickSteps
 mod SeeLaws
 mod PortLaws
 mod ReadLaws
-mod CursorLaws
 mod SumSteps
 mod SolvedLaws
 mod HomeLaws
 mod SeatLaws
 mod RingLaws
 pub mod CrossingLaws
+mod PutLaws
+mod ImpulseLaws
+mod NameLaws
+mod GatherSteps
+mod LentLaws
+mod CanLaws
+mod OverLaws
+mod LeftLaws
+mod CountLaws
+mod AgainLaws

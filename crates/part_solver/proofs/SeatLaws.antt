@@ -1,7 +1,7 @@
 -- Seats, one further, and the parts that come of them.
 use Rattle.std.proofs.Common.{◌≡◌, ℕ, zero, suc, ◌+◌, ◌<◌, List, [], ◌∷◌, ◌++◌, length, map, arith, ap, subst, ◌∙◌}
 use Rattle.part_runs.specs.Runs.{Step, part_ran}
-use Rattle.part_solver.specs.Parts.{AreSeated, IsSeated, Place, Solved, run_at, solved}
+use Rattle.part_solver.specs.Parts.{AreSeated, IsSeated, Place, run_at, solved}
 
 plain : (n : ℕ) → n + 0 ≡ n
 plain n = omega arith

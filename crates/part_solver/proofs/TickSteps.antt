@@ -108,14 +108,14 @@ tick_added t k tick before after fallen limited warm solved again moved is known
 
 pub standing_first : (t : Step) (k : ℕ) (l : Lists) → PartsCanRun → BodiesAreHidden → CanRun t.states t.rows → IsWalked t k l → IsStanding t k (stand_of t) l
 standing_first t k l law hides can known =
-    let part : IsPart t k l.rows = law t k l.rows can (record { colours = known.colours; left = known.left }) in
+    let part : IsPart t k = law t k can in
     let long : length l.states.items ≡ length t.states = ap length known.states ∙ (hides (part_at t.home) k t.states).long in
     record {
       sound = record {
         walk = known.walk;
         long = long;
         states = subst AreAllStates (sym known.states) part.states;
-        rows = subst (λ (ss : List BodyState). AreRowsBelow (length ss) (all_rows l.rows)) (sym known.states) part.rows;
+        rows = subst (λ (n : ℕ). AreRowsBelow n (all_rows l.rows)) (sym long) known.rows;
         left = known.left;
       };
       states = known.states;

@@ -1,15 +1,14 @@
 -- The walk of a part over the stages of a pass: what its lists have in them after so many of them.
-use Rattle.std.proofs.Common.{◌≡◌, ℕ, zero, suc, ◌+◌, ◌-◌, ◌<◌, ◌≤◌, Bool, true, false, cond, nat_eq, List, [], ◌∷◌, ◌++◌, drop, filter, get_or, length, map, take, arith, add-one, refl, sym, ap, ap₂, subst, ◌∙◌}
+use Rattle.std.proofs.Common.{◌≡◌, ℕ, zero, suc, ◌+◌, ◌-◌, ◌<◌, ◌≤◌, Bool, true, false, cond, nat_eq, List, [], ◌∷◌, ◌++◌, drop, filter, get_or, length, map, take, All, arith, add-one, refl, sym, ap, ap₂, subst, ◌∙◌}
 use Rattle.std.specs.List.{flat_map}
 use Rattle.std.proofs.lemmas.List.{length-append, length-map, map-append, take_more, take_all}
-use Rattle.joint_rows.specs.declared.row.JointRow.{JointRow}
-use Rattle.colour_solver_base.specs.declared.row.ContactRow.{ContactRow}
 use Rattle.momenta.specs.declared.state.BodyState.{BodyState}
-use Rattle.colour_solver.specs.ColourRows.{AreEnds, ColourRows, cut, joints_first, last_end}
-use Rattle.colour_solver.specs.ConstraintVisits.{constraint_slots, contacts_among}
+use Rattle.colour_solver.specs.ColourRows.{AreEnds, cut, last_end}
+use Rattle.colour_solver.specs.ConstraintVisits.{AreRowsBelow, IsRowBelow, constraint_slots}
 use Rattle.colour_solver.specs.States.{movers_of, moves, places_from}
 use Rattle.colour_solver.specs.declared.constraint_row.ConstraintRow.{ConstraintRow}
-use Rattle.colour_solver.specs.declared.constraint_row.ConstraintRow.TheVariants.{Contact, Joint}
+use Rattle.std.proofs.lemmas.List.Elements.{All-nil}
+use Rattle.world_core_base.proofs.ColourLists.{all_joined}
 use Rattle.part_runs.specs.Hidden.{owned, part_at, rows_of}
 use Rattle.part_runs.specs.Laws.{AreWalksMade}
 use Rattle.part_runs.specs.Runs.{Step, own_stages, stage_rows, walks_of}
@@ -172,29 +171,12 @@ count_left [] i lt = absurd (omega (arith, lt))
 count_left (r ∷ rows) zero lt = length-append r (flat rows)
 count_left (r ∷ rows) (suc i) lt = count_left rows i (omega (arith, lt))
 
-pub count_first : (joints : List JointRow) (contacts : List ContactRow) (rows : List ConstraintRow) → joints_first joints contacts ≡ rows → length joints + length contacts ≡ length rows
-count_first joints contacts rows is =
-    let both = length-append (map Joint joints) (map Contact contacts) in
-    let first = length-map joints Joint in
-    let second = length-map contacts Contact in
-    let long = ap length is in
-    omega (arith, both, first, second, long)
-
 -- the rows of a colour, as they are walked
-pub whole_colour : (r rows : ColourRows ConstraintRow) (i : ℕ) (joints : List JointRow) (contacts : List ContactRow) → r ≡ rows → joints_first joints (contacts_among (get_or r.colours i [])) ≡ get_or r.colours i [] → contacts ≡ contacts_among (get_or r.colours i [])
-    → joints_first joints contacts ≡ rows_at rows.colours i
-whole_colour r rows i joints contacts same order are = ap (joints_first joints) are ∙ order ∙ ap (λ (x : ColourRows ConstraintRow). get_or x.colours i []) same
-
-pub whole_left : (r rows : ColourRows ConstraintRow) (joints : List JointRow) (contacts : List ContactRow) → r ≡ rows → joints_first joints (contacts_among r.left) ≡ r.left → contacts ≡ contacts_among r.left → joints_first joints contacts ≡ rows.left
-whole_left r rows joints contacts same order are = ap (joints_first joints) are ∙ order ∙ ap (λ (x : ColourRows ConstraintRow). x.left) same
-
-pub left_room : (colours : List (List ConstraintRow)) (i : ℕ) (joints : List JointRow) (contacts : List ContactRow) → i < length colours → joints_first joints contacts ≡ rows_at colours i
-    → length (flat (drop i colours)) ≡ (length joints + length contacts) + length (flat (drop (i + 1) colours))
-left_room colours i joints contacts lt is =
+pub left_room : (colours : List (List ConstraintRow)) (i n : ℕ) → i < length colours → n ≡ length (rows_at colours i) → length (flat (drop i colours)) ≡ n + length (flat (drop (i + 1) colours))
+left_room colours i n lt is =
     let here = count_left colours i lt in
     let next : length (flat (drop (i + 1) colours)) ≡ length (flat (drop (suc i) colours)) = ap (λ (n : ℕ). length (flat (drop n colours))) (add-one i) in
-    let long = count_first joints contacts (rows_at colours i) is in
-    omega (arith, here, next, long)
+    omega (arith, here, next, is)
 
 few_if : {X : Type 0} (t : Bool) (x : X) (xs : List X) (n : ℕ) → length xs ≤ n → length (cond t (x ∷ xs) xs) ≤ suc n
 few_if true x xs n h = omega (arith, h)
@@ -225,8 +207,8 @@ home_is t i at awake made last there is =
     ap (walk_at (walks_of t)) last ∙ made.home ∙ ap₂ (λ (slots l : List ℕ). walk_home t.home slots (setting_out l)) (sym is) (ap (stood t.home (walks_of t)) (sym last) ∙ sym there)
 
 pub all_walked : (t : Step) (k i : ℕ) (at : List ℕ) (seen l : Lists) → HasSeen t k seen → AreWalksMade t → i ≡ length t.rows.colours + 2 → AreMoved t k i at l.ends.items l.moves.items → l.states.items ≡ seen.states.items → l.awake.items ≡ seen.awake.items → l.carried.items ≡ seen.carried.items
-    → l.rows.colours ≡ own_of t k → l.rows.left ≡ [] → IsWalked t k l
-all_walked t k i at seen l first made last known states awake carried colours left = record {
+    → l.rows.colours ≡ own_of t k → l.rows.left ≡ [] → All (AreRowsBelow (length t.states)) l.rows.colours → IsWalked t k l
+all_walked t k i at seen l first made last known states awake carried colours left below = record {
   walk = record {
     awake = awake ∙ first.awake;
     carried = carried ∙ first.carried;
@@ -236,4 +218,5 @@ all_walked t k i at seen l first made last known states awake carried colours le
   states = states ∙ first.states;
   colours = colours;
   left = left;
+  rows = all_joined (IsRowBelow (length t.states)) l.rows.colours l.rows.left below (subst (AreRowsBelow (length t.states)) (sym left) (All-nil (IsRowBelow (length t.states))));
 }

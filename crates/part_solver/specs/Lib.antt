@@ -1,8 +1,10 @@
+pub mod Tasks
+pub mod Lending
 pub mod Steps
 pub mod Mail
 pub mod Exchange
 pub mod Walking
 pub mod Parts
-pub mod ReadingBack
+pub mod PuttingBack
 pub mod Benches
 pub mod Running

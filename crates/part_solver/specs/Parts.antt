@@ -1,14 +1,8 @@
 -- The parts of a step: what a part is given, what it gives back, and the step that is solved by all.
-use Rattle.std.specs.Prelude.{◌≡◌, ◌≢◌, ◌≤◌, ◌<◌, ◌+◌, ◌^◌, ℕ, suc, List, [], ◌∷◌, length, map, slice_index_or}
-use Rattle.fixed_geom.specs.Vectors.{plus}
-use Rattle.fixed_geom.specs.declared.vectors.Vec2.{Vec2}
+use Rattle.std.specs.Prelude.{◌≡◌, ◌≢◌, ◌≤◌, ◌<◌, ◌+◌, ℕ, suc, List, [], ◌∷◌, length, slice_index_or}
 use Rattle.momenta.specs.declared.state.BodyState.{BodyState}
-use Rattle.colour_solver.specs.declared.constraint_row.ConstraintRow.{ConstraintRow}
-use Rattle.colour_solver.specs.ColourRows.{ColourRows, all_rows}
-use Rattle.colour_solver.specs.ConstraintVisits.{AreRowsBelow}
-use Rattle.colour_solver.specs.States.{AreAllStates, AreSameBeside, HaveCourses, total}
-use Rattle.colour_solver.specs.declared.ticks.StepSums.{StepSums}
-use Rattle.colour_solver.specs.Ticks.{AreSums, Run, added, ran, run_of, start}
+use Rattle.colour_solver.specs.ColourRows.{all_rows}
+use Rattle.colour_solver.specs.Ticks.{Run, ran, start}
 use Rattle.part_runs.specs.Hidden.{ArePartsBelow, part_at}
 use Rattle.part_runs.specs.Laws.{AreHomes, CanRun}
 use Rattle.part_runs.specs.Runs.{Step, part_ran}
@@ -101,23 +95,14 @@ pub record AreDealt (home : List ℕ) (n : ℕ) (states : List BodyState) : Type
   pub long : length home ≡ length states
   pub below : ArePartsBelow (part_at home) n
 
--- the step t had these bodies, rows and homes, and each of these parts has run its part of it
-pub record IsRunBy (t : Step) (states : List BodyState) (rows : ColourRows ConstraintRow) (home : List ℕ) (parts : List Solved) : Type 0 where
+-- the run of the step t
+abbrev pub run_of_all : Step → Run
+run_of_all t = ran t.count t.gravity (start t.states (all_rows t.rows))
+
+-- the step t had these bodies and homes, and each of these parts has run its part of it
+pub record IsRunBy (t : Step) (states : List BodyState) (home : List ℕ) (parts : List Solved) : Type 0 where
   pub states_are : t.states ≡ states
-  pub rows_are : t.rows ≡ rows
   pub home_is : t.home ≡ home
   pub can : CanRun t.states t.rows
   pub homes : AreHomes (length parts) t
   pub runs : (k : ℕ) → k < length parts → run_at parts k ≡ part_ran t k
-
--- the step has been run over these bodies and rows
-pub record IsStepSolved (count : ℕ) (gravity : Vec2) (first : List BodyState) (before : ColourRows ConstraintRow) (bodies : List BodyState) (now : ColourRows ConstraintRow) (sums : StepSums) : Type 0 where
-  pub run : run_of bodies (all_rows now) sums ≡ ran count gravity (start first (all_rows before))
-  pub states : AreAllStates bodies
-  pub rows : AreRowsBelow (length bodies) (all_rows now)
-  pub colours : map length now.colours ≡ map length before.colours
-  pub long : length bodies ≡ length first
-  pub same : AreSameBeside first bodies
-  pub courses : HaveCourses bodies
-  pub small : AreSums (2 ^ 83) sums
-  pub momentum : total bodies ≡ plus (total first) (added sums)

@@ -72,6 +72,7 @@ pub record IsWalked (t : Step) (k : ℕ) (l : Lists) : Type 0 where
   pub states : l.states.items ≡ at_home t k t.states
   pub colours : l.rows.colours ≡ own_stages t.home k t.states (stage_rows t.rows)
   pub left : l.rows.left ≡ []
+  pub rows : AreRowsBelow (length t.states) (all_rows l.rows)
 
 -- what holds of its bodies and rows at all times
 pub record IsSound (t : Step) (k : ℕ) (l : Lists) : Type 0 where

@@ -1,15 +1,16 @@
 //! A step that is solved by parts where that is worth it.
 
-ghost use Rattle.std.specs.Prelude.{◌≡◌, ◌≤◌, ◌^◌, length};
-
 use crate::part_memory::PartMemory;
-use crate::parting::solve_by_parts;
+use crate::parting::{PartPlan, solve_by_parts};
 use crate::seat_map::SeatMap;
 use crate::sums::MOST_PARTS;
-use colour_solver::{Rows, StepSolver, StepSums, run_step};
-use fixed_geom::Vec2;
+use crate::team::Team;
+use colour_solver::StepSums;
+use contacts::Constraint;
+use graph_colours::Colours;
 use momenta::BodyState;
 use std::sync::Wait;
+use world_core_base::{Constraints, GatheredRows, MovingSlots, Pace, StepSolver, run_alone};
 
 /// A solver of steps by so many workers, who work the seats of its parts.
 #[derive(Drop)]
@@ -24,37 +25,39 @@ impl<R: Wait, M: SeatMap> StepSolver for PartSolver<'_, R, M> {
     fn run_step(
         &mut self,
         states: &mut Vec<BodyState>,
-        rows: &mut Rows,
-        awake: &[u32],
-        carried: &[u32],
-        gravity: Vec2,
-        count: u64,
+        constraints: &mut Constraints,
+        colours: &Colours<Constraint>,
+        gathered: &mut GatheredRows,
+        moving: MovingSlots,
+        pace: Pace,
     ) -> StepSums {
         let memory = &mut *self.memory;
         let workers = self.workers.min(MOST_PARTS);
-        let Some(room) = memory.is_worth(rows, states.as_slice(), awake, workers) else {
-            return run_step(states, rows, awake, carried, gravity, count);
-        };
-        let solved = solve_by_parts(
-            self.rt,
-            self.mapper,
-            &mut memory.lists,
-            &mut memory.deal.home,
-            states,
-            rows,
-            awake,
-            carried,
-            gravity,
-            count,
+        let Some(room) = memory.is_worth(
+            states.as_slice(),
+            constraints.joints.joints(),
+            colours,
+            moving.awake,
             workers,
+        ) else {
+            return run_alone(states, constraints, colours, gathered, moving, pace);
+        };
+        let plan = PartPlan {
+            parts: workers,
             room,
-        );
+            pace,
+        };
+        let team = Team {
+            rt: self.rt,
+            mapper: &mut *self.mapper,
+        };
+        let solved = solve_by_parts(team, memory, states, constraints, moving, plan);
         match solved {
             Some(outcome) => {
                 memory.heed(outcome.long_waits);
                 outcome.sums
             }
-            None => run_step(states, rows, awake, carried, gravity, count),
+            None => run_alone(states, constraints, colours, gathered, moving, pace),
         }
     }
 }

@@ -3,18 +3,15 @@
 //! Any deal will do, so nothing is promised here.
 
 use crate::seeing::{is_mover, part_at};
-use crate::walk::part_of;
-use colour_solver::{Row, Rows};
-use colour_solver_base::ContactRow;
+use crate::tasks::Stage;
+use colour_solver::Slots;
 use fixed_geom::Refusal;
+use graph_colours::COLOURS;
 use momenta::BodyState;
 use std::alloc::Global;
 
 /// After so many steps the strips are cut anew.
 const LONGEST_USE: u32 = 32;
-
-/// One contact in so many is looked at for its points.
-const SAMPLED: usize = 16;
 
 /// A mover along the longer side, and what it costs.
 #[derive(Clone, Copy)]
@@ -23,14 +20,12 @@ struct Place {
     weight: u32,
 }
 
-/// How many rows there are in all, how many of them wait for a body of another part, how many have no colour, and about
-/// how many contacts have a second point.
+/// How many rows there are in all, how many of them wait for a body of another part, and how many have no colour.
 #[derive(Clone, Copy)]
 pub(crate) struct Counts {
     pub(crate) all: usize,
     pub(crate) waiting: usize,
     pub(crate) left: usize,
-    pub(crate) second_points: usize,
 }
 
 /// The strips of the steps before, and the lists that they are cut with.
@@ -83,9 +78,9 @@ fn add_weight(weights: &mut Vec<u32>, slot: u32, more: u32) {
 }
 
 /// Adds what rows cost to the movers that they touch.
-fn weigh_rows<R: Row>(weights: &mut Vec<u32>, rows: &[R], states: &[BodyState]) {
+fn weigh_rows(weights: &mut Vec<u32>, rows: &[Slots], states: &[BodyState]) {
     for index in 0..rows.len() {
-        let slots = rows[index].slots();
+        let slots = rows[index];
         let both = is_mover(states, slots.a as usize) && is_mover(states, slots.b as usize);
         let each = if both { 1 } else { 2 };
         add_weight(weights, slots.a, each);
@@ -93,11 +88,18 @@ fn weigh_rows<R: Row>(weights: &mut Vec<u32>, rows: &[R], states: &[BodyState]) 
     }
 }
 
+/// The same of all stages.
+fn weigh_all(weights: &mut Vec<u32>, stages: &[Stage], states: &[BodyState]) {
+    for index in 0..stages.len() {
+        weigh_rows(weights, &stages[index].slots, states);
+    }
+}
+
 /// How many rows have movers that are at home in two parts.
-fn count_waiting<R: Row>(rows: &[R], states: &[BodyState], home: &[u32]) -> usize {
+fn count_waiting(rows: &[Slots], states: &[BodyState], home: &[u32]) -> usize {
     let mut waiting: usize = 0;
     for index in 0..rows.len() {
-        let slots = rows[index].slots();
+        let slots = rows[index];
         if part_at(home, slots.a as usize) != part_at(home, slots.b as usize)
             && is_mover(states, slots.a as usize)
             && is_mover(states, slots.b as usize)
@@ -108,17 +110,23 @@ fn count_waiting<R: Row>(rows: &[R], states: &[BodyState], home: &[u32]) -> usiz
     waiting
 }
 
-/// About how many contacts have a second point, by one in so many.
-fn count_second_points(contacts: &[ContactRow]) -> usize {
-    let mut count: usize = 0;
-    for sample in 0..contacts.len() / SAMPLED {
-        if let Some(contact) = contacts.get(sample.saturating_mul(SAMPLED)) {
-            if contact.second.is_some() {
-                count = count.saturating_add(SAMPLED);
-            }
-        }
+/// How many rows of a step wait by this deal: those that have no colour, and of the others those between two parts.
+fn count_all(stages: &[Stage], states: &[BodyState], home: &[u32]) -> Counts {
+    let mut counts = Counts {
+        all: 0,
+        waiting: 0,
+        left: 0,
+    };
+    for index in 0..stages.len() {
+        let rows = stages[index].slots.as_slice();
+        counts.all = counts.all.saturating_add(rows.len());
+        counts.waiting = counts
+            .waiting
+            .saturating_add(count_waiting(rows, states, home));
+        counts.left = if index < COLOURS { 0 } else { rows.len() };
     }
-    count
+    counts.waiting = counts.waiting.saturating_add(counts.left);
+    counts
 }
 
 /// The strip of a place: behind so many cuts.
@@ -217,7 +225,7 @@ impl Deal {
     /// Cuts the strips.
     fn cut(
         &mut self,
-        rows: &Rows,
+        stages: &[Stage],
         states: &[BodyState],
         awake: &[u32],
         parts: usize,
@@ -225,8 +233,7 @@ impl Deal {
         self.used = LONGEST_USE;
         self.weights.clear();
         self.weights.resize(states.len(), 1)?;
-        weigh_rows(&mut self.weights, rows.joints(), states);
-        weigh_rows(&mut self.weights, rows.contacts(), states);
+        weigh_all(&mut self.weights, stages, states);
         self.along_x = reach(states, awake, true) >= reach(states, awake, false);
         self.places.clear();
         self.places.reserve(awake.len())?;
@@ -263,60 +270,40 @@ impl Deal {
         Ok(())
     }
 
-    /// How many rows wait by this deal.
-    fn count(&self, rows: &Rows, states: &[BodyState]) -> Counts {
-        let left = rows
-            .joints_left()
-            .len()
-            .saturating_add(rows.contacts_left().len());
-        let all = rows.joints().len().saturating_add(rows.contacts().len());
-        let between = count_waiting(rows.joints(), states, &self.home).saturating_add(count_waiting(
-            rows.contacts(),
-            states,
-            &self.home,
-        ));
-        Counts {
-            all,
-            waiting: between.saturating_add(left),
-            left,
-            second_points: count_second_points(rows.contacts()),
-        }
-    }
-
     /// Deals the movers out to so many parts, by new strips or those of the step before.
     fn deal(
         &mut self,
-        rows: &Rows,
+        stages: &[Stage],
         states: &[BodyState],
         awake: &[u32],
         parts: usize,
         anew: bool,
     ) -> Result<Counts, Refusal> {
         if anew || self.used >= LONGEST_USE || self.cuts.len().saturating_add(1) != parts {
-            self.cut(rows, states, awake, parts)?;
+            self.cut(stages, states, awake, parts)?;
             self.give_homes(states, awake)?;
         } else if !self.holds(states, awake, parts) {
             self.give_homes(states, awake)?;
         }
         self.used = self.used.saturating_add(1);
-        Ok(self.count(rows, states))
+        Ok(count_all(stages, states, &self.home))
     }
 
     /// Sees to it that each mover has a home among so many parts. Answers what waits then, or nothing where memory is
     /// wanting.
     pub(crate) fn settle(
         &mut self,
-        rows: &Rows,
+        stages: &[Stage],
         states: &[BodyState],
         awake: &[u32],
         parts: usize,
     ) -> Option<Counts> {
-        let Ok(counts) = self.deal(rows, states, awake, parts, false) else {
+        let Ok(counts) = self.deal(stages, states, awake, parts, false) else {
             return None;
         };
         if self.used <= 1 || counts.waiting <= counts.all / 10 {
             return Some(counts);
         }
-        self.deal(rows, states, awake, parts, true).ok()
+        self.deal(stages, states, awake, parts, true).ok()
     }
 }

@@ -1,14 +1,18 @@
 //! What the workers of one step leave to those of the next.
 
-ghost use Rattle.std.specs.Prelude.{◌≤◌, IfSome, length};
+ghost use Rattle.std.specs.Prelude.{◌≡◌, IfSome};
 ghost use Rattle.part_solver.specs.Parts.{AreDealt};
+ghost use Rattle.part_solver.specs.Tasks.{AreStages, lists_of};
 
 use crate::dealing::{Counts, Deal};
 use crate::homes::are_dealt;
 use crate::parting::StepMemory;
 use crate::sums::MOST_PARTS;
-use colour_solver::Rows;
+use crate::tasks::count_members;
+use contacts::Constraint;
+use graph_colours::Colours;
 use momenta::BodyState;
+use plain_world::BodyJoint;
 use std::alloc::Global;
 
 /// The fewest constraints of a step that is worth its workers: with fewer, the calling thread solves it alone.
@@ -27,9 +31,6 @@ const GOOD_STEPS: u32 = 4;
 /// The most bodies that a ring has room for.
 const MOST_ROOM: usize = 4_096;
 
-/// The most colours of a step that is solved by parts.
-const MOST_COLOURS: usize = 64;
-
 /// What a crew knows of the steps that were made, and the lists that it works with. The next crew goes on with them.
 #[derive(Drop)]
 pub struct PartMemory {
@@ -44,12 +45,6 @@ pub struct PartMemory {
 /// Whether few rows of a step wait for bodies of other parts.
 fn is_loose(counts: Counts) -> bool {
     counts.waiting <= counts.all / 10 && counts.left <= counts.all / 16
-}
-
-/// Whether the parts have more to do than to copy: each row is copied to its part and back, whatever it holds, while
-/// the work is at bodies and at points.
-fn is_paying(counts: Counts, movers: usize) -> bool {
-    movers.saturating_add(counts.second_points) >= counts.all
 }
 
 /// For how many bodies a ring needs room. Only bodies of rows that wait go from part to part, each once before a stage.
@@ -88,11 +83,10 @@ impl PartMemory {
     }
 
     /// Whether a step is to be looked at: there are workers and constraints enough, and no rest is to be taken.
-    fn is_due(&mut self, rows: &Rows, parts: usize) -> bool {
+    fn is_due(&mut self, constraints: usize, parts: usize) -> bool {
         if self.all_steps {
             return true;
         }
-        let constraints = rows.joints().len().saturating_add(rows.contacts().len());
         parts as u64 >= LEAST_PARTS && constraints >= LEAST_CONSTRAINTS && !self.take_rest()
     }
 
@@ -115,27 +109,30 @@ impl PartMemory {
         }
     }
 
-    /// Whether the step is worth so many workers: it has constraints enough, few of them wait for bodies of other
-    /// parts, and they have more to do than to be copied. Answers for how many bodies each ring then needs room.
+    /// Whether the step is worth so many workers: it has constraints enough, and few of them wait for bodies of other
+    /// parts. Its constraints are listed then, and it is answered for how many bodies each ring needs room.
     pub(crate) fn is_worth(
         &mut self,
-        rows: &Rows,
         states: &[BodyState],
+        joints: &[Option<BodyJoint>],
+        colours: &Colours<Constraint>,
         awake: &[u32],
         parts: usize,
     ) -> Option<usize>
+        requires flushed { colours.now.pending ≡ 0 }
         ensures dealt { IfSome result (λ room. AreDealt self.new.deal.home.items parts states.now) }
-        ensures colours { IfSome result (λ room. length rows.now.colours ≤ 64) }
+        ensures lists { IfSome result (λ room. lists_of self.new.lists.stages.items ≡ colours.now.lists) }
+        ensures stages { IfSome result (λ room. AreStages joints.now self.new.lists.stages.items) }
     {
-        if rows.colours() > MOST_COLOURS {
+        if parts < 2 || parts > MOST_PARTS || !self.is_due(count_members(colours), parts) {
             return None;
         }
-        if parts < 2 || parts > MOST_PARTS || !self.is_due(rows, parts) {
+        if self.lists.list_stages(joints, colours).is_err() {
             return None;
         }
-        let counts = self.deal.settle(rows, states, awake, parts)?;
+        let counts = self.deal.settle(&self.lists.stages, states, awake, parts)?;
         let room = room_for(counts);
-        let is_good = self.all_steps || is_loose(counts) && is_paying(counts, awake.len());
+        let is_good = self.all_steps || is_loose(counts);
         if is_good && room <= MOST_ROOM && are_dealt(&self.deal.home, parts, states) {
             return Some(room);
         }

@@ -41,7 +41,7 @@ pub(crate) struct Turn {
 
 /// A stage of a pass, by its number.
 #[derive(Clone, Copy)]
-struct Stage {
+struct PassStage {
     phase: Phase,
     index: usize,
 }
@@ -105,7 +105,7 @@ fn hand_on<R: Wait>(
     rt: &R,
     step: &StepLists,
     turn: Turn,
-    stage: Stage,
+    stage: PassStage,
     lists: &mut Lists,
     ports: &mut Ports,
 ) -> u32
@@ -129,7 +129,7 @@ fn pass_stage<R: Wait>(
     rt: &R,
     step: &StepLists,
     turn: Turn,
-    stage: Stage,
+    stage: PassStage,
     lists: &mut Lists,
     ports: &mut Ports,
 ) -> Passed
@@ -178,11 +178,11 @@ pub(crate) fn pass_all<R: Wait>(
     let mut long_waits: u32 = 0;
     let stages = lists.rows.colours();
     for index in 0..stages {
-        let made = pass_stage(rt, step, turn, Stage { phase, index }, lists, ports);
+        let made = pass_stage(rt, step, turn, PassStage { phase, index }, lists, ports);
         given = add(given, made.given);
         long_waits = long_waits.saturating_add(made.long_waits);
     }
-    let way_home = Stage {
+    let way_home = PassStage {
         phase,
         index: stages,
     };

@@ -32,13 +32,14 @@ impl Seat {
     {
         let Seat {
             step: shared,
+            lent,
             number,
             mut lists,
             mut ports,
         } = self;
         let step = &*shared;
         see(step, number, &mut lists);
-        walk(step, number, &mut lists);
+        walk(step, &*lent, number, &mut lists);
         let outcome = run(rt, step, number, &mut lists, &mut ports);
         Part {
             number,

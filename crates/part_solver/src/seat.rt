@@ -1,19 +1,18 @@
 //! A part before and after its run: its number, its lists, which stay from step to step, and its ends of the rings.
 
 ghost use Rattle.std.specs.Prelude.{◌≡◌, ◌+◌, ◌*◌, ◌^◌, IfOk, OnOk};
-ghost use Rattle.colour_solver.specs.ConstraintVisits.{contacts_among, joints_among};
+ghost use Rattle.colour_solver.specs.ColourRows.{all_rows};
 ghost use Rattle.colour_solver.specs.States.{as_vector};
 ghost use Rattle.colour_solver.specs.Ticks.{AreSums};
 ghost use Rattle.part_runs.specs.Runs.{IsInRange};
 ghost use Rattle.part_solver.specs.Benches.{IsRoomy};
 
+use crate::lent::Lent;
 use crate::moves::BodyMove;
 use crate::ports::Ports;
 use crate::step_lists::StepLists;
 use colour_solver::{Rows, StepSums};
-use colour_solver_base::ContactRow;
 use fixed_geom::Refusal;
-use joint_rows::JointRow;
 use momenta::BodyState;
 use std::alloc::Global;
 use std::marker::Model;
@@ -27,6 +26,8 @@ pub(crate) struct Lists {
     pub(crate) awake: Vec<u32>,
     pub(crate) carried: Vec<u32>,
     pub(crate) rows: Rows,
+    /// Beside the row of each contact where that may be.
+    pub(crate) places: Vec<usize>,
     /// Who has the body in each slot.
     pub(crate) at: Vec<u32>,
     /// The moves from the part and to it, stage after stage.
@@ -40,6 +41,7 @@ pub(crate) struct Lists {
 #[derive(Drop)]
 pub struct Seat {
     pub(crate) step: Arc<StepLists, Global>,
+    pub(crate) lent: Arc<Lent, Global>,
     pub(crate) number: u32,
     pub(crate) lists: Lists,
     pub(crate) ports: Ports,
@@ -73,13 +75,14 @@ impl Model for Seat {
     ghost use Rattle.std.specs.Prelude.{length};
     ghost use Rattle.std.specs.Arc.{arc_value};
     ghost use Rattle.part_solver.specs.Benches.{IsRoomyFor};
+    ghost use Rattle.part_solver.specs.Lending.{HasSources};
     ghost use Rattle.part_solver.specs.Parts.{AreRings, IsPartOf, Place};
 
     ghost Value = { Place };
 
     ghost view = { λ a. record { step = arc_value a.step; number = a.number } };
 
-    ghost invariant = { λ a. IsPartOf (arc_value a.step) (length a.ports.outs) a.number × AreRings (arc_value a.step) (length a.ports.outs) a.number a.ports × IsRoomyFor (arc_value a.step) a.lists };
+    ghost invariant = { λ a. IsPartOf (arc_value a.step) (length a.ports.outs) a.number × AreRings (arc_value a.step) (length a.ports.outs) a.number a.ports × IsRoomyFor (arc_value a.step) a.lists × HasSources (arc_value a.step) (arc_value a.lent) };
 }
 
 /// For how much the walk of a part needs room.
@@ -122,6 +125,7 @@ impl Lists {
             awake: Vec::new(alloc),
             carried: Vec::new(alloc),
             rows: Rows::new(alloc),
+            places: Vec::new(alloc),
             at: Vec::new(alloc),
             moves: Vec::new(alloc),
             ends: Vec::new(alloc),
@@ -142,6 +146,7 @@ impl Lists {
         self.awake.clear();
         self.carried.clear();
         self.rows.clear();
+        self.places.clear();
         self.at.clear();
         self.moves.clear();
         self.ends.clear();
@@ -150,6 +155,7 @@ impl Lists {
         self.carried.reserve(bodies)?;
         self.at.reserve(bodies)?;
         self.rows.reserve(rows, room.colours)?;
+        self.places.reserve(rows)?;
         self.moves.reserve(room.moves)?;
         self.ends.reserve(room.ends)?;
         Ok(())
@@ -164,18 +170,16 @@ impl Part {
         self.lists.states.as_slice()
     }
 
-    /// The rows of its joints, in solve order.
-    pub(crate) fn joints(&self) -> &[JointRow]
-        ensures { result.now ≡ joints_among self.now.run.rows }
+    /// Its rows, stage after stage.
+    pub(crate) fn rows(&self) -> &Rows
+        ensures { all_rows result.now ≡ self.now.run.rows }
     {
-        self.lists.rows.joints()
+        &self.lists.rows
     }
 
-    /// The rows of its contacts, in solve order.
-    pub(crate) fn contacts(&self) -> &[ContactRow]
-        ensures { result.now ≡ contacts_among self.now.run.rows }
-    {
-        self.lists.rows.contacts()
+    /// Beside the row of each contact where that may be.
+    pub(crate) fn places(&self) -> &[usize] {
+        self.lists.places.as_slice()
     }
 
     /// What was added to its movers' momentum, by cause.

@@ -4,16 +4,18 @@ ghost use Rattle.std.specs.Prelude.{◌≡◌};
 ghost use Rattle.colour_solver.specs.States.{carried_of, movers_of};
 ghost use Rattle.part_solver.specs.Steps.{CanSolve};
 
-use colour_solver::Rows;
+use crate::lent::Lent;
 use fixed_geom::Vec2;
 use momenta::BodyState;
 use std::marker::Model;
+use std::snapshot::Snapshot;
 
-/// The bodies and rows of a step, with the home of each slot. Contracts see all that its run hangs on.
+/// The bodies of a step, with the home of each slot, and, for contracts alone, what its rows are gathered from. Contracts
+/// see all that its run hangs on.
 #[derive(Drop)]
 pub(crate) struct StepLists {
     pub(crate) states: Vec<BodyState>,
-    pub(crate) rows: Rows,
+    pub(crate) lent: Snapshot<Lent>,
     /// The part of each slot; 0 for what isn't a mover.
     pub(crate) home: Vec<u32>,
     pub(crate) awake: Vec<u32>,
@@ -27,13 +29,14 @@ impl Model for StepLists {
     ghost use Rattle.std.specs.Prelude.{◌≡◌};
     ghost use Rattle.colour_solver.specs.States.{carried_of, movers_of};
     ghost use Rattle.part_runs.specs.Runs.{Step};
+    ghost use Rattle.part_solver.specs.Lending.{rows_from};
     ghost use Rattle.part_solver.specs.Steps.{CanSolve};
 
     ghost Value = { Step };
 
-    ghost view = { λ a. record { states = a.states.items; rows = a.rows; home = a.home.items; gravity = a.gravity; count = a.count } };
+    ghost view = { λ a. record { states = a.states.items; rows = rows_from a.states.items a.lent.value; home = a.home.items; gravity = a.gravity; count = a.count } };
 
-    ghost invariant = { λ a. CanSolve (record { states = a.states.items; rows = a.rows; home = a.home.items; gravity = a.gravity; count = a.count }) × (a.awake.items ≡ movers_of a.states.items) × (a.carried.items ≡ carried_of a.states.items) };
+    ghost invariant = { λ a. CanSolve (record { states = a.states.items; rows = rows_from a.states.items a.lent.value; home = a.home.items; gravity = a.gravity; count = a.count }) × (a.awake.items ≡ movers_of a.states.items) × (a.carried.items ≡ carried_of a.states.items) };
 }
 
 impl StepLists {
@@ -70,13 +73,6 @@ impl StepLists {
         ensures { result.now ≡ carried_of self.now.states }
     {
         self.carried.as_slice()
-    }
-
-    /// Its rows.
-    pub(crate) fn rows(&self) -> &Rows
-        ensures { result.now ≡ self.now.rows }
-    {
-        &self.rows
     }
 
     /// Gravity (u/tick²).

@@ -5,29 +5,39 @@
 //! has none is of the part 0. A body that a row needs from elsewhere moves to its part before the row's stage. Behind
 //! the last of them all go home.
 
-ghost use Rattle.std.specs.Prelude.{◌≡◌, ◌*◌, ◌+◌, ◌++◌, ◌∷◌, ◌<◌, ◌≤◌, [], cond, false, true, length, map, slice_index_or, vec_capacity, vec_len};
-ghost use Rattle.colour_solver.specs.ColourRows.{joints_first};
-ghost use Rattle.colour_solver.specs.ConstraintVisits.{contacts_among};
-ghost use Rattle.colour_solver.specs.declared.constraint_row.ConstraintRow.TheVariants.{Contact, Joint};
+ghost use Rattle.std.specs.Prelude.{◌≡◌, ◌*◌, ◌+◌, ◌++◌, ◌∷◌, ◌<◌, ◌≤◌, ◌^◌, [], cond, false, true, length, slice_index_or, vec_capacity, vec_len};
+ghost use Rattle.std.specs.Option.{option_to_list};
+ghost use Rattle.contacts_base.specs.Split.{contacts_in};
+ghost use Rattle.contacts.specs.Constraints.{constraint_number};
+ghost use Rattle.colour_solver.specs.ConstraintVisits.{AreRowsBelow, contacts_among};
+ghost use Rattle.colour_solver.specs.States.{AreAllStates};
+ghost use Rattle.world_core_base.specs.ConstraintRows.{HasJointOn, IsMovable, constraint_row, rows_in};
+ghost use Rattle.world_core_base.specs.Gather.{AreContactsOn};
 ghost use Rattle.part_runs.specs.Hidden.{owned, part_at};
 ghost use Rattle.part_runs.specs.Walks.{fetched, fetched_mover, setting_out, walk_home, walk_rows};
 ghost use Rattle.part_solver.specs.Benches.{HasSeen};
+ghost use Rattle.part_solver.specs.Lending.{HasSources};
 ghost use Rattle.part_solver.specs.Running.{IsWalked};
+ghost use Rattle.part_solver.specs.Tasks.{CanGather};
 ghost use Rattle.part_solver.specs.Walking.{IsOnward, owner_in, owner_of, slots_fetched};
 
+use crate::lent::{Lent, Sources, in_colour, in_overflow};
 use crate::moves::BodyMove;
 use crate::seat::Lists;
 use crate::seeing::{is_mover, part_at};
 use crate::step_lists::StepLists;
-use colour_solver::{Row, Rows, Slots};
-use colour_solver_base::ContactRow;
-use joint_rows::JointRow;
+use crate::tasks::id_at;
+use colour_solver::Slots;
+use contacts::Constraint;
+use contacts_base::Hint;
+use graph_colours::COLOURS;
 use momenta::BodyState;
 use part_runs::laws::walks_are_made;
+use world_core_base::add_row;
 
 /// What a row's part is found by.
 #[derive(Clone, Copy)]
-pub(crate) struct Homes<'a> {
+struct Homes<'a> {
     states: &'a [BodyState],
     home: &'a [u32],
     /// The part that walks.
@@ -37,7 +47,7 @@ pub(crate) struct Homes<'a> {
 /// The part of a row: where its first mover is at home. Where both bodies are of one part, nobody has to look at the
 /// bodies.
 #[inline(always)]
-pub(crate) fn part_of(slots: Slots, states: &[BodyState], home: &[u32]) -> u32
+fn part_of(slots: Slots, states: &[BodyState], home: &[u32]) -> u32
     ensures { result ≡ owner_of states.now home.now true slots }
 {
     let first = part_at(home, slots.a as usize);
@@ -149,95 +159,92 @@ fn fetch_row(
     }
 }
 
-/// The row at a place.
+/// The slots at a place.
 #[inline(always)]
-pub(crate) fn row_at<T>(rows: &[T], index: usize) -> &T
-    requires { index < length rows.now }
-    ensures { result.now ≡ slice_index_or rows.now index result.now }
+fn slots_at(slots: &[Slots], index: usize) -> Slots
+    requires { index < length slots.now }
+    ensures { result ≡ slice_index_or slots.now index result }
 {
-    &rows[index]
+    slots[index]
 }
 
-/// Adds a joint to a part's rows, if it is its own.
+/// Gathers the row of a constraint, for which there is room, if it is the part's own. The contact is looked for from
+/// `hint` on, which becomes where it was found.
 #[inline(always)]
-fn keep_joint(rows: &mut Rows, joint: &JointRow, own: bool)
-    requires room { 1 ≤ rows.old.room }
-    requires first { contacts_among rows.old.left ≡ [] }
-    ensures left { rows.new.left ≡ rows.old.left ++ cond own (Joint joint.now ∷ []) [] }
-    ensures colours { rows.new.colours ≡ rows.old.colours }
-    ensures room { rows.old.room ≤ rows.new.room + 1 }
-    ensures more { rows.new.more ≡ rows.old.more }
+fn keep_row(
+    homes: Homes,
+    sources: Sources,
+    lists: &mut Lists,
+    hint: &mut Hint,
+    id: Constraint,
+    own: bool,
+)
+    requires states { AreAllStates homes.states.now }
+    requires joint { HasJointOn homes.states.now sources.joints.now id }
+    requires contacts { AreContactsOn homes.states.now (contacts_in sources.contacts.now) }
+    requires movable { IsMovable homes.states.now id }
+    requires room { 1 ≤ lists.old.rows.room }
+    requires first { constraint_number id < 2 ^ 80 → contacts_among lists.old.rows.left ≡ [] }
+    ensures below { AreRowsBelow (length homes.entry.states.now) lists.old.rows.left → AreRowsBelow (length homes.entry.states.now) lists.new.rows.left }
+    ensures left { lists.new.rows.left ≡ lists.old.rows.left ++ cond own (option_to_list (constraint_row homes.entry.states.now sources.entry.joints.now (contacts_in sources.entry.contacts.now) id)) [] }
+    ensures colours { lists.new.rows.colours ≡ lists.old.rows.colours }
+    ensures room { lists.old.rows.room ≤ lists.new.rows.room + 1 }
+    ensures more { lists.new.rows.more ≡ lists.old.rows.more }
+    ensures at { lists.new.at.items ≡ lists.old.at.items }
+    ensures moves { lists.new.moves.items ≡ lists.old.moves.items }
+    ensures moves_len { vec_len lists.new.moves ≡ vec_len lists.old.moves }
+    ensures moves_room { vec_capacity lists.new.moves ≡ vec_capacity lists.old.moves }
+    ensures states_same { lists.new.states.items ≡ lists.old.states.items }
+    ensures awake { lists.new.awake.items ≡ lists.old.awake.items }
+    ensures carried { lists.new.carried.items ≡ lists.old.carried.items }
+    ensures ends { lists.new.ends.items ≡ lists.old.ends.items }
+    ensures ends_room { vec_capacity lists.new.ends ≡ vec_capacity lists.old.ends }
 {
     if own {
-        rows.push_joint(*joint);
+        add_row(
+            &mut lists.rows,
+            homes.states,
+            sources.joints,
+            sources.contacts,
+            hint,
+            &mut lists.places,
+            id,
+        );
     }
 }
 
-/// The same of a contact.
-#[inline(always)]
-fn keep_contact(rows: &mut Rows, contact: &ContactRow, own: bool)
-    requires room { 1 ≤ rows.old.room }
-    ensures left { rows.new.left ≡ rows.old.left ++ cond own (Contact contact.now ∷ []) [] }
-    ensures colours { rows.new.colours ≡ rows.old.colours }
-    ensures room { rows.old.room ≤ rows.new.room + 1 }
-    ensures more { rows.new.more ≡ rows.old.more }
+/// Walks over the constraints of a stage, and gathers the part's own rows.
+fn walk_members(homes: Homes, sources: Sources, coloured: bool, lists: &mut Lists)
+    requires states { AreAllStates homes.states.now }
+    requires can { CanGather homes.states.now sources.joints.now (contacts_in sources.contacts.now) sources.members.now sources.slots.now }
+    requires moves_room { vec_len lists.old.moves + 2 * length sources.members.now ≤ vec_capacity lists.old.moves }
+    requires rows_room { length sources.members.now ≤ lists.old.rows.room }
+    requires no_rows { lists.old.rows.left ≡ [] }
+    ensures onward { IsOnward homes.entry.number (walk_rows homes.entry.states.now (owner_in homes.entry.states.now homes.entry.home.now coloured) (rows_in homes.entry.states.now sources.entry.joints.now (contacts_in sources.entry.contacts.now) sources.entry.members.now) (setting_out lists.old.at.items)) lists.new.at.items lists.old.moves.items lists.new.moves.items }
+    ensures own { lists.new.rows.left ≡ owned (owner_in homes.entry.states.now homes.entry.home.now coloured) homes.entry.number (rows_in homes.entry.states.now sources.entry.joints.now (contacts_in sources.entry.contacts.now) sources.entry.members.now) }
+    ensures below { AreRowsBelow (length homes.entry.states.now) (owned (owner_in homes.entry.states.now homes.entry.home.now coloured) homes.entry.number (rows_in homes.entry.states.now sources.entry.joints.now (contacts_in sources.entry.contacts.now) sources.entry.members.now)) }
+    ensures colours { lists.new.rows.colours ≡ lists.old.rows.colours }
+    ensures more { lists.new.rows.more ≡ lists.old.rows.more }
+    ensures rows_room { lists.old.rows.room ≤ lists.new.rows.room + length sources.entry.members.now }
+    ensures moves_room { vec_capacity lists.new.moves ≡ vec_capacity lists.old.moves }
+    ensures few { vec_len lists.new.moves ≤ vec_len lists.old.moves + 2 * length sources.entry.members.now }
+    ensures states_same { lists.new.states.items ≡ lists.old.states.items }
+    ensures awake { lists.new.awake.items ≡ lists.old.awake.items }
+    ensures carried { lists.new.carried.items ≡ lists.old.carried.items }
+    ensures ends { lists.new.ends.items ≡ lists.old.ends.items }
+    ensures ends_room { vec_capacity lists.new.ends ≡ vec_capacity lists.old.ends }
 {
-    if own {
-        rows.push_contact(*contact);
-    }
-}
-
-/// Walks over the joints of a stage, and adds the part's own to its rows.
-fn walk_joints(
-    homes: Homes,
-    joints: &[JointRow],
-    coloured: bool,
-    at: &mut Vec<u32>,
-    moves: &mut Vec<BodyMove>,
-    rows: &mut Rows,
-)
-    requires moves_room { vec_len moves.old + 2 * length joints.now ≤ vec_capacity moves.old }
-    requires rows_room { length joints.now ≤ rows.old.room }
-    requires no_rows { rows.old.left ≡ [] }
-    ensures onward { IsOnward homes.entry.number (walk_rows homes.entry.states.now (owner_in homes.entry.states.now homes.entry.home.now coloured) (map Joint joints.now) (setting_out at.old.items)) at.new.items moves.old.items moves.new.items }
-    ensures own { rows.new.left ≡ owned (owner_in homes.entry.states.now homes.entry.home.now coloured) homes.entry.number (map Joint joints.now) }
-    ensures no_contacts { contacts_among rows.new.left ≡ [] }
-    ensures colours { rows.new.colours ≡ rows.old.colours }
-    ensures more { rows.new.more ≡ rows.old.more }
-    ensures rows_room { rows.old.room ≤ rows.new.room + length joints.now }
-    ensures moves_room { vec_capacity moves.new ≡ vec_capacity moves.old }
-    ensures few { vec_len moves.new ≤ vec_len moves.old + 2 * length joints.now }
-{
-    for index in 0..joints.len() {
-        let joint = row_at(joints, index);
-        let part = fetch_row(homes, joint.slots(), coloured, at, moves);
-        keep_joint(rows, joint, part == homes.number);
-    }
-}
-
-/// Walks over its contacts, behind the joints.
-fn walk_contacts(
-    homes: Homes,
-    contacts: &[ContactRow],
-    coloured: bool,
-    at: &mut Vec<u32>,
-    moves: &mut Vec<BodyMove>,
-    rows: &mut Rows,
-)
-    requires moves_room { vec_len moves.old + 2 * length contacts.now ≤ vec_capacity moves.old }
-    requires rows_room { length contacts.now ≤ rows.old.room }
-    ensures onward { IsOnward homes.entry.number (walk_rows homes.entry.states.now (owner_in homes.entry.states.now homes.entry.home.now coloured) (map Contact contacts.now) (setting_out at.old.items)) at.new.items moves.old.items moves.new.items }
-    ensures own { rows.new.left ≡ rows.old.left ++ owned (owner_in homes.entry.states.now homes.entry.home.now coloured) homes.entry.number (map Contact contacts.now) }
-    ensures colours { rows.new.colours ≡ rows.old.colours }
-    ensures more { rows.new.more ≡ rows.old.more }
-    ensures rows_room { rows.old.room ≤ rows.new.room + length contacts.now }
-    ensures moves_room { vec_capacity moves.new ≡ vec_capacity moves.old }
-    ensures few { vec_len moves.new ≤ vec_len moves.old + 2 * length contacts.now }
-{
-    for index in 0..contacts.len() {
-        let contact = row_at(contacts, index);
-        let part = fetch_row(homes, contact.slots(), coloured, at, moves);
-        keep_contact(rows, contact, part == homes.number);
+    let mut hint = Hint { long: 0, short: 0 };
+    for index in 0..sources.members.len() {
+        let part = fetch_row(
+            homes,
+            slots_at(sources.slots, index),
+            coloured,
+            &mut lists.at,
+            &mut lists.moves,
+        );
+        let id = id_at(sources.members, index);
+        keep_row(homes, sources, lists, &mut hint, id, part == homes.number);
     }
 }
 
@@ -251,49 +258,31 @@ fn end_stage(ends: &mut Vec<usize>, moves: &[BodyMove])
     ends.push_reserved(moves.len());
 }
 
-/// Walks over the rows of a stage: its joints and its contacts. Then it ends.
-fn walk_stage(
-    homes: Homes,
-    joints: &[JointRow],
-    contacts: &[ContactRow],
-    coloured: bool,
-    lists: &mut Lists,
-)
-    requires moves_room { vec_len lists.old.moves + 2 * (length joints.now + length contacts.now) ≤ vec_capacity lists.old.moves }
-    requires rows_room { length joints.now + length contacts.now ≤ lists.old.rows.room }
+/// Walks over the constraints of a stage, and gathers the part's own rows. Then it ends.
+fn walk_stage(homes: Homes, sources: Sources, coloured: bool, lists: &mut Lists)
+    requires states { AreAllStates homes.states.now }
+    requires can { CanGather homes.states.now sources.joints.now (contacts_in sources.contacts.now) sources.members.now sources.slots.now }
+    requires moves_room { vec_len lists.old.moves + 2 * length sources.members.now ≤ vec_capacity lists.old.moves }
+    requires rows_room { length sources.members.now ≤ lists.old.rows.room }
     requires no_rows { lists.old.rows.left ≡ [] }
     requires colours_room { 1 ≤ lists.old.rows.more }
     requires ends_room { vec_len lists.old.ends < vec_capacity lists.old.ends }
-    ensures onward { IsOnward homes.entry.number (walk_rows homes.entry.states.now (owner_in homes.entry.states.now homes.entry.home.now coloured) (joints_first joints.now contacts.now) (setting_out lists.old.at.items)) lists.new.at.items lists.old.moves.items lists.new.moves.items }
-    ensures own { lists.new.rows.colours ≡ lists.old.rows.colours ++ owned (owner_in homes.entry.states.now homes.entry.home.now coloured) homes.entry.number (joints_first joints.now contacts.now) ∷ [] }
+    ensures onward { IsOnward homes.entry.number (walk_rows homes.entry.states.now (owner_in homes.entry.states.now homes.entry.home.now coloured) (rows_in homes.entry.states.now sources.entry.joints.now (contacts_in sources.entry.contacts.now) sources.entry.members.now) (setting_out lists.old.at.items)) lists.new.at.items lists.old.moves.items lists.new.moves.items }
+    ensures own { lists.new.rows.colours ≡ lists.old.rows.colours ++ owned (owner_in homes.entry.states.now homes.entry.home.now coloured) homes.entry.number (rows_in homes.entry.states.now sources.entry.joints.now (contacts_in sources.entry.contacts.now) sources.entry.members.now) ∷ [] }
+    ensures below { AreRowsBelow (length homes.entry.states.now) (owned (owner_in homes.entry.states.now homes.entry.home.now coloured) homes.entry.number (rows_in homes.entry.states.now sources.entry.joints.now (contacts_in sources.entry.contacts.now) sources.entry.members.now)) }
     ensures no_rows { lists.new.rows.left ≡ [] }
     ensures colours_room { lists.old.rows.more ≤ lists.new.rows.more + 1 }
-    ensures rows_room { lists.old.rows.room ≤ lists.new.rows.room + (length joints.now + length contacts.now) }
+    ensures rows_room { lists.old.rows.room ≤ lists.new.rows.room + length sources.entry.members.now }
     ensures moves_room { vec_capacity lists.new.moves ≡ vec_capacity lists.old.moves }
-    ensures few { vec_len lists.new.moves ≤ vec_len lists.old.moves + 2 * (length joints.now + length contacts.now) }
-    ensures states { lists.new.states.items ≡ lists.old.states.items }
+    ensures few { vec_len lists.new.moves ≤ vec_len lists.old.moves + 2 * length sources.entry.members.now }
+    ensures states_same { lists.new.states.items ≡ lists.old.states.items }
     ensures awake { lists.new.awake.items ≡ lists.old.awake.items }
     ensures carried { lists.new.carried.items ≡ lists.old.carried.items }
     ensures ends { lists.new.ends.items ≡ lists.old.ends.items ++ length lists.new.moves.items ∷ [] }
     ensures ends_room { vec_capacity lists.new.ends ≡ vec_capacity lists.old.ends }
     ensures ends_count { vec_len lists.new.ends ≡ vec_len lists.old.ends + 1 }
 {
-    walk_joints(
-        homes,
-        joints,
-        coloured,
-        &mut lists.at,
-        &mut lists.moves,
-        &mut lists.rows,
-    );
-    walk_contacts(
-        homes,
-        contacts,
-        coloured,
-        &mut lists.at,
-        &mut lists.moves,
-        &mut lists.rows,
-    );
+    walk_members(homes, sources, coloured, lists);
     lists.rows.end_colour();
     end_stage(&mut lists.ends, &lists.moves);
 }
@@ -325,9 +314,10 @@ fn walk_way_home(homes: Homes, awake: &[u32], lists: &mut Lists)
     end_stage(&mut lists.ends, &lists.moves);
 }
 
-/// Walks over all stages of a pass: the colours, the rows that have none, and the way home.
-pub(crate) fn walk(step: &StepLists, number: u32, lists: &mut Lists)
-    requires { HasSeen step.now number lists.old }
+/// Walks over all stages of a pass: the colours, the rows that have none, and the way home. Gathers the part's own rows.
+pub(crate) fn walk(step: &StepLists, lent: &Lent, number: u32, lists: &mut Lists)
+    requires seen { HasSeen step.now number lists.old }
+    requires has { HasSources step.now lent.now }
     ensures { IsWalked step.now number lists.new }
 {
     walks_are_made();
@@ -337,22 +327,9 @@ pub(crate) fn walk(step: &StepLists, number: u32, lists: &mut Lists)
         home: step.home(),
         number,
     };
-    let rows = step.rows();
-    for colour in 0..rows.colours() {
-        walk_stage(
-            homes,
-            rows.joints_in(colour),
-            rows.contacts_in(colour),
-            true,
-            lists,
-        );
+    for colour in 0..COLOURS {
+        walk_stage(homes, in_colour(step, lent, colour), true, lists);
     }
-    walk_stage(
-        homes,
-        rows.joints_left(),
-        rows.contacts_left(),
-        false,
-        lists,
-    );
+    walk_stage(homes, in_overflow(step, lent), false, lists);
     walk_way_home(homes, step.awake(), lists);
 }

@@ -22,7 +22,6 @@ pub mod CoreLaws
 pub mod CoverLaws
 pub mod Refusals
 pub mod StirredLaws
-pub mod GivenLaws
 pub mod GoingLaws
 pub mod TellingLaws
 pub mod KeepLaws

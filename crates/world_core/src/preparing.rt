@@ -19,7 +19,6 @@ use crate::list_to_wake::list_sleepers;
 use crate::scratch::Scratch;
 use crate::solving::reserve_rows;
 use body_handles::MAX_SLOTS;
-use colour_solver::Rows;
 use contacts::{Constraint, ContactTable, PairPiece, SurveyPiece, Touches};
 use crew::PieceMap;
 use fixed_geom::Refusal;
@@ -27,7 +26,7 @@ use graph_colours::COLOURS;
 use impulse_ledger::Ledger;
 use sleep_wake::{Change, Sets};
 use solver_sets::list_changes;
-use world_core_base::{BodyTable, JointTable};
+use world_core_base::{BodyTable, GatheredRows, JointTable};
 
 /// How many entries of the ledger a step makes at most.
 const MAX_STEP_ENTRIES: usize = 4;
@@ -50,7 +49,7 @@ pub(crate) fn prepare<M: PieceMap<PairPiece> + PieceMap<SurveyPiece<BodyShapes, 
     joints: &mut JointTable,
     contacts: &mut ContactTable,
     sets: &mut Sets<Constraint>,
-    rows: &mut Rows,
+    gathered: &mut GatheredRows,
     scratch: &mut Scratch,
 ) -> Result<Prepared, Refusal>
     requires few { length bodies.old.bodies ≤ MAX_SLOTS }
@@ -75,8 +74,8 @@ pub(crate) fn prepare<M: PieceMap<PairPiece> + PieceMap<SurveyPiece<BodyShapes, 
     ensures rising { IfOk result (λ prepared. IsStrictlyIncreasing prepared.asleep.items) }
     ensures for_entries { OnOk result (4 ≤ ledger.new.room) }
     ensures for_ties { IfOk result (λ prepared. length sets.old.acting.ties + length prepared.touches.begin.items ≤ sets.new.room) }
-    ensures for_rows { IfOk result (λ prepared. length sets.old.acting.ties + length prepared.touches.begin.items ≤ rows.new.room) }
-    ensures for_colours { OnOk result (COLOURS + 1 ≤ rows.new.more) }
+    ensures for_rows { IfOk result (λ prepared. length sets.old.acting.ties + length prepared.touches.begin.items ≤ gathered.new.rows.room) }
+    ensures for_colours { OnOk result (COLOURS + 1 ≤ gathered.new.rows.more) }
     ensures for_woke { IfOk result (λ prepared. length prepared.asleep.items ≤ vec_capacity scratch.new.woke) }
     ensures for_timers { OnOk result (length bodies.old.bodies ≤ vec_capacity scratch.new.timers) }
     ensures for_awake_flags { OnOk result (length bodies.old.bodies ≤ vec_capacity scratch.new.awake_flags) }
@@ -91,7 +90,7 @@ pub(crate) fn prepare<M: PieceMap<PairPiece> + PieceMap<SurveyPiece<BodyShapes, 
     let changes = list_changes(alloc, bodies.bodies(), &touches.begin, &touches.end)?;
     let begun = touches.begin.len();
     sets.reserve(begun, 0)?;
-    reserve_rows(rows, &mut scratch.contact_places, sets.tie_count(), begun)?;
+    reserve_rows(gathered, sets.tie_count(), begun)?;
     let asleep = list_sleepers(alloc, sets, &changes)?;
     scratch.make_room(bodies.bodies().len(), asleep.len())?;
     Ok(Prepared {

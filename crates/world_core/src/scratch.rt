@@ -9,7 +9,7 @@ use fixed_geom::Refusal;
 use std::alloc::Global;
 
 /// The movers' timers by slot, the awake flags by island, the handles of the bodies that woke and of those that fell
-/// asleep, the slots of either, and where the contacts stand that have rows. Their memory is kept from step to step.
+/// asleep, and the slots of either. Their memory is kept from step to step.
 #[derive(Drop)]
 pub(crate) struct Scratch {
     pub timers: Vec<u64>,
@@ -17,7 +17,6 @@ pub(crate) struct Scratch {
     pub woke: Vec<Handle>,
     pub slept: Vec<Handle>,
     pub slots: Vec<u32>,
-    pub contact_places: Vec<usize>,
 }
 
 /// Empties a list, and makes room in it for so many items.
@@ -72,7 +71,6 @@ impl Scratch {
             woke: Vec::new(alloc),
             slept: Vec::new(alloc),
             slots: Vec::new(alloc),
-            contact_places: Vec::new(alloc),
         }
     }
 

@@ -21,64 +21,66 @@ ghost use Rattle.world_core_base.specs.Solving.{bodies_of, solve_order, solved};
 ghost use Rattle.world_core_base.specs.Stands.{StandAlike};
 ghost use Rattle.world_rules.specs.Gathering.{CanGather};
 
-use crate::impulses::put_impulses;
 use body_handles::MAX_SLOTS;
-use colour_solver::{Rows, StepSolver, StepSums};
+use colour_solver::StepSums;
 use contacts::{Constraint, ContactTable};
-use fixed_geom::{Refusal, Vec2};
+use fixed_geom::Refusal;
 use graph_colours::{COLOURS, Colours};
-use world_core_base::{BodyTable, JointTable, gather_rows};
+use std::mem;
+use world_core_base::{BodyTable, Constraints, GatheredRows, JointTable, Pace, StepSolver};
 
 /// Makes room for a row for each of so many constraints and for those that begin, for a place beside each, and for all
 /// colours.
 pub(crate) fn reserve_rows(
-    rows: &mut Rows,
-    contact_places: &mut Vec<usize>,
+    gathered: &mut GatheredRows,
     ties: usize,
     begun: usize,
 ) -> Result<(), Refusal>
-    ensures room { OnOk result (ties + begun ≤ rows.new.room) }
-    ensures more { OnOk result (COLOURS + 1 ≤ rows.new.more) }
+    ensures room { OnOk result (ties + begun ≤ gathered.new.rows.room) }
+    ensures more { OnOk result (COLOURS + 1 ≤ gathered.new.rows.more) }
     ensures memory_only { IsOkUnless result Refusal.NoMemory }
 {
     let Some(count) = ties.checked_add(begun) else {
         return Err(Refusal::NoMemory);
     };
-    contact_places.clear();
-    contact_places.reserve(count)?;
-    rows.reserve(count, COLOURS + 1)
+    gathered.reserve(count, COLOURS + 1)
 }
 
-/// Gathers what acts, lets the solver run so many ticks, and gives joints and contacts the impulses that they have
-/// left. Answers what was added to the movers' momentum, by cause. No two constraints of a colour share a mover. Room
-/// for the places of the contacts is the caller's. Takes no memory.
+/// What the ticks of a step run over, and how: the constraints that act, by colour, under what gravity, and for how many
+/// ticks.
+#[derive(Clone, Copy)]
+pub(crate) struct Acting<'a> {
+    pub colours: &'a Colours<Constraint>,
+    pub pace: Pace,
+}
+
+/// Lets the solver run so many ticks over what acts, which gives joints and contacts the impulses that they have left.
+/// Answers what was added to the movers' momentum, by cause. No two constraints of a colour share a mover. Joints and
+/// contacts are lent to the solver and come back whole. Takes no memory.
 pub(crate) fn solve<S: StepSolver>(
     solver: &mut S,
-    rows: &mut Rows,
-    contact_places: &mut Vec<usize>,
     bodies: &mut BodyTable,
     joints: &mut JointTable,
     contacts: &mut ContactTable,
-    colours: &Colours<Constraint>,
-    gravity: Vec2,
-    ticks: u64,
+    gathered: &mut GatheredRows,
+    acting: Acting,
 ) -> StepSums
     requires few { length bodies.old.bodies ≤ MAX_SLOTS }
     requires bodies { AreBodies bodies.old.bodies }
-    requires can { CanGather bodies.old.bodies joints.old.joints contacts.old.contacts colours.now.lists }
+    requires can { CanGather bodies.old.bodies joints.old.joints contacts.old.contacts acting.colours.now.lists }
     requires bodies_flushed { bodies.old.pending ≡ 0 }
-    requires colours_flushed { colours.now.pending ≡ 0 }
-    requires gravity { IsWithin (2 ^ 16) gravity }
-    requires ticks { ticks ≤ 8 }
-    requires room { length (all_members colours.now.lists) ≤ rows.old.room }
-    requires more { COLOURS + 1 ≤ rows.old.more }
-    requires apart { All AreApart (take COLOURS colours.now.lists) }
-    requires movers { All (All (HasItsMovers (states_of bodies.old.bodies) joints.old.joints)) colours.now.lists }
-    ensures bodies { bodies.new.bodies ≡ renewed_bodies (bodies_of (solved ticks gravity (solve_order (ids_of colours.now.lists)) bodies.old.bodies joints.old.joints contacts.old.contacts)) }
-    ensures joints { joints.new.joints ≡ (solved ticks gravity (solve_order (ids_of colours.now.lists)) bodies.old.bodies joints.old.joints contacts.old.contacts).joints }
-    ensures contacts { contacts.new.contacts ≡ (solved ticks gravity (solve_order (ids_of colours.now.lists)) bodies.old.bodies joints.old.joints contacts.old.contacts).contacts }
+    requires colours_flushed { acting.colours.now.pending ≡ 0 }
+    requires gravity { IsWithin (2 ^ 16) acting.pace.gravity }
+    requires ticks { acting.pace.count ≤ 8 }
+    requires room { length (all_members acting.colours.now.lists) ≤ gathered.old.rows.room }
+    requires more { COLOURS + 1 ≤ gathered.old.rows.more }
+    requires apart { All AreApart (take COLOURS acting.colours.now.lists) }
+    requires movers { All (All (HasItsMovers (states_of bodies.old.bodies) joints.old.joints)) acting.colours.now.lists }
+    ensures bodies { bodies.new.bodies ≡ renewed_bodies (bodies_of (solved acting.entry.pace.count acting.entry.pace.gravity (solve_order (ids_of acting.entry.colours.now.lists)) bodies.old.bodies joints.old.joints contacts.old.contacts)) }
+    ensures joints { joints.new.joints ≡ (solved acting.entry.pace.count acting.entry.pace.gravity (solve_order (ids_of acting.entry.colours.now.lists)) bodies.old.bodies joints.old.joints contacts.old.contacts).joints }
+    ensures contacts { contacts.new.contacts ≡ (solved acting.entry.pace.count acting.entry.pace.gravity (solve_order (ids_of acting.entry.colours.now.lists)) bodies.old.bodies joints.old.joints contacts.old.contacts).contacts }
     ensures numbered { contacts.new.numbered ≡ contacts.old.numbered }
-    ensures sums { result ≡ (solved ticks gravity (solve_order (ids_of colours.now.lists)) bodies.old.bodies joints.old.joints contacts.old.contacts).sums }
+    ensures sums { result ≡ (solved acting.entry.pace.count acting.entry.pace.gravity (solve_order (ids_of acting.entry.colours.now.lists)) bodies.old.bodies joints.old.joints contacts.old.contacts).sums }
     ensures all_bodies { AreBodies bodies.new.bodies }
     ensures slots { HaveSameSlots bodies.old.bodies bodies.new.bodies }
     ensures small { AreSums (2 ^ 83) result }
@@ -94,15 +96,23 @@ pub(crate) fn solve<S: StepSolver>(
 {
     let kept = contacts.split();
     kept.know_ascending();
-    gather_rows(
-        rows,
-        bodies.states(),
-        joints.joints(),
-        kept,
-        contact_places,
-        colours,
+    let alloc = gathered.alloc();
+    let mut constraints = Constraints {
+        joints: mem::replace(joints, JointTable::new(alloc)),
+        contacts: mem::replace(contacts, ContactTable::new(alloc)),
+    };
+    let sums = bodies.run(
+        solver,
+        &mut constraints,
+        acting.colours,
+        gathered,
+        acting.pace,
     );
-    let sums = bodies.run(solver, rows, gravity, ticks);
-    put_impulses(joints, contacts, rows, contact_places);
+    let Constraints {
+        joints: own_joints,
+        contacts: own_contacts,
+    } = constraints;
+    *joints = own_joints;
+    *contacts = own_contacts;
     sums
 }

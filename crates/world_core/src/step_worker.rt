@@ -1,12 +1,14 @@
 //! Who makes a step: who runs its ticks, and works the pieces of its collide.
 
 use crate::collide::BodyShapes;
-use colour_solver::{Rows, StepSolver, StepSums};
-use contacts::{PairPiece, SurveyPiece};
+use colour_solver::StepSums;
+use contacts::{Constraint, PairPiece, SurveyPiece};
 use crew::{Piece, PieceMap, Returned};
-use fixed_geom::Vec2;
+use graph_colours::Colours;
 use momenta::BodyState;
-use world_core_base::JointTable;
+use world_core_base::{
+    Constraints, GatheredRows, JointTable, MovingSlots, Pace, StepSolver, run_alone,
+};
 
 /// Some contacts of a world to be looked over.
 pub type WorldLook = SurveyPiece<BodyShapes, JointTable>;
@@ -24,13 +26,13 @@ impl StepSolver for OneThread {
     fn run_step(
         &mut self,
         states: &mut Vec<BodyState>,
-        rows: &mut Rows,
-        awake: &[u32],
-        carried: &[u32],
-        gravity: Vec2,
-        count: u64,
+        constraints: &mut Constraints,
+        colours: &Colours<Constraint>,
+        gathered: &mut GatheredRows,
+        moving: MovingSlots,
+        pace: Pace,
     ) -> StepSums {
-        colour_solver::run_step(states, rows, awake, carried, gravity, count)
+        run_alone(states, constraints, colours, gathered, moving, pace)
     }
 }
 

@@ -32,7 +32,6 @@ use crate::scratch::Scratch;
 use crate::step_worker::{OneThread, StepWorker, WorldLook};
 use body_handles::{Handle, Handles, SlotEntry};
 use box_tree::BoxTree;
-use colour_solver::Rows;
 use contacts::{Constraint, ContactTable};
 use contacts_base::ContactEntry;
 use crew::PieceMap;
@@ -46,7 +45,7 @@ use solver_sets::{Census, take_census};
 use std::alloc::Global;
 use std::marker::Model;
 pub use steps::is_tick_count;
-use world_core_base::{BodyTable, JointTable, list_contact_stands};
+use world_core_base::{BodyTable, GatheredRows, JointTable, list_contact_stands};
 use world_rules::{Command, MAX_CALLS, Reply};
 
 /// The greatest size of a component of gravity, in u/tick².
@@ -64,7 +63,7 @@ pub struct WorldCore {
     // The constraints, the islands of their movers, and the colours of those that act.
     sets: Sets<Constraint>,
     // The rows of a step by colour, and their memory, which is kept from step to step.
-    rows: Rows,
+    gathered: GatheredRows,
     // Lists that a step fills, whose memory is kept from step to step.
     scratch: Scratch,
     gravity: Vec2,
@@ -107,7 +106,7 @@ impl WorldCore {
             joints: JointTable::new(alloc),
             contacts: ContactTable::new(alloc),
             sets: Sets::new(alloc)?,
-            rows: Rows::new(alloc),
+            gathered: GatheredRows::new(alloc),
             scratch: Scratch::new(alloc),
             gravity,
             steps: 0,
@@ -138,7 +137,7 @@ impl WorldCore {
             joints: joints.table,
             contacts: constraints.contacts,
             sets: constraints.sets,
-            rows: Rows::new(alloc),
+            gathered: GatheredRows::new(alloc),
             scratch: Scratch::new(alloc),
             gravity: self.gravity,
             steps: self.steps,

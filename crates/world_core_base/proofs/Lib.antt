@@ -18,8 +18,8 @@ pub mod StandLaws
 pub mod JointStandLaws
 pub mod ContactStandLaws
 pub mod StandingLaws
-mod ColourLists
-mod RowOrderLaws
+pub mod ColourLists
+pub mod RowOrderLaws
 pub mod RowColourLaws
 pub mod SolvingContacts
 pub mod SolvingJoints
@@ -32,6 +32,9 @@ pub mod MarkedLaws
 pub mod CoverLaws
 mod JointImpulseLaws
 mod GivenJointLaws
+pub mod GivenLaws
+pub mod StepRunLaws
+pub mod PresentLaws
 pub mod JointEndLaws
 pub mod OwnJointLaws
 mod JointTableLaws

@@ -126,7 +126,7 @@ pairs_first f S x ys (Some z) (suc i) zero y w e here rest lt at_i at_j = absurd
 pairs_first f S x ys (Some z) zero (suc j) y w e here rest lt at_i at_j = here y j (e ∙ at_i) at_j
 pairs_first f S x ys (Some z) (suc i) (suc j) y w e here rest lt at_i at_j = rest i j (omega (arith, lt)) at_i at_j
 
-pairs_made : {X Y : Type 0} (f : X → Option Y) (P : X → Type 0) (Q : X → X → Type 0) (S : Y → Y → Type 0) → ((x z : X) (y w : Y) → P x → P z → Q x z → f x ≡ Some y → f z ≡ Some w → S y w)
+pub pairs_made : {X Y : Type 0} (f : X → Option Y) (P : X → Type 0) (Q : X → X → Type 0) (S : Y → Y → Type 0) → ((x z : X) (y w : Y) → P x → P z → Q x z → f x ≡ Some y → f z ≡ Some w → S y w)
     → (xs : List X) → All P xs → AllPairs Q xs → (i j : ℕ) (y w : Y) → i < j → slice_get (filter_map f xs) i ≡ Some y → slice_get (filter_map f xs) j ≡ Some w → S y w
 pairs_made f P Q S law [] all apart i j y w lt at_i at_j = absurd (cc at_i)
 pairs_made {X} f P Q S law (x ∷ xs) all apart i j y w lt at_i at_j =

@@ -340,7 +340,7 @@ rows_in_order states joints contacts (ms ∷ lists) =
     ∙ ap (λ (l : List ConstraintRow). filter_map (constraint_row states joints contacts) (map (λ (m : Member Constraint). m.id) ms) ++ l) (rows_in_order states joints contacts lists)
     ∙ sym (filter_map-append (constraint_row states joints contacts) (map (λ (m : Member Constraint). m.id) ms) (solve_order (ids_of lists)))
 
-begun_rows : (states : List BodyState) (joints : List (Option BodyJoint)) (contacts : List ContactEntry) (lists : List (List (Member Constraint))) → rows_of states joints contacts lists ≡ filter_map (constraint_row states joints contacts) (solve_order (ids_of lists))
+pub begun_rows : (states : List BodyState) (joints : List (Option BodyJoint)) (contacts : List ContactEntry) (lists : List (List (Member Constraint))) → rows_of states joints contacts lists ≡ filter_map (constraint_row states joints contacts) (solve_order (ids_of lists))
 unfolding rows_of
 begun_rows states joints contacts lists = rows_in_order states joints contacts lists
 

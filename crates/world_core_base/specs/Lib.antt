@@ -15,6 +15,7 @@ pub mod Telling
 pub mod RowColours
 pub mod Solving
 pub mod SolvingArrays
+pub mod StepRuns
 pub mod Standing
 pub mod Covers
 pub mod Marked

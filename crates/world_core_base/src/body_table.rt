@@ -10,9 +10,8 @@ ghost use Rattle.fixed_geom.specs.Vectors.{IsWithin, plus};
 ghost use Rattle.box_tree.specs.BoxLists.{box_at};
 ghost use Rattle.momenta.specs.declared.state.BodyState.{BodyState};
 ghost use Rattle.colour_solver.specs.States.{AreAllStates, as_vector, is_carried, moves, places_from};
-ghost use Rattle.colour_solver.specs.Ticks.{AreSums, added, ran, run_of, start};
-ghost use Rattle.colour_solver.specs.Colour.{AreColours};
-ghost use Rattle.colour_solver.specs.ColourRows.{all_rows};
+ghost use Rattle.colour_solver.specs.Ticks.{AreSums, added};
+ghost use Rattle.graph_colours.specs.Colours.{all_members};
 ghost use Rattle.colour_solver.specs.ConstraintVisits.{AreRowsBelow};
 ghost use Rattle.world_core_base.specs.Awake.{with_state};
 ghost use Rattle.world_core_base.specs.Listing.{IsRelisted};
@@ -25,6 +24,7 @@ ghost use Rattle.world_core_base.specs.Marked.{AreMarked, AreMoreMarks};
 ghost use Rattle.world_core_base.specs.Renewal.{renewed_bodies};
 ghost use Rattle.world_core_base.specs.Standing.{HaveSameStanding};
 ghost use Rattle.world_core_base.specs.Stands.{StandAlike, body_stand};
+ghost use Rattle.world_core_base.specs.StepRuns.{CanStep, HaveImpulses, run_over};
 ghost use Rattle.world_core_base.specs.Telling.{AreToldBeside, KeepSets};
 ghost use Rattle.momenta.specs.Gains.{IsGain};
 ghost use Rattle.plain_world.specs.Changes.{changed_at, disabled_body, enabled_body, is_awake_in};
@@ -34,15 +34,19 @@ ghost use Rattle.plain_world.specs.Slots.{body_at, with_body};
 
 use crate::covers::{cover, cover_again, uncover};
 use crate::gather::body_state;
+use crate::gathered_rows::GatheredRows;
 use crate::moving::move_bodies;
 use crate::slot_list::{Group, SlotList};
 use crate::stands::{body_stand, follow_all, follow_bodies, reserve_stands, shift_to, stand_of};
+use crate::step_solver::{Constraints, MovingSlots, Pace, StepSolver};
 use crate::telling_bodies::{tell_bodies, tell_listed};
 use crate::timing::time_bodies;
 use body_handles::MAX_SLOTS;
 use box_tree::BoxTree;
-use colour_solver::{Rows, StepSolver, StepSums};
-use fixed_geom::{Refusal, Vec2};
+use colour_solver::StepSums;
+use contacts::Constraint;
+use fixed_geom::Refusal;
+use graph_colours::{COLOURS, Colours};
 use islands::Islands;
 use momenta::{BodyState, Gain, NOBODY};
 use packed_sets::{Marks, SolverSets, Stand};
@@ -459,20 +463,24 @@ impl BodyTable {
     pub fn run<S: StepSolver>(
         &mut self,
         solver: &mut S,
-        rows: &mut Rows,
-        gravity: Vec2,
-        count: u64,
+        constraints: &mut Constraints,
+        colours: &Colours<Constraint>,
+        gathered: &mut GatheredRows,
+        pace: Pace,
     ) -> StepSums
         requires few { length self.old.bodies ≤ MAX_SLOTS }
         requires bodies { AreBodies self.old.bodies }
-        requires gravity { IsWithin (2 ^ 16) gravity }
-        requires rows { AreRowsBelow (length self.old.bodies) (all_rows rows.old) }
-        requires apart { AreColours (states_of self.old.bodies) rows.old }
-        requires count { count ≤ 8 }
+        requires gravity { IsWithin (2 ^ 16) pace.gravity }
+        requires count { pace.count ≤ 8 }
         requires flushed { self.old.pending ≡ 0 }
-        ensures run { run_of (ran count gravity (start (states_of self.old.bodies) (all_rows rows.old))).states (all_rows rows.new) result ≡ ran count gravity (start (states_of self.old.bodies) (all_rows rows.old)) }
-        ensures bodies { self.new.bodies ≡ renewed_bodies (with_motions self.old.bodies (ran count gravity (start (states_of self.old.bodies) (all_rows rows.old))).states) }
-        ensures rows { AreRowsBelow (length self.old.bodies) (all_rows rows.new) }
+        requires colours_flushed { colours.now.pending ≡ 0 }
+        requires can { CanStep (states_of self.old.bodies) constraints.old.joints.joints constraints.old.contacts.contacts colours.now.lists }
+        requires room { length (all_members colours.now.lists) ≤ gathered.old.rows.room }
+        requires more { COLOURS + 1 ≤ gathered.old.rows.more }
+        ensures impulses { HaveImpulses (run_over pace.count pace.gravity (states_of self.old.bodies) constraints.old.joints.joints constraints.old.contacts.contacts colours.now.lists) constraints.old.joints.joints constraints.old.contacts.contacts constraints.new.joints.joints constraints.new.contacts.contacts result }
+        ensures bodies { self.new.bodies ≡ renewed_bodies (with_motions self.old.bodies (run_over pace.count pace.gravity (states_of self.old.bodies) constraints.old.joints.joints constraints.old.contacts.contacts colours.now.lists).states) }
+        ensures rows { AreRowsBelow (length self.old.bodies) (run_over pace.count pace.gravity (states_of self.old.bodies) constraints.old.joints.joints constraints.old.contacts.contacts colours.now.lists).rows }
+        ensures numbered { constraints.new.contacts.numbered ≡ constraints.old.contacts.numbered }
         ensures all_bodies { AreBodies self.new.bodies }
         ensures slots { HaveSameSlots self.old.bodies self.new.bodies }
         ensures standing { HaveSameStanding self.old.bodies self.new.bodies }
@@ -485,11 +493,14 @@ impl BodyTable {
         self.room = 0;
         let sums = solver.run_step(
             &mut self.states,
-            rows,
-            self.awake.as_slice(),
-            self.carried.as_slice(),
-            gravity,
-            count,
+            constraints,
+            colours,
+            gathered,
+            MovingSlots {
+                awake: self.awake.as_slice(),
+                carried: self.carried.as_slice(),
+            },
+            pace,
         );
         move_bodies(
             &mut self.bodies,

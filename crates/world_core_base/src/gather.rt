@@ -218,7 +218,7 @@ fn push_contact(rows: &mut Rows, row: Option<ContactRow>, places: &mut Vec<usize
 /// from `hint` on, and the place where it was found.
 /// The numbers of all joints are below 2^80, and those of all contacts aren't, so that joints come first.
 #[inline(always)]
-fn add_row(
+pub fn add_row(
     rows: &mut Rows,
     states: &[BodyState],
     joints: &[Option<BodyJoint>],

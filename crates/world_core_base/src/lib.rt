@@ -17,6 +17,8 @@ mod contact_sets;
 mod covers;
 mod forbidden_pairs;
 mod gather;
+mod gathered_rows;
+mod impulses;
 mod joint_ends;
 mod joint_row;
 mod joint_sets;
@@ -27,6 +29,7 @@ mod moving;
 mod slot_list;
 mod slots;
 mod stands;
+mod step_solver;
 mod telling_bodies;
 mod timing;
 
@@ -34,9 +37,12 @@ pub use body_table::BodyTable;
 pub use contact_sets::{
     drop_contact_stands, follow_contacts, list_contact_stands, renew_contact_stands,
 };
-pub use gather::gather_rows;
+pub use gather::{add_row, gather_rows};
+pub use gathered_rows::GatheredRows;
+pub use impulses::put_impulses;
 pub use joint_ends::Ends;
 pub use joint_sets::{drop_joint_stands, list_joint_stands, put_joint_stand};
 pub use joint_table::JointTable;
 pub use laws::{arrays_are_solving, rows_are_colours};
 pub use stands::set_of;
+pub use step_solver::{Constraints, MovingSlots, Pace, StepSolver, run_alone};

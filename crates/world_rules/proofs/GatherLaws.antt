@@ -26,12 +26,14 @@ use Rattle.world_core_base.specs.ConstraintRows.{HasJointOn, IsJointThere, IsMov
 use Rattle.world_core_base.specs.Gather.{HasMovable, states_of}
 use Rattle.world_core_base.specs.Solving.{solve_order}
 use Rattle.world_core_base.specs.SolvingArrays.{CanSolve}
+use Rattle.world_core_base.specs.StepRuns.{IsPresent}
 use Rattle.world_core_base.proofs.GatherLaws.{movable_at}
 use Rattle.world_core_base.proofs.JointLaws.{joint_on}
 use Rattle.world_rules.specs.Gathering.{CanGather}
 use Rattle.world_rules.specs.Sets.{acting_of}
 use Rattle.world_rules.specs.World.{World, joints_in_slots}
 use Rattle.world_rules.proofs.ActingLaws.{awake_name}
+use Rattle.world_rules.proofs.PresentLaws.{tie_present}
 use Rattle.world_rules.proofs.KeptStep.{collide_kept, collided_in, collided_world, changed_in}
 use Rattle.world_rules.proofs.SolveLaws.{can_solve, coloured}
 use Rattle.world_rules.proofs.SoundLaws.{IsKept}
@@ -125,6 +127,15 @@ one_gathered w (constraints.Contact key) m k e up = record { joined = tt; movabl
 abbrev MemberIsGathered : World → Member Constraint → Type 0
 MemberIsGathered w m = IsGathered w m.id
 
+abbrev MemberIsPresent : World → Member Constraint → Type 0
+MemberIsPresent w m = IsPresent w.plain.joints w.plain.contacts m.id
+
+all_present : (w : World) → IsKept w → All (MemberIsPresent w) (all_members (coloured w))
+unfolding acting_of
+all_present w k i d lt =
+    let m : Member Constraint = get_or (all_members (coloured w)) i d in
+    tie_present w.plain.bodies (joints_in_slots w.plain) w.plain.contacts m k.contacts ((k.consistent.acting m).0 (Contains-get_or (all_members (coloured w)) i d lt)).0
+
 all_gathered : (w : World) → IsKept w → All (MemberIsGathered w) (all_members (coloured w))
 unfolding acting_of
 all_gathered w k i d lt =
@@ -140,6 +151,7 @@ can_gather w k = record {
   pairs = k.pairs;
   joined = in_each (λ (m : Member Constraint). HasJointOn (states_of w.plain.bodies) w.plain.joints m.id) (coloured w) (λ i d lt. (all_gathered w k i d lt).joined);
   movable = in_each (λ (m : Member Constraint). IsMovable (states_of w.plain.bodies) m.id) (coloured w) (λ i d lt. (all_gathered w k i d lt).movable);
+  there = in_each (MemberIsPresent w) (coloured w) (all_present w k);
   once = subst (λ (ids : List (List Constraint)). CanSolve w.plain.bodies w.plain.joints (solve_order ids)) (sym k.moved) (can_solve w k);
 }
 

@@ -38,6 +38,7 @@ pub mod QuietLaws
 pub mod EnabledTold
 pub mod CallLaws
 pub mod PartsLeft
+mod PresentLaws
 pub mod GatherLaws
 pub mod StepParts
 pub mod StepCalls

@@ -13,13 +13,16 @@ use Rattle.world_core_base.specs.Gather.{states_of}
 use Rattle.world_core_base.specs.ContactBodies.{AreContactsOf}
 use Rattle.world_core_base.specs.Solving.{solve_order}
 use Rattle.world_core_base.specs.SolvingArrays.{CanSolve}
+use Rattle.world_core_base.specs.StepRuns.{ArePresent}
 
 -- Joints and contacts are of bodies that are there, and the keys of the contacts ascend. Of each constraint in these
--- lists, one for each colour, a body is an awake mover; none stands twice, and the bodies of each are there.
+-- lists, one for each colour, a body is an awake mover; each is there, none stands twice, and the bodies of each are
+-- there.
 pub record CanGather (bodies : List (Option Body)) (joints : List (Option BodyJoint)) (contacts : List ContactEntry) (lists : List (List (Member Constraint))) : Type 0 where
   pub joints_there : AreJoints bodies joints
   pub rising : AreKeysRising contacts
   pub pairs : AreContactsOf bodies contacts
   pub joined : All (HaveJointsOn (states_of bodies) joints) lists
   pub movable : All (HaveMovable (states_of bodies)) lists
+  pub there : All (ArePresent joints contacts) lists
   pub once : CanSolve bodies joints (solve_order (ids_of lists))

@@ -10,16 +10,18 @@ ghost use Rattle.world_workers.specs.Tasks.{done_of, looked_by};
 use crate::tasks::{
     Answer, Done, Task, TaskWork, WorldSurvey, list_looks, list_pairs, list_seats, take_answers,
 };
-use colour_solver::{Rows, StepSolver, StepSums};
-use contacts::{EvaluatedPairs, LookedPlaces, PairLists, PairPiece};
+use colour_solver::StepSums;
+use contacts::{Constraint, EvaluatedPairs, LookedPlaces, PairLists, PairPiece};
 use crew::{Crew, Gate, PieceMap, Returned, sole, start};
-use fixed_geom::{Refusal, Vec2};
+use fixed_geom::Refusal;
+use graph_colours::Colours;
 use momenta::BodyState;
 use part_solver::{Part, PartMemory, PartSolver, Seat, SeatMap};
 use std::alloc::Global;
 use std::sync::{Arc, Wait};
 use std::thread::{Scope, Threads};
 use world_core::{StepWorker, WorldLook};
+use world_core_base::{Constraints, GatheredRows, MovingSlots, Pace, StepSolver};
 
 /// The threads of a crew, and lists of tasks, which stay from map to map.
 pub(crate) struct Hands<'s, R, G: Gate> {
@@ -156,11 +158,11 @@ impl<'s, R: Wait, G: Gate> StepSolver for StepCrew<'s, R, G> {
     fn run_step(
         &mut self,
         states: &mut Vec<BodyState>,
-        rows: &mut Rows,
-        awake: &[u32],
-        carried: &[u32],
-        gravity: Vec2,
-        count: u64,
+        constraints: &mut Constraints,
+        colours: &Colours<Constraint>,
+        gathered: &mut GatheredRows,
+        moving: MovingSlots,
+        pace: Pace,
     ) -> StepSums {
         let rt = self.hands.rt;
         let workers = self.hands.workers;
@@ -170,7 +172,7 @@ impl<'s, R: Wait, G: Gate> StepSolver for StepCrew<'s, R, G> {
             memory: &mut self.memory,
             workers,
         };
-        solver.run_step(states, rows, awake, carried, gravity, count)
+        solver.run_step(states, constraints, colours, gathered, moving, pace)
     }
 }
 

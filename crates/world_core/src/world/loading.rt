@@ -20,7 +20,6 @@ use super::WorldCore;
 use crate::parts::{BodyParts, ConstraintParts, JointParts};
 use crate::scratch::Scratch;
 use body_handles::Handles;
-use colour_solver::Rows;
 use contacts::{Constraint, ContactTable};
 use contacts_base::Contacts;
 use event_feed::Events;
@@ -31,7 +30,9 @@ use serde_json::Value;
 use sleep_wake::Sets;
 use solver_sets::{count_members, list_all_ties, list_members};
 use std::alloc::Global;
-use world_core_base::{BodyTable, JointTable, list_contact_stands, list_joint_stands};
+use world_core_base::{
+    BodyTable, GatheredRows, JointTable, list_contact_stands, list_joint_stands,
+};
 use world_file::{Broken, read};
 
 /// The contacts of a plain world.
@@ -131,7 +132,7 @@ impl WorldCore {
             joints: joints.table,
             contacts: constraints.contacts,
             sets: constraints.sets,
-            rows: Rows::new(alloc),
+            gathered: GatheredRows::new(alloc),
             scratch: Scratch::new(alloc),
             gravity: plain.gravity(),
             steps: plain.steps(),

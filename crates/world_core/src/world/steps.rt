@@ -9,11 +9,12 @@ use crate::booking::record_step;
 use crate::committing::commit_collide;
 use crate::preparing::prepare;
 use crate::sleep_phase::rest_after_ticks;
-use crate::solving::solve;
+use crate::solving::{Acting, solve};
 use crate::step_worker::{StepWorker, WorldLook};
 use crew::PieceMap;
 use fixed_geom::{Refusal, Vec2, is_within};
 use shapes::is_between;
+use world_core_base::Pace;
 use world_rules::{MAX_TICKS, Reply};
 
 /// Whether a step may take so many ticks: 1 to 8.
@@ -62,7 +63,7 @@ impl WorldCore {
             &mut self.joints,
             &mut self.contacts,
             &mut self.sets,
-            &mut self.rows,
+            &mut self.gathered,
             &mut self.scratch,
         )?;
         self.contact_sets.reserve(self.contacts.number_bound(), 0)?;
@@ -80,14 +81,17 @@ impl WorldCore {
         );
         let sums = solve(
             worker,
-            &mut self.rows,
-            &mut self.scratch.contact_places,
             &mut self.bodies,
             &mut self.joints,
             &mut self.contacts,
-            self.sets.colours(),
-            self.gravity,
-            ticks,
+            &mut self.gathered,
+            Acting {
+                colours: self.sets.colours(),
+                pace: Pace {
+                    gravity: self.gravity,
+                    count: ticks,
+                },
+            },
         );
         let rest = rest_after_ticks(
             &mut self.bodies,

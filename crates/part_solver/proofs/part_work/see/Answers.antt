@@ -1,4 +1,4 @@
-use Rattle.std.proofs.Common.{◌≡◌, ◌≤◌, ℕ, List, arith, filter, length, nat_eq, vec_capacity, ap₂, subst, sym, ◌∙◌}
+use Rattle.std.proofs.Common.{◌≤◌, ℕ, List, arith, filter, length, nat_eq, vec_capacity, ap₂, subst, sym, ◌∙◌}
 use Rattle.momenta.specs.declared.state.BodyState.{BodyState}
 use Rattle.colour_solver.specs.States.{carried_of, movers_of}
 use Rattle.colour_solver.specs.States as states

@@ -1,7 +1,6 @@
-use Rattle.std.proofs.Common.{◌≡◌, ◌++◌, ◌<◌, List, length, map, rules, ap, subst, sym, ◌∙◌}
+use Rattle.std.proofs.Common.{◌≡◌, ◌++◌, ◌<◌, List, length, map, rules, ap, subst, ◌∙◌}
 use Rattle.std.specs.Arc.{arc_value}
 use Rattle.std.proofs.lemmas.List.{length-map}
-use Rattle.part_runs.specs.Runs.{part_ran}
 use Rattle.part_solver.specs.Parts.{AreSeated, Solved, run_at, solved}
 use Rattle.part_solver.proofs.SeatLaws.{parts_run}
 use Rattle.part_solver.proofs.parting.run_parts.Goals as goal

@@ -1,4 +1,5 @@
-use Rattle.std.proofs.Common.{◌≡◌, ◌≤◌, ◌+◌, ◌*◌, [], drop, length, take, vec_capacity, vec_len}
+use Rattle.std.proofs.Common.{◌≡◌, ◌≤◌, ◌+◌, ◌*◌, [], All, drop, length, take, vec_capacity, vec_len}
+use Rattle.colour_solver.specs.ConstraintVisits.{AreRowsBelow}
 use Rattle.part_solver.proofs.WalkStages.{AreMoved, flat, own_of}
 use Rattle.part_solver.proofs.walk.walk.Given as goal
 
@@ -10,6 +11,7 @@ invariant-loop-colour l =
       count : vec_len l.lists.ends ≡ l.colour;
       colours : l.lists.rows.colours ≡ take l.colour (own_of l.step l.number);
       left : l.lists.rows.left ≡ [];
+      below : All (AreRowsBelow (length l.step.states)) l.lists.rows.colours;
       rows_room : rest ≤ l.lists.rows.room;
       moves_room : vec_len l.lists.moves + (2 * rest + length l.step.states) ≤ vec_capacity l.lists.moves;
       colours_room : length l.step.rows.colours + 1 ≤ l.lists.rows.more + l.colour;

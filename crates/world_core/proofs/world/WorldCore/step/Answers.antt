@@ -117,7 +117,7 @@ commit_collide-requires-clause-sleepers g c = rw c.in_ok-prepared.ensures.acting
 
 -- ---- the ticks
 
-changed_then : (g : given.Over) (c : goal.After-solve-arg-7-1 g) → HasChanged (the_view c.self.inside) c.commit_collide.new.sets.acting c.commit_collide.new.bodies.bodies c.commit_collide.new.contacts.contacts
+changed_then : (g : given.Over) (c : goal.After-solve-arg-6-1 g) → HasChanged (the_view c.self.inside) c.commit_collide.new.sets.acting c.commit_collide.new.bodies.bodies c.commit_collide.new.contacts.contacts
 changed_then g c =
     has_changed (the_view c.self.inside) c.self.inside.sets.acting c.prepare.new.sets.acting c.commit_collide.new.sets.acting c.in_ok-prepared.prepared.changes.items c.commit_collide.new.bodies.bodies c.commit_collide.new.contacts.contacts c.self.invariant.whole c.in_ok-prepared.ensures.acting (rw (c.in_ok-prepared.ensures.begin, c.in_ok-prepared.ensures.end) at c.in_ok-prepared.ensures.changes)
     c.commit_collide.ensures.acting (rw c.in_ok-prepared.ensures.bodies at c.commit_collide.ensures.bodies) (c.commit_collide.ensures.contacts ∙ c.in_ok-prepared.ensures.pending)
@@ -146,7 +146,7 @@ solve-sums-requires-clause-movers g c = rw (c.colours.ensures.lists, c.in_ok-pre
 pub solve-sums-requires-clause-room : goal.solve-sums-requires-clause-room
 solve-sums-requires-clause-room g c =
     let count : length c.in_ok-prepared.prepared.touches.begin.items ≡ length (collided_in (the_view c.self.inside)).begin = ap (λ (keys : List ContactKey). length keys) c.in_ok-prepared.ensures.begin in
-    rw c.colours.ensures.lists (room_changed (the_view c.self.inside) c.self.inside.sets.acting c.prepare.new.sets.acting c.commit_collide.new.sets.acting c.commit_collide.new.bodies.bodies c.commit_collide.new.contacts.contacts (length c.in_ok-prepared.prepared.touches.begin.items) c.prepare.new.rows.room c.self.invariant.whole (changed_then g c) c.in_ok-prepared.ensures.acting count (rw c.in_ok-prepared.ensures.acting c.in_ok-prepared.ensures.for_rows))
+    rw c.colours.ensures.lists (room_changed (the_view c.self.inside) c.self.inside.sets.acting c.prepare.new.sets.acting c.commit_collide.new.sets.acting c.commit_collide.new.bodies.bodies c.commit_collide.new.contacts.contacts (length c.in_ok-prepared.prepared.touches.begin.items) c.prepare.new.gathered.rows.room c.self.invariant.whole (changed_then g c) c.in_ok-prepared.ensures.acting count (rw c.in_ok-prepared.ensures.acting c.in_ok-prepared.ensures.for_rows))
 
 -- ---- the sleep phase
 

@@ -22,39 +22,40 @@ run_step-sums-requires-clause-carried g c =
     let flushed : c.self.inside.awake.pending + c.self.inside.carried.pending ≡ 0 = rw (← c.self.view_is) at c.requires.flushed in
     c.as_slice-2.ensures ∙ c.self.invariant.along.exact (omega (arith, flushed))
 
-pub run_step-sums-requires-clause-states : goal.run_step-sums-requires-clause-states
-run_step-sums-requires-clause-states g c =
-    let bodies : AreBodies c.self.inside.bodies.items = rw (← c.self.view_is) at c.requires.bodies in
-    rw c.self.invariant.states (states-all c.self.inside.bodies.items bodies)
-
-pub run_step-sums-requires-clause-courses : goal.run_step-sums-requires-clause-courses
-run_step-sums-requires-clause-courses g c =
-    let bodies : AreBodies c.self.inside.bodies.items = rw (← c.self.view_is) at c.requires.bodies in
-    rw c.self.invariant.states (courses-all c.self.inside.bodies.items bodies)
+pub run_step-sums-requires-clause-can : goal.run_step-sums-requires-clause-can
+run_step-sums-requires-clause-can g c =
+    let can = rw (← c.self.view_is) at c.requires.can in
+    rw c.self.invariant.states can
 
 pub move_bodies-requires-clause-awake : goal.move_bodies-requires-clause-awake
 move_bodies-requires-clause-awake g c =
     let flushed : c.self.inside.awake.pending + c.self.inside.carried.pending ≡ 0 = rw (← c.self.view_is) at c.requires.flushed in
-    c.as_slice-3.ensures ∙ c.self.invariant.movers.exact (omega (arith, flushed)) ∙ sym (movers_beside c.self.inside.states.items c.run_step-sums.new.states.items c.run_step-sums.ensures.same)
+    c.as_slice-3.ensures ∙ c.self.invariant.movers.exact (omega (arith, flushed)) ∙ sym (movers_beside c.self.inside.states.items c.run_step-sums.new.states.items c.run_step-sums.ensures.left.same)
 
 pub move_bodies-requires-clause-carried : goal.move_bodies-requires-clause-carried
 move_bodies-requires-clause-carried g c =
     let flushed : c.self.inside.awake.pending + c.self.inside.carried.pending ≡ 0 = rw (← c.self.view_is) at c.requires.flushed in
-    c.as_slice-4.ensures ∙ c.self.invariant.along.exact (omega (arith, flushed)) ∙ sym (carried_beside c.self.inside.states.items c.run_step-sums.new.states.items c.run_step-sums.ensures.same)
+    c.as_slice-4.ensures ∙ c.self.invariant.along.exact (omega (arith, flushed)) ∙ sym (carried_beside c.self.inside.states.items c.run_step-sums.new.states.items c.run_step-sums.ensures.left.same)
 
 pub move_bodies-requires-clause-bodies : goal.move_bodies-requires-clause-bodies
 move_bodies-requires-clause-bodies g c = rw (← c.self.view_is) at c.requires.bodies
 
+pub returns-clause-impulses : goal.returns-clause-impulses
+returns-clause-impulses g c = rw (← c.self.view_is, ← c.self.invariant.states) c.run_step-sums.ensures.impulses
+
+pub returns-clause-bodies : goal.returns-clause-bodies
+returns-clause-bodies g c = rw (← c.self.view_is, ← c.self.invariant.states, ← c.run_step-sums.ensures.left.states_are) c.move_bodies.ensures.value
+
 pub returns-clause-rows : goal.returns-clause-rows
 returns-clause-rows g c =
-    let long : length c.self.inside.bodies.items ≡ length c.run_step-sums.new.states.items = sym (c.run_step-sums.ensures.long ∙ ap length c.self.invariant.states ∙ length-states c.self.inside.bodies.items) in
-    rw (← c.self.view_is) (rows_as_long (length c.self.inside.bodies.items) (length c.run_step-sums.new.states.items) (all_rows c.run_step-sums.new.rows) long c.run_step-sums.ensures.rows)
+    let long : length c.self.inside.bodies.items ≡ length c.run_step-sums.new.states.items = sym (c.run_step-sums.ensures.left.long ∙ ap length c.self.invariant.states ∙ length-states c.self.inside.bodies.items) in
+    rw (← c.self.view_is, ← c.self.invariant.states) (rows_as_long (length c.self.inside.bodies.items) (length c.run_step-sums.new.states.items) _ long c.run_step-sums.ensures.left.rows)
 
 pub returns-clause-momentum : goal.returns-clause-momentum
 returns-clause-momentum g c =
     let bodies : AreBodies c.self.inside.bodies.items = rw (← c.self.view_is) at c.requires.bodies in
     rw (← c.self.view_is)
-    (c.move_bodies.ensures.momentum ∙ c.run_step-sums.ensures.momentum ∙ ap (λ (v : Vec2). plus v (added c.run_step-sums.result)) (ap total c.self.invariant.states ∙ total-gathered c.self.inside.bodies.items bodies))
+    (c.move_bodies.ensures.momentum ∙ c.run_step-sums.ensures.left.momentum ∙ ap (λ (v : Vec2). plus v (added c.run_step-sums.result)) (ap total c.self.invariant.states ∙ total-gathered c.self.inside.bodies.items bodies))
 
 pub returns-clause-stands : goal.returns-clause-stands
 returns-clause-stands g c = rw (← c.self.view_is, c.move_bodies.ensures.value) (alike_moved c.self.inside.bodies.items c.run_step-sums.new.states.items)
