@@ -1,7 +1,7 @@
 //! Maps by `crew` on threads: each item is worked once, in order of the answers, and all pieces do meet.
 
 use crate::assertions::{same, same_items};
-use crew::{Crew, Gate, OpenGate, Work, map_pieces, sole, start};
+use crew::{Crew, CrewDef, Gate, OpenGate, Work, map_pieces, sole, start};
 use fixed_geom::Refusal;
 use std::alloc::Global;
 use std::process::Abort;
@@ -172,7 +172,12 @@ fn hold_crew<'s, E, R: Threads + Wait + Abort + Sync>(
     gate: &'s Holding<'s>,
     worked: &'s AtomicU64,
 ) {
-    let Ok(mut crew) = start(scope, rt, alloc, gate, 2, 1, 8) else {
+    let def = CrewDef {
+        workers: 2,
+        least: 1,
+        room: 8,
+    };
+    let Ok(mut crew) = start(scope, rt, alloc, gate, def) else {
         panic!(rt; "a crew of two")
     };
     for _ in 0..MAPS {
@@ -212,7 +217,12 @@ fn gather_crew<'s, E, R: Threads + Wait + Abort + Sync>(
     workers: usize,
     worked: &'s AtomicU64,
 ) {
-    let Ok(mut crew) = start(scope, rt, alloc, gate, workers, 1, 1) else {
+    let def = CrewDef {
+        workers,
+        least: 1,
+        room: 1,
+    };
+    let Ok(mut crew) = start(scope, rt, alloc, gate, def) else {
         panic!(rt; "a crew")
     };
     let Ok(work) = Arc::new(alloc, Sums { worked }) else {
@@ -255,7 +265,12 @@ fn refusal_of<'s, E, R: Threads + Wait + Sync>(
     gate: &'s OpenGate,
     workers: usize,
 ) -> Option<Refusal> {
-    match start::<E, R, OpenGate, Sums<'s>>(scope, rt, alloc, gate, workers, 1, 1) {
+    let def = CrewDef {
+        workers,
+        least: 1,
+        room: 1,
+    };
+    match start::<E, R, OpenGate, Sums<'s>>(scope, rt, alloc, gate, def) {
         Ok(crew) => {
             crew.end(rt);
             None
@@ -273,7 +288,12 @@ fn maps<'s, E, R: Threads + Wait + Abort + Sync>(
     workers: usize,
     worked: &'s AtomicU64,
 ) {
-    let Ok(mut crew) = start(scope, rt, alloc, gate, workers, 1, 4) else {
+    let def = CrewDef {
+        workers,
+        least: 1,
+        room: 4,
+    };
+    let Ok(mut crew) = start(scope, rt, alloc, gate, def) else {
         panic!(rt; "a crew")
     };
     for _ in 0..MAPS {

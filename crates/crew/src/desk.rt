@@ -6,6 +6,7 @@ ghost use Rattle.crossbeam_queue.specs.Passes.{view, IsPassOf};
 ghost use Rattle.crew.specs.Answers.{AreAccepted, answers, owed, promised, returned};
 ghost use Rattle.crew.specs.Mailbox.{is_asked};
 
+use crate::gate::PieceNumber;
 use crate::post::{MailboxPass, Post};
 use crate::slip::Slip;
 use crate::stack::stack_last;
@@ -61,8 +62,7 @@ where
         &mut self,
         rt: &R,
         work: &Arc<W, Global>,
-        piece: usize,
-        of: usize,
+        piece: PieceNumber,
         items: &mut Vec<W::Item>,
         count: usize,
     )
@@ -86,7 +86,6 @@ where
         let slip = Slip {
             work,
             piece,
-            of,
             entered: false,
             stack: mem::replace(&mut self.stack, Vec::new(self.alloc)),
             answers: mem::replace(&mut self.answers, Vec::new(self.alloc)),

@@ -2,6 +2,13 @@
 
 use std::sync::Wait;
 
+/// Which piece of a map it is: its number, from 0, of so many.
+#[derive(Clone, Copy)]
+pub(crate) struct PieceNumber {
+    pub(crate) number: usize,
+    pub(crate) of: usize,
+}
+
 /// What each piece of a map enters before it is worked, on the thread that works it. A test's gate may hold a piece
 /// back; a program's does nothing.
 pub trait Gate {

@@ -22,5 +22,5 @@ mod worker;
 pub use gate::{Gate, OpenGate};
 pub use piece::{CallingThread, Piece, PieceMap, Returned};
 pub use pieces::map_pieces;
-pub use staying::{Crew, sole, start};
+pub use staying::{Crew, CrewDef, sole, start};
 pub use work::Work;

@@ -6,6 +6,7 @@ ghost use Rattle.crew.specs.Answers.{AreAccepted, answers};
 ghost use Rattle.crew.specs.Refusals.{IsStartRefusal};
 ghost use Rattle.fixed_geom.specs.declared.refusal.Refusal.TheVariants.{NoMemory, NoThread};
 
+use crate::gate::PieceNumber;
 use crate::{Gate, Work};
 use fixed_geom::Refusal;
 use std::alloc::{AllocError, Global};
@@ -13,7 +14,7 @@ use std::sync::Wait;
 use std::thread;
 use std::thread::{Promise, PromisedHandle, Scope, Threads};
 
-/// Promises the answers at these items.
+/// The answers that are asked for: the work's at these items. The thread of a piece promises those of its own.
 struct AnswersAt<'a, W: Work> {
     work: &'a W,
     items: &'a [W::Item],
@@ -58,8 +59,7 @@ fn run_piece<R: Wait, G: Gate, W: Work>(
     rt: &R,
     alloc: Global,
     gate: &G,
-    piece: usize,
-    of: usize,
+    piece: PieceNumber,
     work: &W,
     items: &[W::Item],
 ) -> Result<Vec<W::Out>, AllocError>
@@ -69,7 +69,7 @@ where
     requires { AreAccepted W.accepts work.now items.now }
     ensures { IfOk result (λ v. v.items ≡ answers W.answer work.now items.now) }
 {
-    gate.enter(rt, piece, of);
+    gate.enter(rt, piece.number, piece.of);
     map_piece(rt, alloc, work, items)
 }
 
@@ -77,29 +77,36 @@ where
 fn start_all<'s, E, R: Threads + Wait + Sync, G: Gate + Sync, W: Work + Sync>(
     scope: &Scope<'s, E>,
     rt: &'s R,
-    alloc: Global,
     gate: &'s G,
-    items: &'s [W::Item],
     of: usize,
-    work: &'s W,
+    asked: AnswersAt<'s, W>,
     pieces: &mut Vec<Piece<'s, W>>,
 ) -> Result<(), Refusal>
 where
     W::Item: Copy + Sync,
     W::Out: Send + Drop + 's,
-    requires of { (0 < of) × (of ≤ length items.now) }
+    requires of { (0 < of) × (of ≤ length asked.items.now) }
     requires empty { pieces.old.items ≡ [] }
     requires room { of ≤ vec_capacity pieces.old }
-    requires accepted { AreAccepted W.accepts work.now items.now }
-    ensures answers { OnOk result (flat_map (λ h. answers W.answer h.promise.work.now h.promise.items.now) pieces.new.items ≡ answers W.answer work.now items.now) }
+    requires accepted { AreAccepted W.accepts asked.work.now asked.items.now }
+    ensures answers { OnOk result (flat_map (λ h. answers W.answer h.promise.work.now h.promise.items.now) pieces.new.items ≡ answers W.answer asked.entry.work.now asked.entry.items.now) }
     ensures refused { IfErr result (λ e. e ≡ NoThread) }
 {
-    let mut rest = items;
+    let alloc = *pieces.allocator();
+    let work = asked.work;
+    let mut rest = asked.items;
     for piece in 0..of {
         let (front, back) = rest.split_at(rest.len() / (of - piece));
         let promise = AnswersAt { work, items: front };
         match scope.spawn_with(promise, move || {
-            run_piece(rt, alloc, gate, piece, of, work, front)
+            run_piece(
+                rt,
+                alloc,
+                gate,
+                PieceNumber { number: piece, of },
+                work,
+                front,
+            )
         }) {
             Ok(handle) => pieces.push_reserved(handle),
             Err(_) => return Err(Refusal::NoThread),
@@ -145,21 +152,20 @@ fn run_all<'s, E, R: Threads + Wait + Sync, G: Gate + Sync, W: Work + Sync>(
     rt: &'s R,
     alloc: Global,
     gate: &'s G,
-    items: &'s [W::Item],
     of: usize,
-    work: &'s W,
+    asked: AnswersAt<'s, W>,
 ) -> Result<Vec<W::Out>, Refusal>
 where
     W::Item: Copy + Sync,
     W::Out: Send + Drop + 's,
-    requires of { (0 < of) × (of ≤ length items.now) }
-    requires accepted { AreAccepted W.accepts work.now items.now }
-    ensures answers { IfOk result (λ v. v.items ≡ answers W.answer work.now items.now) }
+    requires of { (0 < of) × (of ≤ length asked.items.now) }
+    requires accepted { AreAccepted W.accepts asked.work.now asked.items.now }
+    ensures answers { IfOk result (λ v. v.items ≡ answers W.answer asked.entry.work.now asked.entry.items.now) }
     ensures refused { IfErr result IsStartRefusal }
 {
-    let out = Vec::with_capacity(alloc, items.len())?;
+    let out = Vec::with_capacity(alloc, asked.items.len())?;
     let mut pieces = Vec::with_capacity(alloc, of)?;
-    let started = start_all(scope, rt, alloc, gate, items, of, work, &mut pieces);
+    let started = start_all(scope, rt, gate, of, asked, &mut pieces);
     let joined = join_all(rt, pieces, out);
     started?;
     joined
@@ -196,6 +202,6 @@ where
         |scope| -> Result<Vec<W::Out>, Refusal>
             requires { (0 < of) × (of ≤ length items.now) × AreAccepted W.accepts work.now items.now }
             ensures { IfOk result (λ v. v.items ≡ answers W.answer work.entry.now items.entry.now) × IfErr result IsStartRefusal }
-        { run_all(scope, rt, alloc, gate, items, of, work) },
+        { run_all(scope, rt, alloc, gate, of, AnswersAt { work, items }) },
     )
 }

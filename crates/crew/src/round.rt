@@ -1,24 +1,25 @@
-//! A map in pieces.
+//! The parts of a map in pieces.
 
 ghost use Rattle.std.specs.Prelude.{◌≡◌, ◌++◌, ◌+◌, ◌≤◌, [], false, true, All, length, vec_len, vec_capacity};
 ghost use Rattle.std.specs.Arc.{arc_value};
 ghost use Rattle.crossbeam_queue.specs.Passes.{view};
 ghost use Rattle.crew.specs.Answers.{AreAccepted, answers, gathered, owed, promised, returned};
 
-use crate::bell::{Bell, pause};
+use crate::bell::pause;
 use crate::desk::Desk;
+use crate::gate::PieceNumber;
 use crate::stack::work_stack;
 use crate::{Gate, Work};
 use std::alloc::Global;
 use std::sync::{Arc, Wait};
 
-/// Hands a piece out at each desk, from the last one on. What is left of the items is the caller's piece.
-fn post_all<R: Wait, W: Work + Drop>(
+/// Hands a piece out at each desk, from the last one on; `piece` is the first desk's. What is left of the items is the
+/// caller's piece.
+pub(crate) fn post_all<R: Wait, W: Work + Drop>(
     rt: &R,
     desks: &mut [Desk<W>],
     work: &Arc<W, Global>,
-    piece: usize,
-    of: usize,
+    piece: PieceNumber,
     items: &mut Vec<W::Item>,
 )
 where
@@ -33,9 +34,14 @@ where
     match desks.split_first_mut() {
         None => {}
         Some((first, rest)) => {
-            post_all(rt, rest, work, piece.saturating_add(1), of, items);
-            let count = items.len() / piece.saturating_add(1);
-            first.post(rt, work, piece, of, items, count);
+            let number = piece.number.saturating_add(1);
+            let next = PieceNumber {
+                number,
+                of: piece.of,
+            };
+            post_all(rt, rest, work, next, items);
+            let count = items.len() / number;
+            first.post(rt, work, piece, items, count);
         }
     }
 }
@@ -61,7 +67,7 @@ where
 }
 
 /// Fetches all slips, and waits for those that are in a worker's hands.
-fn gather<R: Wait, G: Gate, W: Work + Drop>(rt: &R, gate: &G, desks: &mut [Desk<W>])
+pub(crate) fn gather<R: Wait, G: Gate, W: Work + Drop>(rt: &R, gate: &G, desks: &mut [Desk<W>])
 where
     W::Item: Drop,
     W::Out: Drop,
@@ -79,7 +85,11 @@ where
 }
 
 /// Adds the answers of all slips that are back to `out`, which has room for them.
-fn collect_all<R: Wait, W: Work + Drop>(rt: &R, desks: &mut [Desk<W>], out: &mut Vec<W::Out>)
+pub(crate) fn collect_all<R: Wait, W: Work + Drop>(
+    rt: &R,
+    desks: &mut [Desk<W>],
+    out: &mut Vec<W::Out>,
+)
 where
     W::Item: Drop,
     W::Out: Drop,
@@ -97,7 +107,12 @@ where
 }
 
 /// Works all items on this thread.
-fn work_alone<R: Wait, W: Work>(rt: &R, work: &W, items: &mut Vec<W::Item>, out: &mut Vec<W::Out>)
+pub(crate) fn work_alone<R: Wait, W: Work>(
+    rt: &R,
+    work: &W,
+    items: &mut Vec<W::Item>,
+    out: &mut Vec<W::Out>,
+)
     requires accepted { AreAccepted W.accepts work.now items.old.items }
     requires room { vec_len out.old + vec_len items.old ≤ vec_capacity out.old }
     ensures out { out.new.items ≡ out.old.items ++ answers W.answer work.now items.old.items }
@@ -128,35 +143,4 @@ pub(crate) fn map_alone<R: Wait, G: Gate, W: Work>(
         gate.enter(rt, 0, 1);
     }
     work_alone(rt, work, items, out);
-}
-
-/// A map in pieces, of which the caller works the first, and then those that no worker has begun.
-pub(crate) fn map_shared<R: Wait, G: Gate, W: Work + Drop>(
-    rt: &R,
-    gate: &G,
-    bell: &Bell,
-    round: u64,
-    desks: &mut [Desk<W>],
-    work: &Arc<W, Global>,
-    items: &mut Vec<W::Item>,
-    out: &mut Vec<W::Out>,
-)
-where
-    W::Item: Drop,
-    W::Out: Drop,
-    requires accepted { AreAccepted W.accepts (arc_value work.now) items.old.items }
-    requires room { vec_len out.old + vec_len items.old ≤ vec_capacity out.old }
-    ensures out { out.new.items ≡ out.old.items ++ answers W.answer (arc_value work.now) items.old.items }
-    ensures items { items.new.items ≡ [] }
-    ensures kept { vec_capacity items.new ≡ vec_capacity items.old }
-    ensures capacity { vec_capacity out.old ≤ vec_capacity out.new }
-{
-    gather(rt, gate, desks);
-    let of = desks.len().saturating_add(1);
-    post_all(rt, desks, work, 1, of, items);
-    bell.ring(round);
-    gate.enter(rt, 0, of);
-    work_alone(rt, &**work, items, out);
-    gather(rt, gate, desks);
-    collect_all(rt, desks, out);
 }

@@ -4,6 +4,7 @@ ghost use Rattle.std.specs.Prelude.{◌≡◌, ◌++◌, ◌+◌, ◌≤◌, [],
 ghost use Rattle.std.specs.Arc.{arc_value};
 ghost use Rattle.crew.specs.Answers.{AreAccepted, owed};
 
+use crate::gate::PieceNumber;
 use crate::stack::work_stack;
 use crate::{Gate, Work};
 use std::alloc::Global;
@@ -16,8 +17,7 @@ where
     W::Out: Drop,
 {
     pub(crate) work: Arc<W, Global>,
-    pub(crate) piece: usize,
-    pub(crate) of: usize,
+    pub(crate) piece: PieceNumber,
     pub(crate) entered: bool,
     pub(crate) stack: Vec<W::Item>,
     pub(crate) answers: Vec<W::Out>,
@@ -33,7 +33,6 @@ where
         let Self {
             work: _,
             piece: _,
-            of: _,
             entered: _,
             stack: _,
             answers: _,
@@ -53,19 +52,17 @@ where
         let Slip {
             work,
             piece,
-            of,
             entered,
             mut stack,
             mut answers,
         } = self;
         if !entered {
-            gate.enter(rt, piece, of);
+            gate.enter(rt, piece.number, piece.of);
             work_stack(rt, &*work, &mut stack, &mut answers);
         }
         Slip {
             work,
             piece,
-            of,
             entered: true,
             stack,
             answers,
@@ -86,7 +83,6 @@ where
         let Slip {
             work,
             piece: _,
-            of: _,
             entered: _,
             mut stack,
             mut answers,

@@ -9,7 +9,8 @@ ghost use Rattle.fixed_geom.specs.declared.refusal.Refusal.TheVariants.{NoThread
 use crate::bell::{Bell, OVER, next_round};
 use crate::desk::Desk;
 use crate::furnish::furnish_all;
-use crate::round::{map_alone, map_shared};
+use crate::gate::PieceNumber;
+use crate::round::{collect_all, gather, map_alone, post_all, work_alone};
 use crate::worker::Worker;
 use crate::{Gate, Work};
 use fixed_geom::Refusal;
@@ -20,6 +21,17 @@ use std::thread::{JoinHandle, Scope, Threads};
 
 /// How many workers a crew has at most.
 const MOST_WORKERS: usize = 64;
+
+/// How a crew is made.
+#[derive(Clone, Copy)]
+pub struct CrewDef {
+    // How many work, of which the caller is one.
+    pub workers: usize,
+    // How many items a piece has at least.
+    pub least: usize,
+    // For how many items each piece has room at first.
+    pub room: usize,
+}
 
 /// The caller and a number of threads that wait for its maps. Its type sees to it that it is ended: it can't be let go
 /// otherwise.
@@ -85,11 +97,37 @@ where
             map_alone(rt, self.gate, &**work, items, out);
             return;
         }
+        self.map_shared(rt, workers, work, items, out);
+    }
+
+    /// A map in pieces by the caller and so many workers. The caller works the first piece, and then those that no
+    /// worker has begun.
+    fn map_shared<R: Wait>(
+        &mut self,
+        rt: &R,
+        workers: usize,
+        work: &Arc<W, Global>,
+        items: &mut Vec<W::Item>,
+        out: &mut Vec<W::Out>,
+    )
+        requires workers { workers ≤ vec_len self.old.desks }
+        requires accepted { AreAccepted W.accepts (arc_value work.now) items.old.items }
+        requires room { vec_len out.old + vec_len items.old ≤ vec_capacity out.old }
+        ensures answers { out.new.items ≡ out.old.items ++ answers W.answer (arc_value work.now) items.old.items }
+        ensures items { items.new.items ≡ [] }
+        ensures kept { vec_capacity items.new ≡ vec_capacity items.old }
+        ensures capacity { vec_capacity out.old ≤ vec_capacity out.new }
+    {
         self.round = next_round(self.round);
+        let of = workers.saturating_add(1);
         let (desks, _) = self.desks.as_mut_slice().split_at_mut(workers);
-        map_shared(
-            rt, self.gate, &self.bell, self.round, desks, work, items, out,
-        );
+        gather(rt, self.gate, desks);
+        post_all(rt, desks, work, PieceNumber { number: 1, of }, items);
+        self.bell.ring(self.round);
+        self.gate.enter(rt, 0, of);
+        work_alone(rt, &**work, items, out);
+        gather(rt, self.gate, desks);
+        collect_all(rt, desks, out);
     }
 
     /// The same by work that it takes and gives back.
@@ -161,34 +199,32 @@ where
     Ok(())
 }
 
-/// Starts a crew of the caller and `workers` - 1 threads in the scope. A piece of a map has `least` items or more, and
-/// there is room for pieces of `room` items. Refused 5 where `workers` isn't from 1 to 64, 1 where memory is wanting,
-/// both before any thread is started, and 11 where a thread can't be started: those that run are then ended and joined.
+/// Starts a crew of the caller and `def.workers` - 1 threads in the scope. Refused 5 where the workers aren't from 1 to
+/// 64, 1 where memory is wanting, both before any thread is started, and 11 where a thread can't be started: those that
+/// run are then ended and joined.
 pub fn start<'s, E, R: Threads + Wait + Sync, G: Gate + Sync, W: Work + Drop + Send + Sync + 's>(
     scope: &Scope<'s, E>,
     rt: &'s R,
     alloc: Global,
     gate: &'s G,
-    workers: usize,
-    least: usize,
-    room: usize,
+    def: CrewDef,
 ) -> Result<Crew<'s, G, W>, Refusal>
 where
     W::Item: Drop + Send + 's,
     W::Out: Drop + Send + 's,
-    ensures limits { OnOk result (are_workers workers ≡ true) }
-    ensures refused { IfErr result (MayRefuseStart workers) }
+    ensures limits { OnOk result (are_workers def.workers ≡ true) }
+    ensures refused { IfErr result (MayRefuseStart def.workers) }
 {
-    if workers == 0 || workers > MOST_WORKERS {
+    if def.workers == 0 || def.workers > MOST_WORKERS {
         return Err(Refusal::OutOfRange);
     }
     let bell = Arc::new(alloc, Bell::new())?;
-    let (desks, hired) = furnish_all(alloc, &bell, workers - 1, room)?;
+    let (desks, hired) = furnish_all(alloc, &bell, def.workers - 1, def.room)?;
     let threads = Vec::with_capacity(alloc, hired.len())?;
     let mut crew = Crew {
         alloc,
         gate,
-        least,
+        least: def.least,
         bell,
         round: 0,
         desks,

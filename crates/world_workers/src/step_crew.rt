@@ -12,7 +12,7 @@ use crate::tasks::{
 };
 use colour_solver::StepSums;
 use contacts::{Constraint, EvaluatedPairs, LookedPlaces, PairLists, PairPiece};
-use crew::{Crew, Gate, PieceMap, Returned, sole, start};
+use crew::{Crew, CrewDef, Gate, PieceMap, Returned, sole, start};
 use fixed_geom::Refusal;
 use graph_colours::Colours;
 use momenta::BodyState;
@@ -192,7 +192,12 @@ impl<'s, R: Threads + Wait + Sync, G: Gate + Sync> StepCrew<'s, R, G> {
     ) -> Result<StepCrew<'s, R, G>, Refusal>
         ensures { IfErr result (MayRefuseStart workers) }
     {
-        let crew = start(scope, rt, alloc, gate, workers, 1, 1)?;
+        let def = CrewDef {
+            workers,
+            least: 1,
+            room: 1,
+        };
+        let crew = start(scope, rt, alloc, gate, def)?;
         let Ok(work) = Arc::new(alloc, TaskWork) else {
             crew.end(rt);
             return Err(Refusal::NoMemory);

@@ -178,27 +178,33 @@ impl<'s, G: Gate, W: Work> Crew<'s, G, W> {
     }
 }
 
-/// Starts a crew of the caller and `workers` - 1 threads.
+/// How a crew is made.
+#[derive(Clone, Copy)]
+pub struct CrewDef {
+    pub workers: usize,
+    pub least: usize,
+    pub room: usize,
+}
+
+/// Starts a crew of the caller and `def.workers` - 1 threads.
 pub fn start<'s, E, R: Threads + Wait + Sync, G: Gate + Sync, W: Work + Send + Sync + 's>(
     _: &Scope<'s, E>,
     rt: &'s R,
     _: Global,
     gate: &'s G,
-    workers: usize,
-    _: usize,
-    _: usize,
+    def: CrewDef,
 ) -> Result<Crew<'s, G, W>, fixed_geom::Refusal>
 where
     W::Item: Send + 's,
     W::Out: Send + 's,
 {
-    if workers == 0 || workers > 64 {
+    if def.workers == 0 || def.workers > 64 {
         return Err(fixed_geom::Refusal::OutOfRange);
     }
     let (round, asleep) = (AtomicU64::new(0), AtomicU64::new(0));
     let bell = std::sync::Arc::new(Bell { round, asleep, lock: Mutex::new(()), rung: Condvar::new() });
     let post = || std::sync::Arc::new(Post { open: AtomicU64::new(0), slip: Mutex::new(None) });
-    let posts: std::vec::Vec<_> = (1..workers).map(|_| post()).collect();
+    let posts: std::vec::Vec<_> = (1..def.workers).map(|_| post()).collect();
     let mut threads = std::vec::Vec::new();
     for first in 0..posts.len() {
         let (bell, mut posts) = (bell.clone(), posts.clone());

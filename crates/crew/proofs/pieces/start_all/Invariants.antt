@@ -8,6 +8,6 @@ invariant-loop-piece g l = record {
   len : vec_len l.pieces ≡ l.piece;
   room : l.of ≤ vec_capacity l.pieces;
   accepted : AreAccepted g.W.Work.accepts l.work l.rest;
-  whole : flat_map (λ h. map (g.W.Work.answer h.promise.work.now) h.promise.items.now) l.pieces.items ++ map (g.W.Work.answer l.work) l.rest ≡ map (g.W.Work.answer l.work) l.items;
+  whole : flat_map (λ h. map (g.W.Work.answer h.promise.work.now) h.promise.items.now) l.pieces.items ++ map (g.W.Work.answer l.work) l.rest ≡ map (g.W.Work.answer l.work) l.asked.items.now;
   last : l.of ≤ l.piece → length l.rest ≡ 0;
 }
