@@ -5,7 +5,7 @@ use Rattle.std.specs.Option.{is_some}
 use Rattle.std.specs.List.{Contains}
 use Rattle.std.proofs.lemmas.Bool.{cases_eq}
 use Rattle.std.proofs.lemmas.Option.{none-some, same_Some}
-use Rattle.packed_sets.proofs.ItemLaws.{head_in, none_in, tail_in}
+use Rattle.packed_sets.proofs.ItemLaws.{head_in, tail_in}
 use Rattle.packed_sets.proofs.ListLaws.{member_at, place_of}
 use Rattle.contacts_base.specs.declared.contact.ContactEntry.{ContactEntry}
 use Rattle.contacts_base.specs.declared.key.ContactKey.{ContactKey}

@@ -16,7 +16,6 @@ use Rattle.contacts.specs.PendingUpdates.{IsPendingUpdate}
 use Rattle.contacts.specs.Known.{IsKnown}
 use Rattle.contacts.specs.Stirring.{AreHeld}
 use Rattle.contacts.specs.Fates.{AreWithin, IsMade, moved_by}
-use Rattle.packed_sets.specs.Marks.{AreListed}
 use Rattle.contacts.specs.declared.contact_table.ContactTable.TheInside.{Inside}
 
 -- the contacts, and what they become when the last collide is carried out; by its number each contact, and by the slot
@@ -40,7 +39,7 @@ numbers_on Second k = k.seconds
 -- what the fields of a `ContactTable` hold: the places in the long list of those contacts of which a body may stir, and
 -- what can be carried out; each contact has a number, and there is room for those that come
 pub record IsKeptContacts (a : Inside) : Type 0 where
-  pub held : AreHeld a.beside.stirring a.contacts
+  pub held : AreHeld a.memory.stirring a.contacts
   pub pending : IsPendingUpdate a.pending a.contacts
   pub book : IsBook a.numbers
   pub numbered : AreNumbered (contacts_in a.contacts) a.numbers.contacts.items

@@ -10,8 +10,11 @@
 //! `Side`.
 #![tactic(auto)]
 
+mod by_marks;
+mod by_sweep;
 mod changes;
 mod collide;
+mod collide_memory;
 mod constraint;
 mod contact_table;
 mod crowded;
@@ -20,6 +23,7 @@ mod ends;
 mod fates;
 mod forbidden;
 mod known;
+mod make_pending;
 mod marks;
 mod moved_pairs;
 mod noting;
@@ -28,6 +32,7 @@ mod pair_pieces;
 mod pair_sweep;
 mod pending_update;
 mod rebuild;
+mod renumber;
 mod stirring;
 mod survey;
 mod survey_pieces;

@@ -13,7 +13,7 @@ use Rattle.contacts.specs.contracts.survey_pieces.LookedPlaces as LookedPlaces
 use Rattle.contacts.specs.contracts.survey_pieces.LookMemory as LookMemory
 use Rattle.contacts.specs.contracts.pair_pieces.EvaluatedPairs as EvaluatedPairs
 use Rattle.contacts.specs.contracts.pair_sweep.PairSweep as PairSweep
-use Rattle.contacts.specs.contracts.contact_table.Beside as Beside
+use Rattle.contacts.specs.contracts.collide_memory.CollideMemory as CollideMemory
 use Rattle.contacts.specs.contracts.contact_table.ContactTable as ContactTable
 use Rattle.colour_solver.specs.contracts.colour_rows.Rows as Rows
 use Rattle.impulse_ledger.specs.contracts.ledger.Ledger as Ledger
@@ -63,11 +63,11 @@ evaluated_send = search (crosses, sendable) depth 60 fits 60000
 sweep_send : IsSend PairSweep.the_row
 sweep_send = search (evaluated_send, crosses, sendable) depth 60 fits 60000
 
-beside_send : IsSend Beside.the_row
-beside_send = search (looks_send, sweep_send, crosses, sendable) depth 60 fits 60000
+memory_send : IsSend CollideMemory.the_row
+memory_send = search (looks_send, sweep_send, crosses, sendable) depth 60 fits 60000
 
 contacts_send : IsSend ContactTable.the_row
-contacts_send = search (split_send, pending_send, numbers_send, beside_send, looks_send, sweep_send, places_send, crosses, sendable) depth 90 fits 400000
+contacts_send = search (split_send, pending_send, numbers_send, memory_send, looks_send, sweep_send, places_send, crosses, sendable) depth 90 fits 400000
 
 rows_send : IsSend Rows.the_row
 rows_send = search (crosses, sendable) depth 60 fits 60000

@@ -1,4 +1,4 @@
-use Rattle.std.proofs.Common.{◌≡◌, ◌≤◌, length, map, take}
+use Rattle.std.proofs.Common.{◌≡◌, ◌≤◌, map, take}
 use Rattle.contacts.specs.PairValues.{NearLists}
 use Rattle.contacts.specs.PairPieces.{evaluated, evaluated_in, joined}
 use Rattle.contacts.proofs.pair_pieces.cut.Given as goal

@@ -6,9 +6,9 @@ use Rattle.contacts.proofs.contact_table.ContactTable.from_contacts.Goals as goa
 
 pub invariant_of-result : goal.invariant_of-result
 invariant_of-result c = record {
-  held = c.nothing_beside.ensures c.in_ok-contacts.contacts;
-  pending = nothing_is_pending c.new.result c.in_ok-contacts.contacts c.new.ensures.nothing c.know_ascending.ensures.contacts;
+  held = c.new-memory.ensures c.in_ok-contacts.contacts;
+  pending = nothing_is_pending c.new-pending.result c.in_ok-contacts.contacts c.new-pending.ensures.nothing c.know_ascending.ensures.contacts;
   book = c.in_ok-numbers.ensures.book;
   numbered = subst (λ (es : List ContactEntry). AreNumbered es c.in_ok-numbers.numbers.contacts.items) (c.long.ensures.value ∙ c.in_ok-contacts.ensures.long ∙ sym c.in_ok-contacts.ensures.contacts) c.in_ok-numbers.ensures.numbered;
-  room = λ on. absurd (true≢false (sym on ∙ c.new.ensures.idle));
+  room = λ on. absurd (true≢false (sym on ∙ c.new-pending.ensures.idle));
 }

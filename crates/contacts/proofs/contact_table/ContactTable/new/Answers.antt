@@ -6,9 +6,9 @@ use Rattle.contacts.proofs.contact_table.ContactTable.new.Goals as goal
 
 pub invariant_of-result : goal.invariant_of-result
 invariant_of-result c = record {
-  held = c.nothing_beside.ensures c.new-contacts.result;
-  pending = nothing_is_pending c.new.result c.new-contacts.result c.new.ensures.nothing c.know_ascending.ensures.contacts;
-  book = c.new-2.ensures.book;
-  numbered = none_numbered (contacts_in c.new-contacts.result) c.new-2.result.contacts.items c.new-contacts.ensures.contacts c.new-2.ensures.contacts;
-  room = λ on. absurd (true≢false (sym on ∙ c.new.ensures.idle));
+  held = c.new-memory.ensures c.new-contacts.result;
+  pending = nothing_is_pending c.new-pending.result c.new-contacts.result c.new-pending.ensures.nothing c.know_ascending.ensures.contacts;
+  book = c.new-numbers.ensures.book;
+  numbered = none_numbered (contacts_in c.new-contacts.result) c.new-numbers.result.contacts.items c.new-contacts.ensures.contacts c.new-numbers.ensures.contacts;
+  room = λ on. absurd (true≢false (sym on ∙ c.new-pending.ensures.idle));
 }

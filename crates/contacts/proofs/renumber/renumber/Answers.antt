@@ -3,7 +3,7 @@ use Rattle.contacts.specs.declared.number_book.NumberedContact.{NumberedContact}
 use Rattle.contacts.specs.Numbered.{AreNumbered, number_key_at}
 use Rattle.contacts.specs.NumberBooks.{gone_of}
 use Rattle.contacts.proofs.NumberChangeLaws.{change_numbered, change_turnover, nothing_done, parts_done, touched_absent}
-use Rattle.contacts.proofs.contact_table.renumber.Goals as goal
+use Rattle.contacts.proofs.renumber.renumber.Goals as goal
 
 pub make_all-requires-clause-can : goal.make_all-requires-clause-can
 make_all-requires-clause-can c =

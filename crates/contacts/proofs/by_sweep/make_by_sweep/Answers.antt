@@ -11,13 +11,13 @@ use Rattle.contacts.specs.NumberChanges.{IsNoted}
 use Rattle.contacts.specs.PendingUpdates.{IsPendingUpdate}
 use Rattle.contacts.specs.Stirring.{AreHeld}
 use Rattle.contacts.proofs.KeptLaws.{noted_between}
-use Rattle.contacts.proofs.contact_table.make_by_sweep.Goals as goal
+use Rattle.contacts.proofs.by_sweep.make_by_sweep.Goals as goal
 
 pub returns-in_err-changes-clause-held : goal.returns-in_err-changes-clause-held
-returns-in_err-changes-clause-held g c = subst (AreHeld c.flush.new.beside.stirring) (sym (c.update_contacts.ensures.contacts ∙ c.take_spare-room.ensures)) c.flush.ensures.held
+returns-in_err-changes-clause-held g c = subst (AreHeld c.flush.new.memory.stirring) (sym (c.update_contacts.ensures.contacts ∙ c.take_spare-room.ensures)) c.flush.ensures.held
 
 pub returns-clause-held : goal.returns-clause-held
-returns-clause-held g c = subst (AreHeld c.flush.new.beside.stirring) (sym (c.update_contacts.ensures.contacts ∙ c.take_spare-room.ensures)) c.flush.ensures.held
+returns-clause-held g c = subst (AreHeld c.flush.new.memory.stirring) (sym (c.update_contacts.ensures.contacts ∙ c.take_spare-room.ensures)) c.flush.ensures.held
 
 pub returns-clause-pending : goal.returns-clause-pending
 returns-clause-pending g c =

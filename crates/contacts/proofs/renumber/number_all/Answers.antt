@@ -2,7 +2,7 @@ use Rattle.std.proofs.Common.{List, length, subst, sym, ◌∙◌}
 use Rattle.contacts.specs.declared.number_book.NumberedContact.{NumberedContact}
 use Rattle.contacts.specs.NumberBooks.{HasRoomFor}
 use Rattle.contacts.proofs.KeptLaws.{can_make_first, first_numbered}
-use Rattle.contacts.proofs.contact_table.number_all.Goals as goal
+use Rattle.contacts.proofs.renumber.number_all.Goals as goal
 
 pub make_all-requires-clause-can : goal.make_all-requires-clause-can
 make_all-requires-clause-can c =

@@ -6,7 +6,7 @@ use Rattle.contacts_base.specs.declared.key.ContactKey.{ContactKey}
 use Rattle.contacts_base.specs.Contacts.{lookup}
 use Rattle.contacts.specs.Numbered.{numbered_of}
 use Rattle.contacts.proofs.ChangeOfLaws.{whole_pending}
-use Rattle.contacts.proofs.contact_table.note_changes.Goals as goal
+use Rattle.contacts.proofs.by_sweep.note_changes.Goals as goal
 
 pub returns-clause-pending : goal.returns-clause-pending
 returns-clause-pending c s are noted =

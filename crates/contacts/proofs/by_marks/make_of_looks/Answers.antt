@@ -1,7 +1,7 @@
 use Rattle.contacts.specs.SurveyPieces.{shown_looks}
 use Rattle.contacts.proofs.JoinLaws.{long_pairs}
 use Rattle.contacts.proofs.SurveyPieceLaws.{looks_are_all}
-use Rattle.contacts.proofs.contact_table.make_of_looks.Goals as goal
+use Rattle.contacts.proofs.by_marks.make_of_looks.Goals as goal
 
 pub update_known-requires-clause-looked : goal.update_known-requires-clause-looked
 update_known-requires-clause-looked g c =

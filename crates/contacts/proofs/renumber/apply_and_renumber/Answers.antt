@@ -5,17 +5,17 @@ use Rattle.contacts.specs.Numbered.{AreNumbered}
 use Rattle.contacts.specs.PendingUpdates.{pending_contacts}
 use Rattle.contacts.proofs.NumberChangeLaws.{made_absent}
 use Rattle.contacts.proofs.StirringLaws.{held_over}
-use Rattle.contacts.proofs.contact_table.apply_and_renumber.Goals as goal
+use Rattle.contacts.proofs.renumber.apply_and_renumber.Goals as goal
 
 pub renumber-requires-clause-absent : goal.renumber-requires-clause-absent
 renumber-requires-clause-absent c =
     made_absent (contacts_in c.args.contacts.now) (pending_contacts c.args.pending.now c.args.contacts.now) c.args.pending.now.made.items c.args.pending.now.gone.items c.args.pending.now.begin.items c.args.pending.now.end.items c.args.numbers.now.contacts.items c.requires.numbered c.requires.pending.change
 
 pub returns-else-not-apply_pending-clause-held : goal.returns-else-not-apply_pending-clause-held
-returns-else-not-apply_pending-clause-held c = held_over c.args.beside.now.stirring c.args.contacts.now c.apply_pending.new.contacts c.requires.held (c.if-not-apply_pending.ensures.keys refl)
+returns-else-not-apply_pending-clause-held c = held_over c.args.memory.now.stirring c.args.contacts.now c.apply_pending.new.contacts c.requires.held (c.if-not-apply_pending.ensures.keys refl)
 
 pub returns-then-not-apply_pending-clause-held : goal.returns-then-not-apply_pending-clause-held
-returns-then-not-apply_pending-clause-held c = c.lapse.ensures c.apply_pending.new.contacts
+returns-then-not-apply_pending-clause-held c = c.invalidate.ensures c.apply_pending.new.contacts
 
 pub returns-else-not-apply_pending-clause-numbered : goal.returns-else-not-apply_pending-clause-numbered
 returns-else-not-apply_pending-clause-numbered c =
