@@ -150,7 +150,7 @@ fn collide(
         slots,
         marks,
     };
-    let touches = contacts.collide(&mut CallingThread, alloc, &mut scene, &mut forbidden)?;
+    let touches = contacts.collide(&mut CallingThread, &mut scene, &mut forbidden)?;
     contacts.commit_pending();
     Ok(touches)
 }

@@ -39,11 +39,11 @@ numbers_on Second k = k.seconds
 -- what the fields of a `ContactTable` hold: the places in the long list of those contacts of which a body may stir, and
 -- what can be carried out; each contact has a number, and there is room for those that come
 pub record IsKeptContacts (a : Inside) : Type 0 where
-  pub held : AreHeld a.memory.stirring a.contacts
-  pub pending : IsPendingUpdate a.pending a.contacts
+  pub held : AreHeld a.state.memory.stirring a.contacts
+  pub pending : IsPendingUpdate a.state.pending a.contacts
   pub book : IsBook a.numbers
   pub numbered : AreNumbered (contacts_in a.contacts) a.numbers.contacts.items
-  pub room : a.pending.any ≡ true → HasRoomFor a.pending.made.items a.numbers
+  pub room : a.state.pending.any ≡ true → HasRoomFor a.state.pending.made.items a.numbers
 
 -- what a collide stands on: shapes in their order, marks for all of their bodies, and contacts that tell which of those
 -- that aren't marked are near

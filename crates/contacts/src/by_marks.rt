@@ -17,7 +17,7 @@ ghost use Rattle.contacts.specs.Kept.{CanCollide, IsMadeOf};
 ghost use Rattle.packed_sets.specs.Marks.{AreListed};
 
 use crate::collide::Collide;
-use crate::collide_memory::CollideMemory;
+use crate::collide_memory::{CollideMemory, CollideState};
 use crate::fates::ShapesById;
 use crate::forbidden::ForbiddenPairs;
 use crate::moved_pairs::fresh_of_marked;
@@ -86,44 +86,43 @@ pub(crate) fn make_by_marks<
     M: PieceMap<SurveyPiece<S, F>>,
 >(
     mapper: &mut M,
-    memory: &mut CollideMemory,
-    pending: &mut PendingUpdate,
+    state: &mut CollideState,
     shapes: &mut S,
     forbidden: &mut F,
     contacts: &mut SplitContacts,
     numbers: &NumberBook,
 ) -> Result<Touches, Refusal>
     requires can { CanCollide (S.proxies shapes.old) (S.marks shapes.old) (F.pairs forbidden.old) (contacts_in contacts.old) }
-    requires held { AreHeld memory.old.stirring contacts.old }
+    requires held { AreHeld state.old.memory.stirring contacts.old }
     requires book { IsBook numbers.now }
     requires numbered { AreNumbered (contacts_in contacts.old) numbers.now.contacts.items }
     ensures shapes { shapes.new ≡ shapes.old }
     ensures forbidden { forbidden.new ≡ forbidden.old }
     ensures contacts { contacts.new ≡ contacts.old }
-    ensures held { AreHeld memory.new.stirring contacts.new }
-    ensures pending { OnOk result (IsPendingUpdate pending.new contacts.new) }
-    ensures made { IfOk result (IsMadeOf (S.proxies shapes.old) (F.pairs forbidden.old) (contacts_in contacts.old) (pending_contacts pending.new contacts.new)) }
-    ensures any { pending.old.any ≡ true → pending.new.any ≡ true }
+    ensures held { AreHeld state.new.memory.stirring contacts.new }
+    ensures pending { OnOk result (IsPendingUpdate state.new.pending contacts.new) }
+    ensures made { IfOk result (IsMadeOf (S.proxies shapes.old) (F.pairs forbidden.old) (contacts_in contacts.old) (pending_contacts state.new.pending contacts.new)) }
+    ensures any { state.old.pending.any ≡ true → state.new.pending.any ≡ true }
     ensures memory_only { IsOkUnless result Refusal.NoMemory }
 {
     let fresh = find_fresh(
-        memory,
+        &mut state.memory,
         &Collide::of(&*shapes, &*forbidden),
         contacts,
         numbers,
     )?;
     look_over_by(
         mapper,
-        &mut memory.looks,
+        &mut state.memory.looks,
         shapes,
         forbidden,
         contacts,
-        &mut memory.stirring.places,
+        &mut state.memory.stirring.places,
     )?;
     make_of_looks(
-        pending,
-        &mut memory.looks.found,
-        &memory.stirring,
+        &mut state.pending,
+        &mut state.memory.looks.found,
+        &state.memory.stirring,
         &Collide::of(&*shapes, &*forbidden),
         contacts,
         &fresh,

@@ -1,4 +1,4 @@
-//! What is kept beside the contacts from one collide to the next, and when their two lists are made one.
+//! What a collide leaves beside the contacts, and when their two lists are made one.
 
 ghost use Rattle.std.specs.Prelude.{◌≡◌, OnOk, false};
 ghost use Rattle.std.specs.Result.{IsOkUnless};
@@ -6,11 +6,20 @@ ghost use Rattle.contacts_base.specs.Split.{Split, contacts_in};
 ghost use Rattle.contacts.specs.Stirring.{AreFlagsListed, AreHeld};
 
 use crate::pair_sweep::PairSweep;
+use crate::pending_update::PendingUpdate;
 use crate::stirring::Stirring;
 use crate::survey_pieces::LookMemory;
 use contacts_base::SplitContacts;
 use fixed_geom::Refusal;
 use std::alloc::Global;
+
+/// What a collide leaves: what it made of the contacts, and memory for the next one.
+#[derive(Drop)]
+pub(crate) struct CollideState {
+    // What the last collide made of the contacts, until it is carried out.
+    pub(crate) pending: PendingUpdate,
+    pub(crate) memory: CollideMemory,
+}
 
 /// What is kept beside the contacts from one collide to the next.
 #[derive(Drop)]

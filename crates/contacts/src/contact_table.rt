@@ -19,7 +19,7 @@ ghost use Rattle.contacts.specs.PendingUpdates.{pending_contacts};
 ghost use Rattle.contacts.specs.Known.{IsKnown};
 ghost use Rattle.contacts.specs.Fates.{AreWithin, moved_by};
 
-use crate::collide_memory::CollideMemory;
+use crate::collide_memory::{CollideMemory, CollideState};
 use crate::dropping::drop_of_body;
 use crate::fates::ShapesById;
 use crate::forbidden::ForbiddenPairs;
@@ -46,9 +46,7 @@ use std::marker::Model;
 #[derive(Drop)]
 pub struct ContactTable {
     contacts: SplitContacts,
-    // What the last collide made of the contacts, until it is carried out.
-    pending: PendingUpdate,
-    memory: CollideMemory,
+    state: CollideState,
     // The number of each contact, and the contacts of each body.
     numbers: NumberBook,
 }
@@ -62,7 +60,7 @@ impl Model for ContactTable {
 
     ghost Value = { Kept };
 
-    ghost view = { λ a. record { contacts = contacts_in a.contacts; pending = pending_contacts a.pending a.contacts; numbered = a.numbers.contacts.items; firsts = a.numbers.ends.firsts.sets; seconds = a.numbers.ends.seconds.sets; made = a.numbers.made.items; gone = gone_of a.numbers; bound = bound_of a.numbers (length a.pending.made.items) } };
+    ghost view = { λ a. record { contacts = contacts_in a.contacts; pending = pending_contacts a.state.pending a.contacts; numbered = a.numbers.contacts.items; firsts = a.numbers.ends.firsts.sets; seconds = a.numbers.ends.seconds.sets; made = a.numbers.made.items; gone = gone_of a.numbers; bound = bound_of a.numbers (length a.state.pending.made.items) } };
 
     ghost invariant = { λ a. IsKeptContacts a };
 }
@@ -80,8 +78,7 @@ impl ContactTable {
         let numbers = NumberBook::new(alloc);
         ContactTable {
             contacts,
-            pending,
-            memory,
+            state: CollideState { pending, memory },
             numbers,
         }
     }
@@ -98,8 +95,7 @@ impl ContactTable {
         let memory = CollideMemory::new(alloc);
         Ok(ContactTable {
             contacts,
-            pending,
-            memory,
+            state: CollideState { pending, memory },
             numbers,
         })
     }
@@ -148,7 +144,7 @@ impl ContactTable {
         ensures turnover { IsTurnover self.old.numbered self.new.numbered self.new.made self.new.gone }
         ensures none { self.new.made ≡ [] }
     {
-        self.pending.clear();
+        self.state.pending.clear();
         drop_of_body(&mut self.numbers, &mut self.contacts, slot);
         self.contacts.know_ascending();
     }
@@ -167,7 +163,7 @@ impl ContactTable {
         ensures contacts { self.new.contacts ≡ impulses_given key first second self.old.contacts }
         ensures numbered { self.new.numbered ≡ self.old.numbered }
     {
-        self.pending.clear();
+        self.state.pending.clear();
         self.contacts.set_impulses(place, key, first, second);
         self.contacts.know_ascending();
     }
@@ -188,13 +184,7 @@ impl ContactTable {
         S: ShapesById + Drop,
         F: ForbiddenPairs + Drop,
         M: PieceMap<PairPiece> + PieceMap<SurveyPiece<S, F>>,
-    >(
-        &mut self,
-        mapper: &mut M,
-        alloc: Global,
-        shapes: &mut S,
-        forbidden: &mut F,
-    ) -> Result<Touches, Refusal>
+    >(&mut self, mapper: &mut M, shapes: &mut S, forbidden: &mut F) -> Result<Touches, Refusal>
         requires shapes { IsProxyList (S.proxies shapes.old) }
         requires within { AreWithin (S.marks shapes.old) (S.proxies shapes.old) }
         requires known { IsKnown (moved_by (S.marks shapes.old)) (F.pairs forbidden.old) (S.proxies shapes.old) self.old.contacts }
@@ -210,12 +200,10 @@ impl ContactTable {
         ensures end_rising { IfOk result (λ touches. AreRising touches.end.items) }
         ensures memory_only { IsOkUnless result Refusal.NoMemory }
     {
-        self.pending.clear();
+        self.state.pending.clear();
         make_or_clear(
             mapper,
-            &mut self.memory,
-            alloc,
-            &mut self.pending,
+            &mut self.state,
             shapes,
             forbidden,
             &mut self.contacts,
@@ -231,8 +219,8 @@ impl ContactTable {
     {
         apply_and_renumber(
             &mut self.contacts,
-            &mut self.pending,
-            &mut self.memory,
+            &mut self.state.pending,
+            &mut self.state.memory,
             &mut self.numbers,
         );
         self.contacts.know_ascending();

@@ -7,13 +7,9 @@ use Rattle.world_core_base.specs.contracts.body_table.BodyTable as BodyTable
 use Rattle.body_handles.specs.contracts.handles.Handles as Handles
 use Rattle.world_core_base.specs.contracts.joint_table.JointTable as JointTable
 use Rattle.contacts_base.specs.contracts.split.SplitContacts as SplitContacts
-use Rattle.contacts.specs.contracts.number_book.NumberBook as NumberBook
-use Rattle.contacts.specs.contracts.pending_update.PendingUpdate as PendingUpdate
 use Rattle.contacts.specs.contracts.survey_pieces.LookedPlaces as LookedPlaces
-use Rattle.contacts.specs.contracts.survey_pieces.LookMemory as LookMemory
 use Rattle.contacts.specs.contracts.pair_pieces.EvaluatedPairs as EvaluatedPairs
 use Rattle.contacts.specs.contracts.pair_sweep.PairSweep as PairSweep
-use Rattle.contacts.specs.contracts.collide_memory.CollideMemory as CollideMemory
 use Rattle.contacts.specs.contracts.contact_table.ContactTable as ContactTable
 use Rattle.colour_solver.specs.contracts.colour_rows.Rows as Rows
 use Rattle.impulse_ledger.specs.contracts.ledger.Ledger as Ledger
@@ -45,17 +41,8 @@ joints_send = search (crosses, sendable) depth 60 fits 60000
 pub split_send : IsSend SplitContacts.the_row
 split_send = search (crosses, sendable) depth 60 fits 60000
 
-pending_send : IsSend PendingUpdate.the_row
-pending_send = search (split_send, crosses, sendable) depth 60 fits 60000
-
-numbers_send : IsSend NumberBook.the_row
-numbers_send = search (crosses, sendable) depth 60 fits 60000
-
 places_send : IsSend LookedPlaces.the_row
 places_send = search (crosses, sendable) depth 60 fits 60000
-
-looks_send : IsSend LookMemory.the_row
-looks_send = search (places_send, crosses, sendable) depth 60 fits 60000
 
 evaluated_send : IsSend EvaluatedPairs.the_row
 evaluated_send = search (crosses, sendable) depth 60 fits 60000
@@ -63,11 +50,8 @@ evaluated_send = search (crosses, sendable) depth 60 fits 60000
 sweep_send : IsSend PairSweep.the_row
 sweep_send = search (evaluated_send, crosses, sendable) depth 60 fits 60000
 
-memory_send : IsSend CollideMemory.the_row
-memory_send = search (looks_send, sweep_send, crosses, sendable) depth 60 fits 60000
-
 contacts_send : IsSend ContactTable.the_row
-contacts_send = search (split_send, pending_send, numbers_send, memory_send, looks_send, sweep_send, places_send, crosses, sendable) depth 90 fits 400000
+contacts_send = search (split_send, sweep_send, places_send, crosses, sendable) depth 90 fits 400000
 
 rows_send : IsSend Rows.the_row
 rows_send = search (crosses, sendable) depth 60 fits 60000

@@ -250,7 +250,7 @@ pub(crate) fn collide<M: PieceMap<PairPiece> + PieceMap<SurveyPiece<BodyShapes, 
         table: mem::replace(bodies, BodyTable::new(alloc)),
     };
     shapes.know_within();
-    let touches = contacts.collide(mapper, alloc, &mut shapes, joints);
+    let touches = contacts.collide(mapper, &mut shapes, joints);
     let BodyShapes { table } = shapes;
     *bodies = table;
     touches

@@ -61,7 +61,7 @@ impl ContactTable {
         ensures numbered { length self.now.numbered ≤ result }
         ensures few { result ≤ 2 ^ 32 }
     {
-        self.numbers.bound(self.pending.made.len())
+        self.numbers.bound(self.state.pending.made.len())
     }
 
     /// The numbers of the contacts that the last change made, until the next collide.
