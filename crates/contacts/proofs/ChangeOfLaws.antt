@@ -146,7 +146,7 @@ pub record AreBoth (old new : List ContactEntry) : Type 0 where
   pub old_keys : All (λ e. IsPairKey e.key) old
   pub new_keys : All (λ e. IsPairKey e.key) new
 
--- these are the contacts that come
+-- these are the contacts that are made
 pub record AreComing (old new entries : List ContactEntry) : Type 0 where
   pub only : (f : ContactEntry) → IsIn f entries → IsIn f new × (lookup old f.key ≡ None)
   pub each : (f : ContactEntry) → IsIn f new → lookup old f.key ≡ None → IsIn f entries
@@ -165,13 +165,13 @@ pub record AreGoing (old new : List ContactEntry) (gone : List ContactKey) : Typ
 
 pub change_is : (old new entries : List ContactEntry) (made : List NumberedContact) (gone begin end : List ContactKey) → AreBoth old new → made ≡ map numbered_of entries → AreComing old new entries → AreGoing old new gone → begin ≡ keys_touching_only_in old new → end ≡ keys_touching_only_in new old → IsChange old new made gone begin end
 change_is old new entries made gone begin end both is coming going begin_is end_is = record {
-  come = λ c h.
+  added = λ c h.
       let m : IsImage numbered_of c entries = of_made c h in
       contains_from_in (map numbered_of new) c (subst (λ (x : NumberedContact). IsIn x (map numbered_of new)) (sym m.is) (in_map numbered_of m.from new (coming.only m.from m.among).0));
   fresh = λ c e h i same.
       let m : IsImage numbered_of c entries = of_made c h in
       no_both old e m.from.key both.old_rises (in_from_contains old e i) (same ∙ ap (λ (x : NumberedContact). x.key) m.is) (coming.only m.from m.among).1;
-  go = λ f j h. let g : IsGoing old new f.key = going.only f.key h in no_both new f g.entry.key both.new_rises (in_from_contains new f j) (sym g.has) g.none;
+  removed = λ f j h. let g : IsGoing old new f.key = going.only f.key h in no_both new f g.entry.key both.new_rises (in_from_contains new f j) (sym g.has) g.none;
   stay = λ e i. stays_by e (in_from_contains old e i) (lookup new e.key) refl;
   all = λ f j. comes_by f (in_from_contains new f j) (lookup old f.key) refl;
   begins = λ e f i j same on off. subst (λ (l : List ContactKey). Contains l e.key) (sym begin_is) (subst (λ (k : ContactKey). Contains (keys_touching_only_in old new) k) same (touch_in old new e f both.old_rises (in_from_contains old e i) (in_from_contains new f j) same on off));
@@ -191,7 +191,7 @@ change_is old new entries made gone begin end both is coming going begin_is end_
     comes_by f j None h = inl (subst (λ (l : List NumberedContact). Contains l (numbered_of f)) (sym is) (contains_from_in (map numbered_of entries) (numbered_of f) (in_map numbered_of f entries (coming.each f j h))))
     comes_by f j (Some e) h = inr (is_there old f.key e both.old_keys (pair_of new f both.new_keys j) h)
 
--- the keys of those that come ascend
+-- the keys of those that are made ascend
 numbers_of : (es : List ContactEntry) → map key_number (map (λ (c : NumberedContact). c.key) (map numbered_of es)) ≡ map number_of es
 numbers_of [] = refl
 numbers_of (e ∷ es) = ap (λ (l : List ℕ). number_of e ∷ l) (numbers_of es)
@@ -203,9 +203,9 @@ made_rises es made is rises = subst (λ (l : List NumberedContact). AreRising (m
 
 pub nothing_changes : (es : List ContactEntry) → AreKeysRising es → IsChange es es [] [] [] []
 nothing_changes es rises = record {
-  come = λ c h. absurd (in_from_contains [] c h);
+  added = λ c h. absurd (in_from_contains [] c h);
   fresh = λ c e h i same. in_from_contains [] c h;
-  go = λ f j h. in_from_contains [] f.key h;
+  removed = λ f j h. in_from_contains [] f.key h;
   stay = λ e i. inr (record { entry = e; there = i; has = refl });
   all = λ f j. inr (record { entry = f; there = j; has = refl });
   begins = λ e f i j same on off. absurd (differ e f i j same on off);

@@ -266,7 +266,7 @@ dropped_contacts slot was now numbered b is gone = sym (filter_all (λ e. not (h
 
 pub dropped_turnover : (slot : ℕ) (was now : Split) (numbered : List (Option NumberedContact)) (b : NumberBook) → AreKeysOnce numbered → IsDropping slot was numbered now b → IsTurnover numbered b.contacts.items b.made.items (gone_of b)
 dropped_turnover slot was now numbered b once is = record {
-  stay = λ y come go. by_contacts y go (contact_at numbered y) refl (contact_at b.contacts.items y) refl;
+  stay = λ y not_added not_removed. by_contacts y not_removed (contact_at numbered y) refl (contact_at b.contacts.items y) refl;
   fresh = λ y h. absurd (none_in y (subst (λ (l : List ℕ). Contains l y) is.made h));
   made = λ y h. absurd (none_in y (subst (λ (l : List ℕ). Contains l y) is.made h));
   there = λ y h. ((is.gone y).0 h).0;
@@ -275,9 +275,9 @@ dropped_turnover slot was now numbered b once is = record {
 }
   where
     by_contacts : (y : ℕ) → (Contains (gone_of b) y → ⊥) → (o : Option NumberedContact) → contact_at numbered y ≡ o → (n : Option NumberedContact) → contact_at b.contacts.items y ≡ n → number_key_at b.contacts.items y ≡ number_key_at numbered y
-    by_contacts y go o old (Some c) new = ap key_of (new ∙ sym (is.kept y c new))
-    by_contacts y go None old None new = ap key_of (new ∙ sym old)
-    by_contacts y go (Some c) old None new = absurd (go ((is.gone y).1 (ap is_some old, new)))
+    by_contacts y not_removed o old (Some c) new = ap key_of (new ∙ sym (is.kept y c new))
+    by_contacts y not_removed None old None new = ap key_of (new ∙ sym old)
+    by_contacts y not_removed (Some c) old None new = absurd (not_removed ((is.gone y).1 (ap is_some old, new)))
 
 -- ---- all of it
 

@@ -120,8 +120,8 @@ pub threads_on : (side : Side) (k : Kept) (e : ContactEnds) → k.firsts ≡ e.f
 threads_on First k e first second = first
 threads_on Second k e first second = second
 
-pub ends_told : (side : Side) (slot : ℕ) (k : Kept) (b : NumberBook) → k.firsts ≡ b.ends.firsts.sets → k.seconds ≡ b.ends.seconds.sets → k.numbered ≡ b.contacts.items → IsBook b → AreEndsAt side k.numbered slot (list_at (numbers_on side k) slot)
-ends_told side slot k b first second same is =
+pub ends_are : (side : Side) (slot : ℕ) (k : Kept) (b : NumberBook) → k.firsts ≡ b.ends.firsts.sets → k.seconds ≡ b.ends.seconds.sets → k.numbered ≡ b.contacts.items → IsBook b → AreEndsAt side k.numbered slot (list_at (numbers_on side k) slot)
+ends_are side slot k b first second same is =
     subst (λ (sets : List (List ℕ)). AreEndsAt side k.numbered slot (list_at sets slot)) (sym (threads_on side k b.ends first second))
     (subst (λ (numbered : List (Option NumberedContact)). AreEndsAt side numbered slot (list_at (ends_on side b.ends).sets slot)) (sym same) (is.ends side slot))
 
@@ -129,8 +129,8 @@ once_on : (e : ContactEnds) (side : Side) (slot : ℕ) → IsOnce e.firsts → I
 once_on e First slot one other = one.once slot
 once_on e Second slot one other = other.once slot
 
-pub once_told : (side : Side) (slot : ℕ) (k : Kept) (e : ContactEnds) → k.firsts ≡ e.firsts.sets → k.seconds ≡ e.seconds.sets → IsOnce e.firsts → IsOnce e.seconds → AreOnce (list_at (numbers_on side k) slot)
-once_told side slot k e first second one other = subst (λ (sets : List (List ℕ)). AreOnce (list_at sets slot)) (sym (threads_on side k e first second)) (once_on e side slot one other)
+pub once_is : (side : Side) (slot : ℕ) (k : Kept) (e : ContactEnds) → k.firsts ≡ e.firsts.sets → k.seconds ≡ e.seconds.sets → IsOnce e.firsts → IsOnce e.seconds → AreOnce (list_at (numbers_on side k) slot)
+once_is side slot k e first second one other = subst (λ (sets : List (List ℕ)). AreOnce (list_at sets slot)) (sym (threads_on side k e first second)) (once_on e side slot one other)
 
 -- ---- a collide by all near pairs
 

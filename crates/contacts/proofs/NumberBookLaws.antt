@@ -214,8 +214,8 @@ pub record IsOneMore (old new : NumberBook) : Type 0 where
   pub made : length new.made.items ≡ length old.made.items + 1
   pub made_room : vec_capacity old.made ≤ vec_capacity new.made
 
-pub room_less : (old new : NumberBook) (come slots : ℕ) → IsOneMore old new → HasRoom (come + 1) slots old → HasRoom come slots new
-room_less old new come slots one r = record {
+pub room_less : (old new : NumberBook) (added slots : ℕ) → IsOneMore old new → HasRoom (added + 1) slots old → HasRoom added slots new
+room_less old new added slots one r = record {
   bound = r.bound;
   few = r.few;
   within = elim (cases_lt 0 (length old.free.items)) [
@@ -230,8 +230,8 @@ room_less old new come slots one r = record {
   made = omega (arith, r.made, one.made, one.made_room);
 }
 
-pub bound_less : (old new : NumberBook) (come : ℕ) → IsOneMore old new → bound_of new come ≤ bound_of old (come + 1)
-bound_less old new come one = elim (cases_lt 0 (length old.free.items)) [
+pub bound_less : (old new : NumberBook) (added : ℕ) → IsOneMore old new → bound_of new added ≤ bound_of old (added + 1)
+bound_less old new added one = elim (cases_lt 0 (length old.free.items)) [
   | inl lt ↦ let same : length new.contacts.items ≡ length old.contacts.items = one.least lt in omega (arith, same, one.count)
   | inr le ↦ omega (arith, one.most, one.count, le)
 ]
@@ -252,7 +252,7 @@ same_book old new same room ended is = record {
     threads First slot = same.ends.firsts.sets slot
     threads Second slot = same.ends.seconds.sets slot
 
--- where a contact has come
+-- where a contact was made
 pub made_book : (c : NumberedContact) (number : ℕ) (old new : NumberBook) → IsGiven c number old.contacts.items new.contacts.items → ((y : ℕ) → number_key_at old.contacts.items y ≢ Some c.key) → IsPut old.ends.firsts.sets new.ends.firsts.sets c.key.first.slot number
     → IsPut old.ends.seconds.sets new.ends.seconds.sets c.key.second.slot number → length new.contacts.items ≤ vec_capacity new.free → AreFree new.contacts.items new.free.items → new.ended ≤ length new.free.items → IsBook old → IsBook new
 made_book c number old new given absent first second room free ended is = record {
@@ -282,7 +282,7 @@ ended_book key number old new now first first_gone second second_gone free room 
     ends First slot = subst (λ (l : List (Option NumberedContact)). AreEndsAt First l slot (list_at new.ends.firsts.sets slot)) (sym now) (over_ends First key number old.contacts.items old.ends.firsts.sets new.ends.firsts.sets first first_gone (is.ends First) slot)
     ends Second slot = subst (λ (l : List (Option NumberedContact)). AreEndsAt Second l slot (list_at new.ends.seconds.sets slot)) (sym now) (over_ends Second key number old.contacts.items old.ends.seconds.sets new.ends.seconds.sets second second_gone (is.ends Second) slot)
 
--- ---- what a contact that comes asks for
+-- ---- what a contact that is made asks for
 
 -- its slots are there
 pub slot_there : (side : Side) (c : NumberedContact) (b : NumberBook) → HasRoomFor (c ∷ []) b → slot_on side c.key < length (ends_on side b.ends).sets
@@ -308,16 +308,16 @@ number_noted side b slots long number r least most lt =
 pub none_absent : (side : Side) (numbered : List (Option NumberedContact)) (sets : List (List ℕ)) (number : ℕ) → ((slot : ℕ) → AreEndsAt side numbered slot (list_at sets slot)) → contact_at numbered number ≡ None → IsAbsent sets number
 none_absent side numbered sets number ends none slot h = none-some slot (sym (slot_of side numbered number None none) ∙ (ends slot number).0 h)
 
--- it has come
-pub has_come : (c : NumberedContact) (number : ℕ) (old new : NumberBook) → IsGiven c number old.contacts.items new.contacts.items → IsOneMore old new → new.made.items ≡ old.made.items ++ number ∷ [] → new.ended ≡ length new.free.items → HasMade c number old new
-has_come c number old new given one made ended = record {
+-- it is made
+pub is_made : (c : NumberedContact) (number : ℕ) (old new : NumberBook) → IsGiven c number old.contacts.items new.contacts.items → IsOneMore old new → new.made.items ≡ old.made.items ++ number ∷ [] → new.ended ≡ length new.free.items → HasMade c number old new
+is_made c number old new given one made ended = record {
   was = given.was;
   now = given.now;
   others = given.others;
   made = made;
   gone = drop_all new.ended new.free.items (omega (arith, ended));
-  room = λ come slots r. room_less old new come slots one r;
-  bound = λ come. bound_less old new come one;
+  room = λ added slots r. room_less old new added slots one r;
+  bound = λ added. bound_less old new added one;
 }
 
 -- ---- both sides

@@ -69,7 +69,7 @@ numbered_alike old new numbered same are = record {
   once = are.once;
 }
 
--- ---- what comes has no number yet
+-- ---- what is made has no number yet
 
 -- the contact that has a number
 record IsOf (contacts : List ContactEntry) (c : NumberedContact) : Type 0 where
@@ -95,23 +95,23 @@ touched_absent keys touching old new key touched absent number e = absent number
 
 -- ---- the parts of a change
 
--- contacts begin and end to touch, some come, and some go
-pub record AreParts (begin end gone : List ContactKey) (made : List NumberedContact) (n0 n1 n2 n3 n4 : List (Option NumberedContact)) (come go : List ℕ) : Type 0 where
+-- contacts begin and end to touch, some are made, and some go
+pub record AreParts (begin end gone : List ContactKey) (made : List NumberedContact) (n0 n1 n2 n3 n4 : List (Option NumberedContact)) (added removed : List ℕ) : Type 0 where
   pub begun : HaveTouched begin true n0 n1
   pub ended : HaveTouched end false n1 n2
-  pub comes : HaveMade made n2 n3 come
-  pub goes : HaveGone gone n3 n4 go
+  pub adds : HaveMade made n2 n3 added
+  pub removes : HaveGone gone n3 n4 removed
   pub once : AreKeysOnce n4
 
 -- the parts as the code does them, told of the lists that it was given
-pub parts_done : (begin end gone : List ContactKey) (made : List NumberedContact) (n0 n1 n2 n3 n4 : List (Option NumberedContact)) (come go : List ℕ) (begin_as end_as gone_as : List ContactKey) (made_as : List NumberedContact) (n0_as : List (Option NumberedContact)) (come_as : List ℕ)
-    → begin_as ≡ begin → end_as ≡ end → gone_as ≡ gone → made_as ≡ made → n0_as ≡ n0 → come ≡ come_as → HaveTouched begin_as true n0_as n1 → HaveTouched end_as false n1 n2 → HaveMade made_as n2 n3 come_as → HaveGone gone_as n3 n4 go → AreKeysOnce n4
-    → AreParts begin end gone made n0 n1 n2 n3 n4 come go
-parts_done begin end gone made n0 n1 n2 n3 n4 come go begin_as end_as gone_as made_as n0_as come_as begin_is end_is gone_is made_is n0_is come_is begun ended comes goes once = record {
+pub parts_done : (begin end gone : List ContactKey) (made : List NumberedContact) (n0 n1 n2 n3 n4 : List (Option NumberedContact)) (added removed : List ℕ) (begin_as end_as gone_as : List ContactKey) (made_as : List NumberedContact) (n0_as : List (Option NumberedContact)) (added_as : List ℕ)
+    → begin_as ≡ begin → end_as ≡ end → gone_as ≡ gone → made_as ≡ made → n0_as ≡ n0 → added ≡ added_as → HaveTouched begin_as true n0_as n1 → HaveTouched end_as false n1 n2 → HaveMade made_as n2 n3 added_as → HaveGone gone_as n3 n4 removed → AreKeysOnce n4
+    → AreParts begin end gone made n0 n1 n2 n3 n4 added removed
+parts_done begin end gone made n0 n1 n2 n3 n4 added removed begin_as end_as gone_as made_as n0_as added_as begin_is end_is gone_is made_is n0_is added_is begun ended adds removes once = record {
   begun = subst (λ (l : List ContactKey). HaveTouched l true n0 n1) begin_is (subst (λ (n : List (Option NumberedContact)). HaveTouched begin_as true n n1) n0_is begun);
   ended = subst (λ (l : List ContactKey). HaveTouched l false n1 n2) end_is ended;
-  comes = subst (λ (l : List NumberedContact). HaveMade l n2 n3 come) made_is (subst (λ (ns : List ℕ). HaveMade made_as n2 n3 ns) (sym come_is) comes);
-  goes = subst (λ (l : List ContactKey). HaveGone l n3 n4 go) gone_is goes;
+  adds = subst (λ (l : List NumberedContact). HaveMade l n2 n3 added) made_is (subst (λ (ns : List ℕ). HaveMade made_as n2 n3 ns) (sym added_is) adds);
+  removes = subst (λ (l : List ContactKey). HaveGone l n3 n4 removed) gone_is removes;
   once = once;
 }
 
@@ -119,8 +119,8 @@ pub nothing_done : (begin end gone : List ContactKey) (made : List NumberedConta
 nothing_done begin end gone made numbered no_begin no_end no_gone no_made once = record {
   begun = subst (λ (l : List ContactKey). HaveTouched l true numbered numbered) (sym no_begin) (touched_nothing true numbered);
   ended = subst (λ (l : List ContactKey). HaveTouched l false numbered numbered) (sym no_end) (touched_nothing false numbered);
-  comes = subst (λ (l : List NumberedContact). HaveMade l numbered numbered []) (sym no_made) (made_nothing numbered);
-  goes = subst (λ (l : List ContactKey). HaveGone l numbered numbered []) (sym no_gone) (gone_nothing numbered);
+  adds = subst (λ (l : List NumberedContact). HaveMade l numbered numbered []) (sym no_made) (made_nothing numbered);
+  removes = subst (λ (l : List ContactKey). HaveGone l numbered numbered []) (sym no_gone) (gone_nothing numbered);
   once = once;
 }
 
@@ -135,13 +135,13 @@ both_keys : (begin end : List ContactKey) (n0 n1 n2 : List (Option NumberedConta
 both_keys begin end n0 n1 n2 number one other = other.keys number ∙ one.keys number
 
 -- a contact goes on, if its key isn't one of those that go
-goes_on : (gone : List ContactKey) (n3 n4 : List (Option NumberedContact)) (go : List ℕ) (number : ℕ) (c : NumberedContact) → HaveGone gone n3 n4 go → contact_at n4 number ≡ Some c → (contact_at n3 number ≡ Some c) × (Contains gone c.key → ⊥)
-goes_on gone n3 n4 go number c goes at = elim (cases_contact (contact_at n3 number)) [
-  | inl none ↦ absurd (none-some c (sym (goes.none number none) ∙ at))
+goes_on : (gone : List ContactKey) (n3 n4 : List (Option NumberedContact)) (removed : List ℕ) (number : ℕ) (c : NumberedContact) → HaveGone gone n3 n4 removed → contact_at n4 number ≡ Some c → (contact_at n3 number ≡ Some c) × (Contains gone c.key → ⊥)
+goes_on gone n3 n4 removed number c removes at = elim (cases_contact (contact_at n3 number)) [
+  | inl none ↦ absurd (none-some c (sym (removes.none number none) ∙ at))
   | inr some ↦ elim (cases_named gone some.0.key) [
-    | inl named ↦ absurd (none-some c (sym (goes.over number some.0 some.1 named) ∙ at))
+    | inl named ↦ absurd (none-some c (sym (removes.over number some.0 some.1 named) ∙ at))
     | inr not_named ↦
-        let same : some.0 ≡ c = same_Some some.0 c (sym (goes.others number some.0 some.1 not_named) ∙ at) in
+        let same : some.0 ≡ c = same_Some some.0 c (sym (removes.others number some.0 some.1 not_named) ∙ at) in
         (some.1 ∙ ap (λ (x : NumberedContact). Some x) same, λ h. not_named (subst (λ (x : NumberedContact). Contains gone x.key) (sym same) h))
   ]
 ]
@@ -188,22 +188,22 @@ record IsNumbered (numbered : List (Option NumberedContact)) (c : NumberedContac
   number : ℕ
   at : contact_at numbered number ≡ Some c
 
-has_number : (old new : List ContactEntry) (made : List NumberedContact) (gone begin end : List ContactKey) (n0 n1 n2 n3 n4 : List (Option NumberedContact)) (come go : List ℕ) (f : ContactEntry)
-    → AreNumbered old n0 → IsChange old new made gone begin end → AreParts begin end gone made n0 n1 n2 n3 n4 come go → Contains new f → IsNumbered n4 (numbered_of f)
-has_number old new made gone begin end n0 n1 n2 n3 n4 come go f are change parts there = elim (change.all f there) [
+has_number : (old new : List ContactEntry) (made : List NumberedContact) (gone begin end : List ContactKey) (n0 n1 n2 n3 n4 : List (Option NumberedContact)) (added removed : List ℕ) (f : ContactEntry)
+    → AreNumbered old n0 → IsChange old new made gone begin end → AreParts begin end gone made n0 n1 n2 n3 n4 added removed → Contains new f → IsNumbered n4 (numbered_of f)
+has_number old new made gone begin end n0 n1 n2 n3 n4 added removed f are change parts there = elim (change.all f there) [
   | inl new_one ↦
-      let at : (number : ℕ) × (contact_at n3 number ≡ Some (numbered_of f)) = number_of_contact n3 (numbered_of f) (parts.comes.all (numbered_of f) new_one) in
-      record { number = at.0; at = parts.goes.others at.0 (numbered_of f) at.1 (λ h. change.go f there h) }
+      let at : (number : ℕ) × (contact_at n3 number ≡ Some (numbered_of f)) = number_of_contact n3 (numbered_of f) (parts.adds.all (numbered_of f) new_one) in
+      record { number = at.0; at = parts.removes.others at.0 (numbered_of f) at.1 (λ h. change.removed f there h) }
   | inr was ↦
       let at : (number : ℕ) × (contact_at n0 number ≡ Some (numbered_of was.entry)) = number_of_contact n0 (numbered_of was.entry) (are.all was.entry was.there) in
       let now : contact_at n2 at.0 ≡ Some (numbered_of f) = touching_now old new made gone begin end n0 n1 n2 at.0 was.entry f (touches was.entry.contact) (touches f.contact) refl refl change parts.begun parts.ended was.there there (sym was.has) at.1 in
-      record { number = at.0; at = parts.goes.others at.0 (numbered_of f) (parts.comes.kept at.0 (numbered_of f) now) (λ h. change.go f there h) }
+      record { number = at.0; at = parts.removes.others at.0 (numbered_of f) (parts.adds.kept at.0 (numbered_of f) now) (λ h. change.removed f there h) }
 ]
 
-pub change_numbered : (old new : List ContactEntry) (made : List NumberedContact) (gone begin end : List ContactKey) (n0 n1 n2 n3 n4 : List (Option NumberedContact)) (come go : List ℕ)
-    → AreNumbered old n0 → IsChange old new made gone begin end → AreParts begin end gone made n0 n1 n2 n3 n4 come go → AreNumbered new n4
-change_numbered old new made gone begin end n0 n1 n2 n3 n4 come go are change parts = record {
-  all = λ f there. let is : IsNumbered n4 (numbered_of f) = has_number old new made gone begin end n0 n1 n2 n3 n4 come go f are change parts there in contact_in n4 is.number (numbered_of f) is.at;
+pub change_numbered : (old new : List ContactEntry) (made : List NumberedContact) (gone begin end : List ContactKey) (n0 n1 n2 n3 n4 : List (Option NumberedContact)) (added removed : List ℕ)
+    → AreNumbered old n0 → IsChange old new made gone begin end → AreParts begin end gone made n0 n1 n2 n3 n4 added removed → AreNumbered new n4
+change_numbered old new made gone begin end n0 n1 n2 n3 n4 added removed are change parts = record {
+  all = λ f there. let is : IsNumbered n4 (numbered_of f) = has_number old new made gone begin end n0 n1 n2 n3 n4 added removed f are change parts there in contact_in n4 is.number (numbered_of f) is.at;
   only = only;
   once = parts.once;
 }
@@ -212,7 +212,7 @@ change_numbered old new made gone begin end n0 n1 n2 n3 n4 come go are change pa
     still number c e at not_named there has = elim (change.stay e there) [
       | inl over ↦ absurd (not_named (subst (λ (k : ContactKey). Contains gone k) has over))
       | inr now ↦
-          let is : IsNumbered n4 (numbered_of now.entry) = has_number old new made gone begin end n0 n1 n2 n3 n4 come go now.entry are change parts now.there in
+          let is : IsNumbered n4 (numbered_of now.entry) = has_number old new made gone begin end n0 n1 n2 n3 n4 added removed now.entry are change parts now.there in
           let same : is.number ≡ number = parts.once is.number number c.key (key_at n4 is.number (numbered_of now.entry) is.at ∙ ap (λ (k : ContactKey). Some k) (now.has ∙ has)) (key_at n4 number c at) in
           let one : numbered_of now.entry ≡ c = same_Some (numbered_of now.entry) c (sym is.at ∙ ap (λ (k : ℕ). contact_at n4 k) same ∙ at) in
           subst (λ (x : NumberedContact). Contains (map numbered_of new) x) one (in_map numbered_of new now.entry now.there)
@@ -220,29 +220,29 @@ change_numbered old new made gone begin end n0 n1 n2 n3 n4 come go are change pa
 
     only : (number : ℕ) (c : NumberedContact) → contact_at n4 number ≡ Some c → Contains (map numbered_of new) c
     only number c at =
-        let back : (contact_at n3 number ≡ Some c) × (Contains gone c.key → ⊥) = goes_on gone n3 n4 go number c parts.goes at in
+        let back : (contact_at n3 number ≡ Some c) × (Contains gone c.key → ⊥) = goes_on gone n3 n4 removed number c parts.removes at in
         elim (cases_contact (contact_at n2 number)) [
-          | inl none ↦ change.come c (parts.comes.only number c none back.0)
+          | inl none ↦ change.added c (parts.adds.only number c none back.0)
           | inr some ↦
-              let same : some.0 ≡ c = same_Some some.0 c (sym (parts.comes.kept number some.0 some.1) ∙ back.0) in
+              let same : some.0 ≡ c = same_Some some.0 c (sym (parts.adds.kept number some.0 some.1) ∙ back.0) in
               let was : IsKeyed n0 number some.0.key = keyed n0 number some.0.key (sym (both_keys begin end n0 n1 n2 number parts.begun parts.ended) ∙ key_at n2 number some.0 some.1) in
               let of : IsOf old was.contact = entry_of old n0 number was.contact are was.at in
               still number c of.entry at back.1 of.there (of.has ∙ was.has ∙ ap (λ (x : NumberedContact). x.key) same)
         ]
 
-pub change_turnover : (old new : List ContactEntry) (made : List NumberedContact) (gone begin end : List ContactKey) (n0 n1 n2 n3 n4 : List (Option NumberedContact)) (come go : List ℕ)
-    → IsChange old new made gone begin end → AreParts begin end gone made n0 n1 n2 n3 n4 come go → IsTurnover n0 n4 come go
-change_turnover old new made gone begin end n0 n1 n2 n3 n4 come go change parts = record {
+pub change_turnover : (old new : List ContactEntry) (made : List NumberedContact) (gone begin end : List ContactKey) (n0 n1 n2 n3 n4 : List (Option NumberedContact)) (added removed : List ℕ)
+    → IsChange old new made gone begin end → AreParts begin end gone made n0 n1 n2 n3 n4 added removed → IsTurnover n0 n4 added removed
+change_turnover old new made gone begin end n0 n1 n2 n3 n4 added removed change parts = record {
   stay = stay;
-  fresh = λ number h. no_contact_at n0 number (sym (keys number) ∙ no_key_at n2 number ((parts.comes.made number).0 h).0);
+  fresh = λ number h. no_contact_at n0 number (sym (keys number) ∙ no_key_at n2 number ((parts.adds.made number).0 h).0);
   made = made_stays;
   there = λ number h. elim (cases_contact (contact_at n2 number)) [
     | inl none ↦
-        let was = (parts.goes.gone number).0 h in
-        absurd (not_both (contact_at n4 number) was.1 (made_stays number ((parts.comes.made number).1 (none, was.0))))
+        let was = (parts.removes.gone number).0 h in
+        absurd (not_both (contact_at n4 number) was.1 (made_stays number ((parts.adds.made number).1 (none, was.0))))
     | inr some ↦ let was : IsKeyed n0 number some.0.key = keyed n0 number some.0.key (sym (keys number) ∙ key_at n2 number some.0 some.1) in some_at n0 number was.contact was.at
   ];
-  gone = λ number h. ((parts.goes.gone number).0 h).1;
+  gone = λ number h. ((parts.removes.gone number).0 h).1;
   same = same;
 }
   where
@@ -252,10 +252,10 @@ change_turnover old new made gone begin end n0 n1 n2 n3 n4 come go change parts 
     -- a key that is there in the end isn't among those that go
     left : (number : ℕ) (c : NumberedContact) → contact_at n4 number ≡ Some c → Contains gone c.key → ⊥
     left number c at went = elim (cases_contact (contact_at n3 number)) [
-      | inl none ↦ not_both (contact_at n4 number) (parts.goes.none number none) (some_at n4 number c at)
+      | inl none ↦ not_both (contact_at n4 number) (parts.removes.none number none) (some_at n4 number c at)
       | inr some ↦ elim (cases_named gone some.0.key) [
-        | inl named ↦ not_both (contact_at n4 number) (parts.goes.over number some.0 some.1 named) (some_at n4 number c at)
-        | inr off ↦ off (subst (λ (x : NumberedContact). Contains gone x.key) (same_Some c some.0 (sym at ∙ parts.goes.others number some.0 some.1 off)) went)
+        | inl named ↦ not_both (contact_at n4 number) (parts.removes.over number some.0 some.1 named) (some_at n4 number c at)
+        | inr off ↦ off (subst (λ (x : NumberedContact). Contains gone x.key) (same_Some c some.0 (sym at ∙ parts.removes.others number some.0 some.1 off)) went)
       ]
     ]
 
@@ -263,30 +263,30 @@ change_turnover old new made gone begin end n0 n1 n2 n3 n4 come go change parts 
     same a b key was now =
         let before : IsKeyed n2 a key = keyed n2 a key (keys a ∙ was) in
         let after : IsKeyed n4 b key = keyed n4 b key now in
-        let stays : contact_at n4 a ≡ Some before.contact = parts.goes.others a before.contact (parts.comes.kept a before.contact before.at) (λ went. left b after.contact after.at (subst (Contains gone) (before.has ∙ sym after.has) went)) in
+        let stays : contact_at n4 a ≡ Some before.contact = parts.removes.others a before.contact (parts.adds.kept a before.contact before.at) (λ went. left b after.contact after.at (subst (Contains gone) (before.has ∙ sym after.has) went)) in
         parts.once a b key (key_at n4 a before.contact stays ∙ ap Some before.has) now
 
-    -- what has come doesn't go
-    made_stays : (number : ℕ) → Contains come number → is_some (contact_at n4 number) ≡ true
+    -- what is made doesn't go
+    made_stays : (number : ℕ) → Contains added number → is_some (contact_at n4 number) ≡ true
     made_stays number h =
-        let is = (parts.comes.made number).0 h in
+        let is = (parts.adds.made number).0 h in
         elim (cases_contact (contact_at n3 number)) [
           | inl none ↦ absurd (not_both (contact_at n3 number) none is.1)
           | inr some ↦
-              let image : IsImage numbered_of new some.0 = from_map numbered_of new some.0 (change.come some.0 (parts.comes.only number some.0 is.0 some.1)) in
-              some_at n4 number some.0 (parts.goes.others number some.0 some.1 (λ k. change.go image.of image.there (subst (λ (x : NumberedContact). Contains gone x.key) (sym image.is) k)))
+              let image : IsImage numbered_of new some.0 = from_map numbered_of new some.0 (change.added some.0 (parts.adds.only number some.0 is.0 some.1)) in
+              some_at n4 number some.0 (parts.removes.others number some.0 some.1 (λ k. change.removed image.of image.there (subst (λ (x : NumberedContact). Contains gone x.key) (sym image.is) k)))
         ]
 
-    stay : (number : ℕ) → (Contains come number → ⊥) → (Contains go number → ⊥) → number_key_at n4 number ≡ number_key_at n0 number
-    stay number not_come not_gone = elim (cases_contact (contact_at n2 number)) [
+    stay : (number : ℕ) → (Contains added number → ⊥) → (Contains removed number → ⊥) → number_key_at n4 number ≡ number_key_at n0 number
+    stay number not_added not_gone = elim (cases_contact (contact_at n2 number)) [
       | inl none ↦ elim (cases_contact (contact_at n3 number)) [
-        | inl still ↦ no_key_at n4 number (parts.goes.none number still) ∙ sym (no_key_at n2 number none) ∙ keys number
-        | inr some ↦ absurd (not_come ((parts.comes.made number).1 (none, some_at n3 number some.0 some.1)))
+        | inl still ↦ no_key_at n4 number (parts.removes.none number still) ∙ sym (no_key_at n2 number none) ∙ keys number
+        | inr some ↦ absurd (not_added ((parts.adds.made number).1 (none, some_at n3 number some.0 some.1)))
       ]
       | inr some ↦
-          let kept : contact_at n3 number ≡ Some some.0 = parts.comes.kept number some.0 some.1 in
+          let kept : contact_at n3 number ≡ Some some.0 = parts.adds.kept number some.0 some.1 in
           elim (cases_named gone some.0.key) [
-            | inl named ↦ absurd (not_gone ((parts.goes.gone number).1 (some_at n3 number some.0 kept, parts.goes.over number some.0 kept named)))
-            | inr other ↦ key_at n4 number some.0 (parts.goes.others number some.0 kept other) ∙ sym (key_at n2 number some.0 some.1) ∙ keys number
+            | inl named ↦ absurd (not_gone ((parts.removes.gone number).1 (some_at n3 number some.0 kept, parts.removes.over number some.0 kept named)))
+            | inr other ↦ key_at n4 number some.0 (parts.removes.others number some.0 kept other) ∙ sym (key_at n2 number some.0 some.1) ∙ keys number
           ]
     ]

@@ -208,7 +208,7 @@ same_keys_book old new keys long free ends room ended is = record {
     slot_same : (side : Side) (number : ℕ) → slot_at side new.contacts.items number ≡ slot_at side old.contacts.items number
     slot_same side number = ap (λ (o : Option ContactKey). option_map (slot_on side) o) (keys number)
 
--- ---- some come
+-- ---- some are made
 
 pub made_nothing : (numbered : List (Option NumberedContact)) → HaveMade [] numbered numbered []
 made_nothing numbered = record {
@@ -320,7 +320,7 @@ gone_more key keys number old mid numbers before has once = record {
       | inr some ↦ some_at old number some.0 some.1
     ]
 
--- ---- none of those that are still to come has a number
+-- ---- none of those that are still to be made has a number
 
 keys_apart : (cs : List NumberedContact) (p q : ℕ) (a b : NumberedContact) → AreRising (map (λ c. c.key) cs) → slice_get cs p ≡ Some a → slice_get cs q ≡ Some b → p < q → a.key ≢ b.key
 keys_apart cs p q a b rising first second lt e =
@@ -367,8 +367,8 @@ absent_still cs place c old now numbers rising absent at made number e =
 -- ---- room
 
 -- room for some is room for fewer
-pub room_fewer : (b : NumberBook) (come fewer slots : ℕ) → fewer ≤ come → HasRoom come slots b → HasRoom fewer slots b
-room_fewer b come fewer slots le r = record {
+pub room_fewer : (b : NumberBook) (added fewer slots : ℕ) → fewer ≤ added → HasRoom added slots b → HasRoom fewer slots b
+room_fewer b added fewer slots le r = record {
   bound = r.bound;
   few = r.few;
   within = r.within;
@@ -385,11 +385,11 @@ room_fewer b come fewer slots le r = record {
 pub drop_back : (keys : List ContactKey) (left less : ℕ) (d : ContactKey) → left ≡ less + 1 → less < length keys → drop less keys ≡ get_or keys less d ∷ drop left keys
 drop_back keys left less d e lt = drop_more keys less d lt ∙ ap (λ (n : ℕ). get_or keys less d ∷ drop n keys) (sym e)
 
--- ---- one contact after the other comes
+-- ---- one contact after the other is made
 
-pub can_come : (cs : List NumberedContact) (place : ℕ) (d : NumberedContact) (old now : NumberBook) (numbers : List ℕ) → CanMakeAll cs old → place < length cs → HaveMade (take place cs) old.contacts.items now.contacts.items numbers
+pub can_make : (cs : List NumberedContact) (place : ℕ) (d : NumberedContact) (old now : NumberBook) (numbers : List ℕ) → CanMakeAll cs old → place < length cs → HaveMade (take place cs) old.contacts.items now.contacts.items numbers
     → ((slots : ℕ) → HasRoom (length cs) slots old → HasRoom (length cs - place) slots now) → CanMake (get_or cs place d) now
-can_come cs place d old now numbers can lt made room =
+can_make cs place d old now numbers can lt made room =
     let c : NumberedContact = get_or cs place d in
     record {
       room = record {

@@ -79,11 +79,11 @@ place_pushed es c hint wanted r old new rising first item has is = λ p. (
   λ h. elim h [ inl a ↦ subst (λ (l : List ℕ). Contains l p) (sym is) (Contains-append_left old (cond wanted (hint ∷ []) []) p a) | inr b ↦ back p b ],
 )
   where
-    told : option_map (λ (e : ContactEntry). e.key) (option_copied r) ≡ slice_get (keys_of es) hint
-    told = ap (option_map (λ (e : ContactEntry). e.key)) (item_there es hint r item) ∙ sym (keys_get es hint)
+    key_is : option_map (λ (e : ContactEntry). e.key) (option_copied r) ≡ slice_get (keys_of es) hint
+    key_is = ap (option_map (λ (e : ContactEntry). e.key)) (item_there es hint r item) ∙ sym (keys_get es hint)
 
     from : (p : ℕ) (t : Bool) → wanted ≡ t → Contains (old ++ cond t (hint ∷ []) []) p → Contains old p ⊎ IsPlaceOf es (Some c) p
-    from p true w h = elim (Contains-push_cases old hint p h) [ inl a ↦ inl a | inr same ↦ inr (subst (λ (k : ℕ). slice_get (keys_of es) k ≡ Some c.key) same (sym told ∙ has.0 w)) ]
+    from p true w h = elim (Contains-push_cases old hint p h) [ inl a ↦ inl a | inr same ↦ inr (subst (λ (k : ℕ). slice_get (keys_of es) k ≡ Some c.key) same (sym key_is ∙ has.0 w)) ]
     from p false w h = inl (subst (λ (l : List ℕ). Contains l p) (append-nil old) h)
 
     back : (p : ℕ) → IsPlaceOf es (Some c) p → Contains new p
@@ -91,7 +91,7 @@ place_pushed es c hint wanted r old new rising first item has is = λ p. (
         let e : IsEntryAt es p c.key = entry_with_key es p c.key there in
         let same : p ≡ hint = first_there es (key_number c.key) hint p e.entry rising first e.there (ap key_number e.has) in
         let key : slice_get (keys_of es) hint ≡ Some c.key = subst (λ (k : ℕ). slice_get (keys_of es) k ≡ Some c.key) same there in
-        let w : wanted ≡ true = has.1 (told ∙ key) in
+        let w : wanted ≡ true = has.1 (key_is ∙ key) in
         let all : new ≡ old ++ hint ∷ [] = is ∙ ap (λ (t : Bool). old ++ cond t (hint ∷ []) []) w in
         subst (λ (l : List ℕ). Contains l p) (sym all) (subst (λ (k : ℕ). Contains (old ++ hint ∷ []) k) (sym same) (Contains-push old hint))
 

@@ -27,10 +27,10 @@ use Rattle.contacts.proofs.SurveyLaws.{IsFound, IsWalking, all_found, found_step
 
 -- ---- one contact
 
-same_beside : (e : ContactEntry) (o r : Option Proxy) → record e { contact = (again_of e o r).contact } ≡ again_of e o r
-same_beside e None r = refl
-same_beside e (Some p) None = refl
-same_beside e (Some p) (Some q) = refl
+same_contact : (e : ContactEntry) (o r : Option Proxy) → record e { contact = (again_of e o r).contact } ≡ again_of e o r
+same_contact e None r = refl
+same_contact e (Some p) None = refl
+same_contact e (Some p) (Some q) = refl
 
 fate_by : (t u : Bool) (e f : ContactEntry) → record e { contact = f.contact } ≡ f → (u ≡ false → f ≡ e) → after_fate e (cond t (cond u (Renewed f.contact) Stays) Goes) ≡ cond t (Some f) None
 fate_by true true e f same still = ap (λ (x : ContactEntry). Some x) same
@@ -38,7 +38,7 @@ fate_by true false e f same still = ap (λ (x : ContactEntry). Some x) (sym (sti
 fate_by false u e f same still = refl
 
 pub fate_is_outcome : (moved : ℕ → Bool) (pairs : List BodyPair) (ps : List Proxy) (e : ContactEntry) → after_fate e (fate_of moved pairs ps e) ≡ outcome moved pairs ps e
-fate_is_outcome moved pairs ps e = fate_by (stays moved pairs ps e) (one_stirs_of ps e.key) e (again ps e) (same_beside e (found ps (id_number e.key.first)) (found ps (id_number e.key.second))) (still_again ps e)
+fate_is_outcome moved pairs ps e = fate_by (stays moved pairs ps e) (one_stirs_of ps e.key) e (again ps e) (same_contact e (found ps (id_number e.key.first)) (found ps (id_number e.key.second))) (still_again ps e)
 
 is_fate : (moved : ℕ → Bool) (pairs : List BodyPair) (ps : List Proxy) (o : Option ContactEntry) → IsFate moved pairs ps o (fate_if moved pairs ps o)
 is_fate moved pairs ps None = refl

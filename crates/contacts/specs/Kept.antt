@@ -37,7 +37,7 @@ numbers_on First k = k.firsts
 numbers_on Second k = k.seconds
 
 -- what the fields of a `ContactTable` hold: the places in the long list of those contacts of which a body may stir, and
--- what can be carried out; each contact has a number, and there is room for those that come
+-- what can be carried out; each contact has a number, and there is room for those that are made
 pub record IsKeptContacts (a : Inside) : Type 0 where
   pub held : AreHeld a.state.memory.stirring a.contacts
   pub pending : IsPendingUpdate a.state.pending a.contacts

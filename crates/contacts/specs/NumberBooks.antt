@@ -30,23 +30,23 @@ pub record IsBook (b : NumberBook) : Type 0 where
 abbrev pub gone_of : NumberBook → List ℕ
 gone_of b = drop b.ended b.free.items
 
--- below which number all contacts have theirs once so many more have come
+-- below which number all contacts have theirs once so many more are made
 abbrev pub bound_of : NumberBook → ℕ → ℕ
-bound_of b come = length b.contacts.items + (come - length b.free.items)
+bound_of b added = length b.contacts.items + (added - length b.free.items)
 
 -- ---- room
 
 -- there is room for so many contacts more, of bodies in slots below a number
-pub record HasRoom (come slots : ℕ) (b : NumberBook) : Type 0 where
+pub record HasRoom (added slots : ℕ) (b : NumberBook) : Type 0 where
   pub bound : ℕ
   pub few : bound ≤ MAX_CONTACTS
   pub within : length b.contacts.items ≤ bound
-  pub left : come + length b.contacts.items ≤ bound + length b.free.items
+  pub left : added + length b.contacts.items ≤ bound + length b.free.items
   pub contacts : bound ≤ vec_capacity b.contacts
   pub free : bound ≤ vec_capacity b.free
   pub noted : (side : Side) → bound ≤ (ends_on side b.ends).ids
   pub there : (side : Side) → slots ≤ length (ends_on side b.ends).sets
-  pub made : come + length b.made.items ≤ vec_capacity b.made
+  pub made : added + length b.made.items ≤ vec_capacity b.made
 
 -- the bodies of all of these contacts are in slots below a number
 abbrev pub AreSlotsBelow : ℕ → List NumberedContact → Type 0
@@ -64,13 +64,13 @@ pub record KeepBook (old new : NumberBook) : Type 0 where
   pub free : new.free.items ≡ old.free.items
   pub ends : KeepEnds old.ends new.ends
 
--- ---- a contact comes, and one goes
+-- ---- a contact is made, and one goes
 
 -- no contact has the key
 abbrev pub IsNoKey : ContactKey → NumberBook → Type 0
 IsNoKey key b = (number : ℕ) → number_key_at b.contacts.items number ≢ Some key
 
--- a contact can come
+-- a contact can be made
 pub record CanMake (contact : NumberedContact) (b : NumberBook) : Type 0 where
   pub room : HasRoomFor (contact ∷ []) b
   pub absent : IsNoKey contact.key b
@@ -82,8 +82,8 @@ pub record HasMade (contact : NumberedContact) (number : ℕ) (old new : NumberB
   pub others : (other : ℕ) → other ≢ number → contact_at new.contacts.items other ≡ contact_at old.contacts.items other
   pub made : new.made.items ≡ old.made.items ++ number ∷ []
   pub gone : gone_of new ≡ []
-  pub room : (come slots : ℕ) → HasRoom (come + 1) slots old → HasRoom come slots new
-  pub bound : (come : ℕ) → bound_of new come ≤ bound_of old (come + 1)
+  pub room : (added slots : ℕ) → HasRoom (added + 1) slots old → HasRoom added slots new
+  pub bound : (added : ℕ) → bound_of new added ≤ bound_of old (added + 1)
 
 -- its number is free
 pub record HasEnded (number : ℕ) (old new : NumberBook) : Type 0 where

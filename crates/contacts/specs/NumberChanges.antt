@@ -38,9 +38,9 @@ pub record HaveGone (named : List ContactKey) (old new : List (Option NumberedCo
   pub long : length new ≡ length old
   pub gone : (number : ℕ) → Contains numbers number ↔ ((is_some (contact_at old number) ≡ true) × (contact_at new number ≡ None))
 
--- ---- what can come
+-- ---- what can be made
 
--- these contacts can come: there is room for them, no two have one key, and no contact has theirs
+-- these contacts can be made: there is room for them, no two have one key, and no contact has theirs
 pub record CanMakeAll (contacts : List NumberedContact) (b : NumberBook) : Type 0 where
   pub room : HasRoomFor contacts b
   pub rising : AreRising (map (λ c. c.key) contacts)
@@ -54,11 +54,11 @@ pub record IsThere (contacts : List ContactEntry) (key : ContactKey) : Type 0 wh
   pub there : Contains contacts entry
   pub has : entry.key ≡ key
 
--- The contacts become others: which come, and the keys of those that go, that begin to touch, and that end.
+-- The contacts become others: which are made, and the keys of those that go, that begin to touch, and that end.
 pub record IsChange (old new : List ContactEntry) (made : List NumberedContact) (gone begin end : List ContactKey) : Type 0 where
-  pub come : (c : NumberedContact) → Contains made c → Contains (map numbered_of new) c
+  pub added : (c : NumberedContact) → Contains made c → Contains (map numbered_of new) c
   pub fresh : (c : NumberedContact) (e : ContactEntry) → Contains made c → Contains old e → e.key ≡ c.key → ⊥
-  pub go : (f : ContactEntry) → Contains new f → Contains gone f.key → ⊥
+  pub removed : (f : ContactEntry) → Contains new f → Contains gone f.key → ⊥
   pub stay : (e : ContactEntry) → Contains old e → Contains gone e.key ⊎ IsThere new e.key
   pub all : (f : ContactEntry) → Contains new f → Contains made (numbered_of f) ⊎ IsThere old f.key
   pub begins : (e f : ContactEntry) → Contains old e → Contains new f → f.key ≡ e.key → touches f.contact ≡ true → touches e.contact ≡ false → Contains begin e.key

@@ -41,12 +41,12 @@ pub record AreNumbered (contacts : List ContactEntry) (numbered : List (Option N
 -- Once a change is carried out: what it made has numbers that no contact had, what it ended leaves its numbers, and
 -- each other number has the contact with the key that it had. Who is there before and after it has the number that it
 -- had.
-pub record IsTurnover (old new : List (Option NumberedContact)) (come go : List ℕ) : Type 0 where
-  pub stay : (number : ℕ) → (Contains come number → ⊥) → (Contains go number → ⊥) → number_key_at new number ≡ number_key_at old number
-  pub fresh : (number : ℕ) → Contains come number → contact_at old number ≡ None
-  pub made : (number : ℕ) → Contains come number → is_some (contact_at new number) ≡ true
-  pub there : (number : ℕ) → Contains go number → is_some (contact_at old number) ≡ true
-  pub gone : (number : ℕ) → Contains go number → contact_at new number ≡ None
+pub record IsTurnover (old new : List (Option NumberedContact)) (added removed : List ℕ) : Type 0 where
+  pub stay : (number : ℕ) → (Contains added number → ⊥) → (Contains removed number → ⊥) → number_key_at new number ≡ number_key_at old number
+  pub fresh : (number : ℕ) → Contains added number → contact_at old number ≡ None
+  pub made : (number : ℕ) → Contains added number → is_some (contact_at new number) ≡ true
+  pub there : (number : ℕ) → Contains removed number → is_some (contact_at old number) ≡ true
+  pub gone : (number : ℕ) → Contains removed number → contact_at new number ≡ None
   pub same : (a b : ℕ) (key : ContactKey) → number_key_at old a ≡ Some key → number_key_at new b ≡ Some key → a ≡ b
 
 -- these are the numbers of the contacts that have the body in a slot on one side

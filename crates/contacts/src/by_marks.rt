@@ -55,7 +55,7 @@ fn find_fresh<S: ShapesById, F: ForbiddenPairs>(
     fresh_of_marked(alloc, &mut memory.numbers, collide, contacts)
 }
 
-/// What a look over the long list found, and the contacts that come, become pending.
+/// What a look over the long list found, and the contacts that are made, become pending.
 fn make_of_looks<S: ShapesById, F: ForbiddenPairs>(
     pending: &mut PendingUpdate,
     found: &mut Looked,

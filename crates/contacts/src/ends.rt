@@ -1,8 +1,8 @@
 //! Which contacts are a body's: by body the numbers of the contacts whose first body it is, and of those whose second
 //! one it is.
 //!
-//! As with Box2D's contact edges, a contact is in a thread of its first body and in one of its second, and comes and
-//! goes in constant time. Room for a contact is room in both, whatever its bodies are.
+//! As with Box2D's contact edges, a contact is in a thread of its first body and in one of its second, and is
+//! put into them and taken out in constant time. Room for a contact is room in both, whatever its bodies are.
 
 ghost use Rattle.std.specs.Prelude.{◌≡◌, ◌<◌, ◌≤◌, ◌∷◌, ◌++◌, ℕ, [], List, Contains, OnErr, OnOk, length, slice_get};
 ghost use Rattle.std.specs.Result.{IsOkUnless};
@@ -98,7 +98,7 @@ impl ContactEnds {
         }
     }
 
-    /// A contact comes, with a number that no contact has.
+    /// A contact is made, with a number that no contact has.
     pub fn put(&mut self, key: ContactKey, number: u32)
         requires first { key.first.slot < length self.old.firsts.sets }
         requires second { key.second.slot < length self.old.seconds.sets }

@@ -66,7 +66,7 @@ fn make_pending<
     make_by_marks(mapper, state, shapes, forbidden, contacts, numbers)
 }
 
-/// The same, with room for the numbers of those that come.
+/// The same, with room for the numbers of those that are made.
 fn make_with_room<
     S: ShapesById + Drop,
     F: ForbiddenPairs + Drop,

@@ -1,5 +1,5 @@
-//! What a collide does to the numbers of contacts, noted until it is carried out: which contacts come, and the keys of
-//! those that go, that begin to touch, and that end.
+//! What a collide does to the numbers of contacts, noted until it is carried out: which contacts are made, and the keys
+//! of those that go, that begin to touch, and that end.
 
 ghost use Rattle.std.specs.Prelude.{◌≡◌, ◌++◌, OnOk, map, option_map, slice_get};
 ghost use Rattle.std.specs.List.{filter_map};
@@ -26,7 +26,7 @@ fn numbered(entry: &ContactEntry) -> NumberedContact
     }
 }
 
-/// Notes that these contacts come, and no others.
+/// Notes that these contacts are made, and no others.
 pub(crate) fn note_fresh(
     made: &mut Vec<NumberedContact>,
     entries: &[ContactEntry],
@@ -55,7 +55,7 @@ fn push_numbered(
     Ok(())
 }
 
-/// Notes which contacts come: those that have these keys, and no others.
+/// Notes which contacts are made: those that have these keys, and no others.
 pub(crate) fn note_made(
     made: &mut Vec<NumberedContact>,
     entries: &[ContactEntry],

@@ -275,7 +275,7 @@ impl NumberBook {
         &self.free[self.ended..]
     }
 
-    // ---- a change: first some begin and end to touch, then some come, and then some go
+    // ---- a change: first some begin and end to touch, then some are made, and then some end
 
     /// A change begins that hasn't made or ended a contact yet.
     pub fn begin(&mut self)
@@ -284,23 +284,23 @@ impl NumberBook {
         ensures made { self.new.made.items ≡ [] }
         ensures gone { gone_of self.new ≡ [] }
         ensures book { IsBook self.new }
-        ensures room { (come slots : ℕ) → HasRoom come slots self.old → HasRoom come slots self.new }
+        ensures room { (added slots : ℕ) → HasRoom added slots self.old → HasRoom added slots self.new }
     {
         self.made.clear();
         self.ended = self.free.len();
     }
 
     /// The contact with a key, if there is one, touches or doesn't. Answers a guess at the number of the contact with
-    /// the next lower key: those of a body that came together are one behind the other in its thread, the highest key
+    /// the next lower key: those of a body that were made together are one behind the other in its thread, the highest key
     /// first.
     fn set_touching(&mut self, guess: Option<u32>, key: ContactKey, touching: bool) -> Option<u32>
         requires { IsBook self.old }
         ensures touched { HaveTouched (key ∷ []) touching self.old.contacts.items self.new.contacts.items }
         ensures made { self.new.made.items ≡ self.old.made.items }
         ensures gone { gone_of self.new ≡ gone_of self.old }
-        ensures bound { (come : ℕ) → bound_of self.new come ≡ bound_of self.old come }
+        ensures bound { (added : ℕ) → bound_of self.new added ≡ bound_of self.old added }
         ensures book { IsBook self.new }
-        ensures room { (come slots : ℕ) → HasRoom come slots self.old → HasRoom come slots self.new }
+        ensures room { (added slots : ℕ) → HasRoom added slots self.old → HasRoom added slots self.new }
     {
         match self.number_by_guess(guess, key) {
             None => guess,
@@ -317,9 +317,9 @@ impl NumberBook {
         ensures touched { HaveTouched keys.now touching self.old.contacts.items self.new.contacts.items }
         ensures made { self.new.made.items ≡ self.old.made.items }
         ensures gone { gone_of self.new ≡ gone_of self.old }
-        ensures bound { (come : ℕ) → bound_of self.new come ≡ bound_of self.old come }
+        ensures bound { (added : ℕ) → bound_of self.new added ≡ bound_of self.old added }
         ensures book { IsBook self.new }
-        ensures room { (come slots : ℕ) → HasRoom come slots self.old → HasRoom come slots self.new }
+        ensures room { (added slots : ℕ) → HasRoom added slots self.old → HasRoom added slots self.new }
     {
         let mut guess = None;
         let mut left = keys.len();
@@ -329,7 +329,7 @@ impl NumberBook {
         }
     }
 
-    /// A contact comes: it gets a number, and is one of its bodies' contacts.
+    /// A contact is made: it gets a number, and is one of its bodies' contacts.
     pub fn make(&mut self, contact: NumberedContact) -> u32
         requires book { IsBook self.old }
         requires can { CanMake contact self.old }
@@ -343,7 +343,7 @@ impl NumberBook {
         number
     }
 
-    /// These contacts come.
+    /// These contacts are made.
     pub fn make_all(&mut self, contacts: &[NumberedContact])
         requires book { IsBook self.old }
         requires can { CanMakeAll contacts.now self.old }
@@ -382,8 +382,8 @@ impl NumberBook {
         }
     }
 
-    /// The contacts with these keys, if there are any, go, the last one first: of contacts that came in one change that
-    /// one stands nearest to the front of its threads. Takes no memory.
+    /// The contacts with these keys, if there are any, go, the last one first: of contacts that were made by one change
+    /// that one stands nearest to the front of its threads. Takes no memory.
     pub fn end_all(&mut self, keys: &[ContactKey])
         requires book { IsBook self.old }
         requires before { gone_of self.old ≡ [] }

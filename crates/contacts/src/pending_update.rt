@@ -10,9 +10,9 @@ use contacts_base::{ContactKey, Renewal, ShortList, SplitContacts};
 use std::alloc::Global;
 
 /// What a collide makes of the contacts, not yet carried out: of the long list what becomes of the contacts at some
-/// places, and which of them are over; and the short list anew, if one of it changes or contacts come. Or all contacts
-/// anew. And what that does to the numbers: which contacts come, and the keys of those that go, that begin to touch,
-/// and that end to touch.
+/// places, and which of them are over; and the short list anew, if one of it changes or contacts are made. Or all
+/// contacts anew. And what that does to the numbers: which contacts are made, and the keys of those that go, that begin
+/// to touch, and that end to touch.
 #[derive(Drop)]
 pub(crate) struct PendingUpdate {
     // What contacts of the long list become.
@@ -21,7 +21,7 @@ pub(crate) struct PendingUpdate {
     pub(crate) ends: Vec<usize>,
     pub(crate) short: Option<ShortList>,
     pub(crate) whole: Option<SplitContacts>,
-    // Those that come, ascending by key.
+    // Those that are made, ascending by key.
     pub(crate) made: Vec<NumberedContact>,
     // The keys of those that begin to touch, and of those that end to touch, with those that touched and go.
     pub(crate) begin: Vec<ContactKey>,

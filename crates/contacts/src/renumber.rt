@@ -20,7 +20,7 @@ use contacts_base::{ContactEntry, SplitContacts};
 use fixed_geom::Refusal;
 use std::alloc::Global;
 
-/// Carries out what is pending on the numbers: contacts begin and end to touch, some come, and some go.
+/// Carries out what is pending on the numbers: contacts begin and end to touch, and are made and ended.
 fn renumber(numbers: &mut NumberBook, pending: &PendingUpdate)
     requires book { IsBook numbers.old }
     requires rising { AreRising (map (λ c. c.key) pending.now.made.items) }

@@ -341,8 +341,9 @@ fn count_stirring<S: ShapesById, F: ForbiddenPairs>(collide: &Collide<'_, S, F>)
         .saturating_add(collide.marked.len())
 }
 
-/// Whether the flags serve: each slot has one, they have all bodies that stir and all marked slots, and not many more.
-fn do_serve<S: ShapesById, F: ForbiddenPairs>(
+/// Whether the flags can be used again: each slot has one, they have all bodies that stir and all marked slots, and not
+/// many more.
+fn are_usable<S: ShapesById, F: ForbiddenPairs>(
     stirring: &Stirring,
     collide: &Collide<'_, S, F>,
 ) -> bool
@@ -369,7 +370,7 @@ fn refresh_flags<S: ShapesById, F: ForbiddenPairs>(
     ensures quiet { OnOk result (AreQuiet stirring.new.flags.items collide.now.marks.now (S.proxies collide.now.shapes.now)) }
     ensures memory_only { IsOkUnless result Refusal.NoMemory }
 {
-    if do_serve(stirring, collide) {
+    if are_usable(stirring, collide) {
         return Ok(());
     }
     stirring.holds = false;
@@ -405,8 +406,8 @@ fn refresh_places(
 }
 
 /// Puts flags and places right for a collide: they have all contacts of the long list of which a body stirs or has a
-/// marked slot. What they were made of before serves as long as it has all that, so that a step in which no body wakes
-/// costs by what stirs. Changes no contact.
+/// marked slot. They are used again as long as they have all that, so that a step in which no body wakes costs by what
+/// stirs. Changes no contact.
 pub(crate) fn refresh<S: ShapesById, F: ForbiddenPairs>(
     stirring: &mut Stirring,
     collide: &Collide<'_, S, F>,

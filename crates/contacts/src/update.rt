@@ -1,6 +1,6 @@
 //! The contacts after a collide, from what is known of the near pairs: only fresh pairs are looked for, and of the long
-//! list of contacts those alone of which a body may stir. Contacts that come go into the short list, which is made
-//! anew.
+//! list of contacts those alone of which a body may stir. Contacts that are made go into the short list, which is
+//! made anew.
 
 ghost use Rattle.std.specs.Prelude.{◌≡◌, All, IfOk, None, OnOk, false, option_map, true};
 ghost use Rattle.std.specs.Result.{IsOkUnless};
@@ -49,7 +49,7 @@ fn may_one_stir(flags: &[bool], short: &ShortList) -> bool
     false
 }
 
-/// The short list anew, if contacts come or a body of one in it may stir: else it stays as it is.
+/// The short list anew, if contacts are made or a body of one in it may stir: else it stays as it is.
 fn rebuild_if<S: ShapesById, F: ForbiddenPairs>(
     alloc: Global,
     collide: &Collide<'_, S, F>,

@@ -1,7 +1,7 @@
 use Rattle.std.proofs.Common.{arith, ap, ◌∙◌, List, ℕ, length}
 use Rattle.std.proofs.lemmas.List.{length_push}
 use Rattle.contacts.specs.declared.ends.Side.TheVariants.{First, Second}
-use Rattle.contacts.proofs.NumberBookLaws.{by_side, has_come, made_book, none_absent, number_noted, slot_there, taken_within}
+use Rattle.contacts.proofs.NumberBookLaws.{by_side, is_made, made_book, none_absent, number_noted, slot_there, taken_within}
 use Rattle.contacts.proofs.number_book.NumberBook.make.Goals as goal
 
 pub put-requires-clause-first : goal.put-requires-clause-first
@@ -25,7 +25,7 @@ put-requires-clause-second_absent c = none_absent Second c.args.self.now.contact
 pub returns-clause-made : goal.returns-clause-made
 returns-clause-made c =
     let e = c.take-number.ensures in
-    has_come c.args.contact c.take-number.result c.args.self.now _ (record { was = e.was; now = e.now; others = e.others }) (record {
+    is_made c.args.contact c.take-number.result c.args.self.now _ (record { was = e.was; now = e.now; others = e.others }) (record {
       count = e.count;
       least = e.least;
       most = e.most;

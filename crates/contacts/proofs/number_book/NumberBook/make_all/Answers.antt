@@ -2,11 +2,11 @@ use Rattle.std.proofs.Common.{List, length, take, sym, subst}
 use Rattle.std.proofs.lemmas.List.{take_more}
 use Rattle.contacts.specs.declared.number_book.NumberedContact.{NumberedContact}
 use Rattle.contacts.specs.NumberChanges.{HaveMade}
-use Rattle.contacts.proofs.NumberPartLaws.{bound_on, can_come, made_on, room_on}
+use Rattle.contacts.proofs.NumberPartLaws.{bound_on, can_make, made_on, room_on}
 use Rattle.contacts.proofs.number_book.NumberBook.make_all.Goals as goal
 
 pub make-requires-clause-can : goal.make-requires-clause-can
-make-requires-clause-can c = let i = c.loop-place.invariant in can_come c.args.contacts.now c.loop-place.place _ c.args.self.now c.loop-place.self c.loop-place.self.made.items c.requires.can c.loop-place-test.true i.0 i.1.1.1.1
+make-requires-clause-can c = let i = c.loop-place.invariant in can_make c.args.contacts.now c.loop-place.place _ c.args.self.now c.loop-place.self c.loop-place.self.made.items c.requires.can c.loop-place-test.true i.0 i.1.1.1.1
 
 pub loop-place-preserved : goal.loop-place-preserved
 loop-place-preserved c =

@@ -19,9 +19,9 @@ loop-left-preserved c =
           (
             e.book,
             (
-              λ come. e.bound come ∙ i.1.1.1.1.0 come,
+              λ added. e.bound added ∙ i.1.1.1.1.0 added,
               (
-                λ come slots r. e.room come slots (i.1.1.1.1.1.0 come slots r),
+                λ added slots r. e.room added slots (i.1.1.1.1.1.0 added slots r),
                 omega (arith, i.1.1.1.1.1.1),
               ),
             ),
