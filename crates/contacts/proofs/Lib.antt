@@ -10,6 +10,7 @@ pub mod DynamicLemmas
 pub mod SurfaceLemmas
 pub mod ChangeLemmas
 pub mod KnownLemmas
+pub mod PieceRangeLaws
 pub mod PairPieceLaws
 pub mod ByPairsLaws
 pub mod MergedMembers

@@ -1,7 +1,6 @@
 -- The contacts of near pairs in pieces are those of all pairs.
-use Rattle.std.proofs.Common.{◌≡◌, ℕ, zero, suc, ◌+◌, ◌-◌, ◌<◌, ◌≤◌, List, [], ◌∷◌, ◌++◌, length, map, take, drop, get_or, sym, ap, ap₂, ◌∙◌, subst, arith}
-use Rattle.std.proofs.Math.Seq.{take-add}
-use Rattle.std.proofs.lemmas.List.{flat_map_more, get_or-drop, get_or-take, length-drop, map-append, take_all, take_more}
+use Rattle.std.proofs.Common.{◌≡◌, ℕ, zero, suc, ◌+◌, ◌-◌, ◌<◌, ◌≤◌, List, [], ◌∷◌, ◌++◌, length, map, take, drop, get_or, refl, sym, ap, ap₂, ◌∙◌, subst, arith}
+use Rattle.std.proofs.lemmas.List.{get_or-drop, get_or-take, length-drop, map-append}
 use Rattle.std.proofs.lemmas.List.Elements.{filter_map-append}
 use Rattle.contacts_base.specs.declared.near.Proxy.{Proxy}
 use Rattle.contacts_base.specs.declared.key.ContactKey.{ContactKey}
@@ -13,7 +12,8 @@ use Rattle.contacts.specs.Pairs.{IsPair, ArePairs}
 use Rattle.contacts.specs.ByCodes.{contacts_of, entry_at}
 use Rattle.contacts.specs.Changes.{key_if_touching, keys_touching_only_in}
 use Rattle.contacts.specs.ChangedKeys.{key_unless_in, keys_not_in}
-use Rattle.contacts.specs.PairValues.{Evaluated, NearLists, PairRange}
+use Rattle.contacts.specs.PieceRanges.{PieceRange, items_in, items_of}
+use Rattle.contacts.specs.PairValues.{Evaluated, NearLists}
 use Rattle.contacts.specs.PairPieces.{IsRoomFor, both, evaluated, evaluated_in, evaluated_of, joined, shown}
 use Rattle.contacts.proofs.ChangeLemmas.{contacts_rise}
 use Rattle.contacts.proofs.SurfaceLemmas.{surfaces_of}
@@ -118,41 +118,8 @@ evaluated-append old ps a b =
     (ap (keys_not_in old) now ∙ filter_map-append (key_unless_in old) (contacts_of old ps a) (contacts_of old ps b))
     (ap (keys_touching_only_in old) now ∙ filter_map-append (key_if_touching old) (contacts_of old ps a) (contacts_of old ps b))
 
-pub joined_more : (es : List Evaluated) (e : Evaluated) → joined (es ++ e ∷ []) ≡ both (joined es) e
-joined_more es e = sym (same (both (joined es) e) (joined (es ++ e ∷ []))
-    (flat_map_more (λ (x : Evaluated). x.now) [] es e)
-    (flat_map_more (λ (x : Evaluated). x.made) [] es e)
-    (flat_map_more (λ (x : Evaluated). x.begin) [] es e))
-
--- ---- cutting up
-
-pub cut_starts : (l : NearLists) (pieces : List PairRange) → pieces ≡ [] → joined (map (evaluated l) pieces) ≡ evaluated_in l (take 0 l.near)
-cut_starts l pieces h = ap (λ (rs : List PairRange). joined (map (evaluated l) rs)) h
-
-pub cut_more : (l : NearLists) (pieces more : List PairRange) (first count : ℕ) → joined (map (evaluated l) pieces) ≡ evaluated_in l (take first l.near) → more ≡ pieces ++ record { first = first; count = count } ∷ [] → joined (map (evaluated l) more) ≡ evaluated_in l (take (first + count) l.near)
-cut_more l pieces more first count h is =
-    let piece : PairRange = record { first = first; count = count } in
-    ap (λ (rs : List PairRange). joined (map (evaluated l) rs)) is
-    ∙ ap joined (map-append (evaluated l) pieces (piece ∷ []))
-    ∙ joined_more (map (evaluated l) pieces) (evaluated l piece)
-    ∙ ap (λ (e : Evaluated). both e (evaluated l piece)) h
-    ∙ sym (evaluated-append l.contacts.long l.proxies (take first l.near) (take count (drop first l.near)))
-    ∙ ap (evaluated_in l) (sym (take-add first count l.near))
-
-all_of : (n first all : ℕ) → first ≤ all → n ≡ all → n ≤ first + (all - first)
-all_of n first all h e = omega arith
-
-pub cut_ends : (l : NearLists) (pieces : List PairRange) (first all : ℕ) → first ≤ all → length l.near ≡ all → joined (map (evaluated l) pieces) ≡ evaluated_in l (take (first + (all - first)) l.near) → joined (map (evaluated l) pieces) ≡ evaluated_in l l.near
-cut_ends l pieces first all le long h = h ∙ ap (evaluated_in l) (take_all (first + (all - first)) l.near (all_of (length l.near) first all le long))
-
--- ---- putting together
-
-pub join_more : (pieces : List Evaluated) (k : ℕ) (d now next : Evaluated) (e : Evaluated) → k < length pieces → now ≡ joined (take k pieces) → next ≡ both now e → e ≡ get_or pieces k d → next ≡ joined (take (k + 1) pieces)
-join_more pieces k d now next e lt h added is =
-    added ∙ ap (λ (x : Evaluated). both x e) h ∙ ap (both (joined (take k pieces))) is ∙ sym (joined_more (take k pieces) (get_or pieces k d)) ∙ ap joined (sym (take_more pieces k d lt))
-
-pub appended : (all more : Present) (piece : Evaluated) → more.now.items ≡ all.now.items ++ piece.now → more.made.items ≡ all.made.items ++ piece.made → more.begin.items ≡ all.begin.items ++ piece.begin → shown more ≡ both (shown all) piece
-appended all more piece n m g = same (shown more) (both (shown all) piece) n m g
-
-pub all_mapped : (l : NearLists) (pieces : List PairRange) (answers : List Evaluated) → joined (map (evaluated l) pieces) ≡ evaluated_in l l.near → answers ≡ map (evaluated l) pieces → joined answers ≡ evaluated_in l l.near
-all_mapped l pieces answers h is = ap joined is ∙ h
+pub pairs_joined : (l : NearLists) (pieces : List PieceRange) → joined (map (evaluated l) pieces) ≡ evaluated_in l (items_of (λ (r : PieceRange). r) l.near pieces)
+pairs_joined l [] = refl
+pairs_joined l (r ∷ pieces) =
+    ap (both (evaluated l r)) (pairs_joined l pieces)
+    ∙ sym (evaluated-append l.contacts.long l.proxies (items_in l.near r) (items_of (λ (q : PieceRange). q) l.near pieces))

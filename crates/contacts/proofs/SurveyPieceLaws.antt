@@ -1,10 +1,9 @@
 -- A look over contacts in pieces finds what one over all places finds.
-use Rattle.std.proofs.Common.{◌≡◌, ℕ, zero, suc, ◌+◌, ◌-◌, ◌<◌, ◌≤◌, List, [], ◌∷◌, ◌++◌, length, map, take, get_or, Bool, true, false, cond, Option, Some, None, refl, sym, ap, ap₂, ◌∙◌, subst, arith, add-one}
+use Rattle.std.proofs.Common.{◌≡◌, ℕ, zero, suc, ◌+◌, ◌<◌, ◌≤◌, List, [], ◌∷◌, ◌++◌, length, map, take, get_or, Bool, true, false, cond, Option, Some, None, refl, sym, ap, ap₂, ◌∙◌, subst, arith, add-one}
 use Rattle.std.specs.Prelude.{All}
 use Rattle.std.specs.List.{cons_option, filter_map, flat_map}
 use Rattle.std.specs.Option.{option_to_list}
-use Rattle.std.proofs.Math.Seq.{take-add}
-use Rattle.std.proofs.lemmas.List.{flat_map_more, take_all, take_more}
+use Rattle.std.proofs.lemmas.List.{flat_map_more, take_more}
 use Rattle.std.proofs.lemmas.Grind.{flat_map-append}
 use Rattle.std.proofs.lemmas.List.Elements.{filter_map-append}
 use Rattle.contacts_base.specs.declared.near.Proxy.{Proxy}
@@ -20,8 +19,9 @@ use Rattle.contacts.specs.Fates.{after_fate, moved_by, noted, one_stirs_of, outc
 use Rattle.contacts.specs.Looked.{IsFate, IsLookedOver, begun_of, ended_of, ending}
 use Rattle.contacts.specs.Stirring.{AreQuiet, AreStirring}
 use Rattle.contacts.specs.declared.survey.Looked.{Looked}
-use Rattle.contacts.specs.SurveyValues.{Looks, PlaceRange}
-use Rattle.contacts.specs.SurveyPieces.{IsLookRoomFor, both_looks, fate_at, fate_if, fate_of, joined_looks, looks_of, places_in, shown_looks}
+use Rattle.contacts.specs.PieceRanges.{PieceRange, items_in, items_of}
+use Rattle.contacts.specs.SurveyValues.{Looks}
+use Rattle.contacts.specs.SurveyPieces.{IsLookRoomFor, both_looks, fate_at, fate_if, fate_of, joined_looks, looks_of}
 use Rattle.contacts.proofs.FateLemmas.{still_again}
 use Rattle.contacts.proofs.SurveyLaws.{IsFound, IsWalking, all_found, found_step, nothing_found, walk_ends, walk_goes, walk_starts}
 
@@ -85,50 +85,11 @@ looks-append moved pairs ps s a b = same (looks_of moved pairs ps s (a ++ b)) (b
     (filter_map-append (λ (k : ℕ). begun_of (counting_at s k) (fate_at moved pairs ps s k)) a b)
     (filter_map-append (λ (k : ℕ). ended_of (counting_at s k) (fate_at moved pairs ps s k)) a b)
 
-pub joined_looks_more : (ls : List Looks) (l : Looks) → joined_looks (ls ++ l ∷ []) ≡ both_looks (joined_looks ls) l
-joined_looks_more ls l = sym (same (both_looks (joined_looks ls) l) (joined_looks (ls ++ l ∷ []))
-    (flat_map_more (λ (x : Looks). x.notes) [] ls l)
-    (flat_map_more (λ (x : Looks). x.ends) [] ls l)
-    (flat_map_more (λ (x : Looks). x.begin) [] ls l)
-    (flat_map_more (λ (x : Looks). x.end) [] ls l))
-
-pub appended : (all more : Looked) (piece : Looks) → more.notes.items ≡ all.notes.items ++ piece.notes → more.ends.items ≡ all.ends.items ++ piece.ends → more.begin.items ≡ all.begin.items ++ piece.begin → more.end.items ≡ all.end.items ++ piece.end → shown_looks more ≡ both_looks (shown_looks all) piece
-appended all more piece n m g h = same (shown_looks more) (both_looks (shown_looks all) piece) n m g h
-
-pub nothing_shown : (n : ℕ) (l : Looked) → IsLookRoomFor n l → shown_looks l ≡ joined_looks []
-nothing_shown n l h = same (shown_looks l) (joined_looks []) h.no_notes h.no_ends h.no_begin h.no_end
-
-pub join_more : (pieces : List Looks) (k : ℕ) (d now next e : Looks) → k < length pieces → now ≡ joined_looks (take k pieces) → next ≡ both_looks now e → e ≡ get_or pieces k d → next ≡ joined_looks (take (k + 1) pieces)
-join_more pieces k d now next e lt h added is =
-    added ∙ ap (λ (x : Looks). both_looks x e) h ∙ ap (both_looks (joined_looks (take k pieces))) is ∙ sym (joined_looks_more (take k pieces) (get_or pieces k d)) ∙ ap joined_looks (sym (take_more pieces k d lt))
-
--- ---- cutting up
-
-pub cut_starts : (places : List ℕ) (pieces : List PlaceRange) → pieces ≡ [] → flat_map (places_in places) pieces ≡ take 0 places
-cut_starts places pieces h = ap (flat_map (places_in places)) h
-
-pub cut_more : (places : List ℕ) (pieces more : List PlaceRange) (first count : ℕ) → flat_map (places_in places) pieces ≡ take first places → more ≡ pieces ++ record { first = first; count = count } ∷ [] → flat_map (places_in places) more ≡ take (first + count) places
-cut_more places pieces more first count h is =
-    let piece : PlaceRange = record { first = first; count = count } in
-    ap (flat_map (places_in places)) is
-    ∙ sym (flat_map_more (places_in places) [] pieces piece)
-    ∙ ap (λ (l : List ℕ). l ++ places_in places piece) h
-    ∙ sym (take-add first count places)
-
-all_of : (n first all : ℕ) → first ≤ all → n ≡ all → n ≤ first + (all - first)
-all_of n first all h e = omega arith
-
-pub cut_ends : (places : List ℕ) (pieces : List PlaceRange) (first all : ℕ) → first ≤ all → length places ≡ all → flat_map (places_in places) pieces ≡ take (first + (all - first)) places → flat_map (places_in places) pieces ≡ places
-cut_ends places pieces first all le long h = h ∙ take_all (first + (all - first)) places (all_of (length places) first all le long)
-
-looks_joined : (moved : ℕ → Bool) (pairs : List BodyPair) (ps : List Proxy) (s : Split) (places : List ℕ) (pieces : List PlaceRange) → joined_looks (map (λ (r : PlaceRange). looks_of moved pairs ps s (places_in places r)) pieces) ≡ looks_of moved pairs ps s (flat_map (places_in places) pieces)
+pub looks_joined : (moved : ℕ → Bool) (pairs : List BodyPair) (ps : List Proxy) (s : Split) (places : List ℕ) (pieces : List PieceRange) → joined_looks (map (λ (r : PieceRange). looks_of moved pairs ps s (items_in places r)) pieces) ≡ looks_of moved pairs ps s (items_of (λ (r : PieceRange). r) places pieces)
 looks_joined moved pairs ps s places [] = refl
 looks_joined moved pairs ps s places (r ∷ pieces) =
-    ap (both_looks (looks_of moved pairs ps s (places_in places r))) (looks_joined moved pairs ps s places pieces)
-    ∙ sym (looks-append moved pairs ps s (places_in places r) (flat_map (places_in places) pieces))
-
-pub all_mapped : (moved : ℕ → Bool) (pairs : List BodyPair) (ps : List Proxy) (s : Split) (places : List ℕ) (pieces : List PlaceRange) (answers : List Looks) → flat_map (places_in places) pieces ≡ places → answers ≡ map (λ (r : PlaceRange). looks_of moved pairs ps s (places_in places r)) pieces → joined_looks answers ≡ looks_of moved pairs ps s places
-all_mapped moved pairs ps s places pieces answers h is = ap joined_looks is ∙ looks_joined moved pairs ps s places pieces ∙ ap (looks_of moved pairs ps s) h
+    ap (both_looks (looks_of moved pairs ps s (items_in places r))) (looks_joined moved pairs ps s places pieces)
+    ∙ sym (looks-append moved pairs ps s (items_in places r) (items_of (λ (q : PieceRange). q) places pieces))
 
 -- ---- what one over all places finds
 

@@ -9,6 +9,7 @@ pub mod NearMarked
 pub mod Constraints
 pub mod Forbidden
 pub mod ByCodes
+pub mod PieceRanges
 pub mod PairValues
 pub mod PairPieces
 pub mod ByPairs

@@ -1,5 +1,5 @@
 -- The contacts of near pairs in pieces: what a piece answers, and the answers of all as one.
-use Rattle.std.specs.Prelude.{◌≡◌, ◌≤◌, ℕ, List, [], ◌++◌, drop, take, vec_capacity}
+use Rattle.std.specs.Prelude.{◌≡◌, ◌≤◌, ℕ, List, [], ◌++◌, vec_capacity}
 use Rattle.std.specs.List.{flat_map}
 use Rattle.contacts_base.specs.declared.near.Proxy.{Proxy}
 use Rattle.contacts_base.specs.declared.contact.ContactEntry.{ContactEntry}
@@ -7,7 +7,8 @@ use Rattle.contacts.specs.ByCodes.{contacts_of}
 use Rattle.contacts.specs.Changes.{keys_touching_only_in}
 use Rattle.contacts.specs.ChangedKeys.{keys_not_in}
 use Rattle.contacts.specs.declared.changes.Present.{Present}
-use Rattle.contacts.specs.PairValues.{Evaluated, NearLists, PairRange}
+use Rattle.contacts.specs.PieceRanges.{PieceRange, items_in}
+use Rattle.contacts.specs.PairValues.{Evaluated, NearLists}
 
 -- the contacts of these pairs, and what is new in them
 abbrev pub evaluated_of : List ContactEntry → List Proxy → List ℕ → Evaluated
@@ -18,8 +19,8 @@ abbrev pub evaluated_in : NearLists → List ℕ → Evaluated
 evaluated_in l codes = evaluated_of l.contacts.long l.proxies codes
 
 -- those of a piece
-abbrev pub evaluated : NearLists → PairRange → Evaluated
-evaluated l r = evaluated_in l (take r.count (drop r.first l.near))
+abbrev pub evaluated : NearLists → PieceRange → Evaluated
+evaluated l r = evaluated_in l (items_in l.near r)
 
 -- what is seen of lists
 abbrev pub shown : Present → Evaluated

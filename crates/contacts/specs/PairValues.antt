@@ -16,8 +16,3 @@ pub record NearLists : Type 0 where
   pub contacts : Split
   pub proxies : List Proxy
   pub near : List ℕ
-
--- so many pairs, from the place `first` on
-pub record PairRange : Type 0 where
-  pub first : ℕ
-  pub count : ℕ

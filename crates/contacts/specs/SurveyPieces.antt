@@ -1,6 +1,6 @@
 -- A look over contacts in pieces: what becomes of the contact at a place, what a piece answers, and the answers of all as
 -- one.
-use Rattle.std.specs.Prelude.{◌≡◌, ◌≤◌, ℕ, Bool, cond, List, [], ◌++◌, Option, None, Some, drop, take, vec_capacity}
+use Rattle.std.specs.Prelude.{◌≡◌, ◌≤◌, ℕ, Bool, cond, List, [], ◌++◌, Option, None, Some, vec_capacity}
 use Rattle.std.specs.List.{filter_map, flat_map}
 use Rattle.contacts_base.specs.declared.near.Proxy.{Proxy}
 use Rattle.contacts_base.specs.declared.contact.ContactEntry.{ContactEntry}
@@ -12,7 +12,7 @@ use Rattle.contacts.specs.Known.{again, stays}
 use Rattle.contacts.specs.Fates.{noted, one_stirs_of}
 use Rattle.contacts.specs.Looked.{begun_of, ended_of, ending}
 use Rattle.contacts.specs.declared.survey.Looked.{Looked}
-use Rattle.contacts.specs.SurveyValues.{Looks, PlaceRange}
+use Rattle.contacts.specs.SurveyValues.{Looks}
 
 -- what becomes of a contact: it goes, or is evaluated anew where one of its bodies stirs, or stays as it is
 abbrev pub fate_of : (ℕ → Bool) → List BodyPair → List Proxy → ContactEntry → Fate
@@ -61,7 +61,3 @@ pub record IsLookRoomFor (count : ℕ) (l : Looked) : Type 0 where
   pub ends : count ≤ vec_capacity l.ends
   pub begin : count ≤ vec_capacity l.begin
   pub end : count ≤ vec_capacity l.end
-
--- the places of a range
-abbrev pub places_in : List ℕ → PlaceRange → List ℕ
-places_in places r = take r.count (drop r.first places)

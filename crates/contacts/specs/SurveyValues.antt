@@ -10,8 +10,3 @@ pub record Looks : Type 0 where
   pub ends : List ℕ
   pub begin : List ContactKey
   pub end : List ContactKey
-
--- so many places, from the one at `first` on
-pub record PlaceRange : Type 0 where
-  pub first : ℕ
-  pub count : ℕ

@@ -31,6 +31,7 @@ mod number_book;
 mod pair_pieces;
 mod pair_sweep;
 mod pending_update;
+mod range_pieces;
 mod rebuild;
 mod renumber;
 mod stirring;

@@ -1,7 +1,7 @@
 //! The contacts of near pairs in pieces, by whoever works them. What all pieces read is lent to them, and comes back
 //! whole.
 
-ghost use Rattle.std.specs.Prelude.{◌≡◌, ◌++◌, ◌+◌, ◌∷◌, ◌≤◌, [], IfOk, OnOk, drop, length, map, take};
+ghost use Rattle.std.specs.Prelude.{◌≡◌, [], IfOk, drop, length, take};
 ghost use Rattle.std.specs.Result.{IsOkUnless};
 ghost use Rattle.contacts_base.specs.ContactLists.{AreContacts};
 ghost use Rattle.contacts_base.specs.Proxies.{IsProxyList};
@@ -10,11 +10,12 @@ ghost use Rattle.contacts.specs.ByCodes.{contacts_of};
 ghost use Rattle.contacts.specs.Changes.{keys_touching_only_in};
 ghost use Rattle.contacts.specs.ChangedKeys.{keys_not_in};
 ghost use Rattle.contacts.specs.PairValues.{NearLists};
-ghost use Rattle.contacts.specs.PairPieces.{IsRoomFor, both, evaluated, evaluated_in, evaluated_of, joined, shown};
+ghost use Rattle.contacts.specs.PairPieces.{IsRoomFor, evaluated, evaluated_in, evaluated_of, joined, shown};
 
 use crate::changes::{Present, contacts_of_pairs};
+use crate::range_pieces::{Mapped, RangePiece, map_in_pieces, range_of};
 use contacts_base::{ContactEntry, Proxy, SplitContacts};
-use crew::{Piece, PieceMap, Returned};
+use crew::{Piece, PieceMap};
 use fixed_geom::Refusal;
 use std::alloc::Global;
 use std::marker::Model;
@@ -54,9 +55,9 @@ pub struct PairPiece {
 
 impl Model for PairPiece {
     ghost use Rattle.contacts.specs.PairPieces.{IsRoomFor};
-    ghost use Rattle.contacts.specs.PairValues.{PairRange};
+    ghost use Rattle.contacts.specs.PieceRanges.{PieceRange};
 
-    ghost Value = { PairRange };
+    ghost Value = { PieceRange };
 
     ghost view = { λ a. record { first = a.first; count = a.count } };
 
@@ -76,15 +77,6 @@ impl Model for EvaluatedPairs {
     ghost Value = { Evaluated };
 
     ghost view = { λ a. shown a.present };
-}
-
-/// Some codes of a list that follow one another, as far as there are any.
-fn range_of(near: &[u64], first: usize, count: usize) -> &[u64]
-    ensures { result.now ≡ take count (drop first near.now) }
-{
-    let (_, rest) = near.split_at(first.min(near.len()));
-    let (codes, _) = rest.split_at(count.min(rest.len()));
-    codes
 }
 
 /// The contacts of pairs.
@@ -187,90 +179,37 @@ fn kept_room(alloc: Global, rooms: &mut Vec<EvaluatedPairs>) -> Present {
     }
 }
 
-/// A piece of so many pairs, from a place on.
-fn piece_of(
-    rooms: &mut Vec<EvaluatedPairs>,
-    first: usize,
-    count: usize,
-) -> Result<PairPiece, Refusal>
-    ensures piece { IfOk result (λ piece. piece ≡ record { first = first; count = count }) }
-    ensures memory_only { IsOkUnless result Refusal.NoMemory }
-{
-    let alloc = *rooms.allocator();
-    let room = with_room(kept_room(alloc, rooms), count)?;
-    Ok(PairPiece { first, count, room })
-}
+impl RangePiece for PairPiece {
+    ghost range = { λ p. p };
 
-/// Adds a piece of so many pairs, from a place on.
-fn add_piece(
-    pieces: &mut Vec<PairPiece>,
-    rooms: &mut Vec<EvaluatedPairs>,
-    first: usize,
-    count: usize,
-) -> Result<(), Refusal>
-    ensures added { OnOk result (pieces.new.items ≡ pieces.old.items ++ record { first = first; count = count } ∷ []) }
-    ensures memory_only { IsOkUnless result Refusal.NoMemory }
-{
-    let piece = piece_of(rooms, first, count)?;
-    if pieces.push(piece).is_err() {
-        return Err(Refusal::NoMemory);
+    ghost items = { λ l. l.near };
+
+    ghost answer_at = { evaluated_in };
+
+    ghost joined = { joined };
+
+    fn count_items(lent: &PairLists) -> usize {
+        lent.near.len()
     }
-    Ok(())
-}
 
-/// Cuts so many pairs into pieces, of which each but the last has as many as fall to each of `of`.
-fn cut(
-    pieces: &mut Vec<PairPiece>,
-    rooms: &mut Vec<EvaluatedPairs>,
-    all: usize,
-    of: usize,
-) -> Result<(), Refusal>
-    requires empty { pieces.old.items ≡ [] }
-    ensures cut { OnOk result ((l : NearLists) → length l.near ≡ all → joined (map (evaluated l) pieces.new.items) ≡ evaluated_in l l.near) }
-    ensures memory_only { IsOkUnless result Refusal.NoMemory }
-{
-    let share = all / of.max(1);
-    let mut first = 0;
-    for _ in 1..of {
-        let count = share.min(all - first);
-        add_piece(pieces, rooms, first, count)?;
-        first += count;
+    fn of_range(
+        kept: &mut Vec<EvaluatedPairs>,
+        first: usize,
+        count: usize,
+    ) -> Result<PairPiece, Refusal> {
+        let alloc = *kept.allocator();
+        let room = with_room(kept_room(alloc, kept), count)?;
+        Ok(PairPiece { first, count, room })
     }
-    add_piece(pieces, rooms, first, all - first)?;
-    Ok(())
-}
 
-/// Adds what a piece answered.
-fn append(all: &mut Present, piece: &EvaluatedPairs) -> Result<(), Refusal>
-    ensures added { OnOk result (shown all.new ≡ both (shown all.old) piece.now) }
-    ensures memory_only { IsOkUnless result Refusal.NoMemory }
-{
-    all.now.extend_from_slice(&piece.present.now)?;
-    all.made.extend_from_slice(&piece.present.made)?;
-    all.begin.extend_from_slice(&piece.present.begin)?;
-    Ok(())
-}
-
-/// Puts the answers of pieces one behind the other, in the memory of `room`.
-fn join(room: Present, pieces: &[EvaluatedPairs]) -> Result<Present, Refusal>
-    requires empty { shown room ≡ joined [] }
-    ensures joined { IfOk result (λ all. shown all ≡ joined pieces.now) }
-    ensures memory_only { IsOkUnless result Refusal.NoMemory }
-{
-    let mut all = room;
-    for piece in pieces {
-        append(&mut all, piece)?;
+    fn append(all: &mut EvaluatedPairs, answer: &EvaluatedPairs) -> Result<(), Refusal> {
+        all.present.now.extend_from_slice(&answer.present.now)?;
+        all.present.made.extend_from_slice(&answer.present.made)?;
+        all.present.begin.extend_from_slice(&answer.present.begin)?;
+        Ok(())
     }
-    Ok(all)
-}
 
-/// Keeps the memory of pieces for those of the next map.
-fn keep(pieces: &mut Vec<EvaluatedPairs>, rooms: &mut Vec<EvaluatedPairs>) {
-    for _ in 0..pieces.len() {
-        if let Some(piece) = pieces.pop() {
-            let _ = rooms.push(piece);
-        }
-    }
+    fn know_joined() {}
 }
 
 /// Takes the lists out of their places, where empty ones stand then.
@@ -313,51 +252,6 @@ fn put_lists(
     *near = own_near;
 }
 
-/// What the pieces answered, and what was lent to them.
-struct Mapped {
-    lists: PairLists,
-    answers: Result<Vec<EvaluatedPairs>, Refusal>,
-}
-
-/// Has the pieces of all pairs worked.
-fn map_all<M: PieceMap<PairPiece>>(
-    mapper: &mut M,
-    lists: PairLists,
-    rooms: &mut Vec<EvaluatedPairs>,
-) -> Mapped
-    ensures lists { result.lists ≡ lists }
-    ensures answers { IfOk result.answers (λ answers. joined answers.items ≡ evaluated_in lists lists.near) }
-    ensures memory_only { IsOkUnless result.answers Refusal.NoMemory }
-{
-    let alloc = *rooms.allocator();
-    let of = mapper.workers();
-    let mut pieces = Vec::new(alloc);
-    let mut answers = Vec::new(alloc);
-    if let Err(refused) = cut(&mut pieces, rooms, lists.near.len(), of) {
-        return Mapped {
-            lists,
-            answers: Err(refused),
-        };
-    }
-    if answers.reserve(pieces.len()).is_err() {
-        return Mapped {
-            lists,
-            answers: Err(Refusal::NoMemory),
-        };
-    }
-    let Returned { lent, is_done } = mapper.map_pieces(lists, &mut pieces, &mut answers);
-    if !is_done {
-        return Mapped {
-            lists: lent,
-            answers: Err(Refusal::NoMemory),
-        };
-    }
-    Mapped {
-        lists: lent,
-        answers: Ok(answers),
-    }
-}
-
 /// The contacts of near pairs in pieces, in the memory of `room`.
 fn evaluate_in_pieces<M: PieceMap<PairPiece>>(
     mapper: &mut M,
@@ -379,12 +273,11 @@ fn evaluate_in_pieces<M: PieceMap<PairPiece>>(
 {
     let alloc = *rooms.allocator();
     let lists = take_lists(alloc, old, proxies, near);
-    let Mapped { lists, answers } = map_all(mapper, lists, rooms);
-    put_lists(lists, old, proxies, near);
-    let mut answers = answers?;
-    let all = join(room, &answers);
-    keep(&mut answers, rooms);
-    all
+    let room = EvaluatedPairs { present: room };
+    let Mapped { lent, answer } = map_in_pieces(mapper, lists, room, rooms);
+    put_lists(lent, old, proxies, near);
+    let EvaluatedPairs { present } = answer?;
+    Ok(present)
 }
 
 /// The contacts of near pairs and what is new in them: in pieces where there are workers, and many pairs for each.

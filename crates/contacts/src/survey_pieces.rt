@@ -1,19 +1,20 @@
 //! A look over contacts in pieces, by whoever works them. What all pieces read is lent to them, and comes back whole.
 
-ghost use Rattle.std.specs.Prelude.{◌≡◌, ◌++◌, ◌+◌, ◌∷◌, [], IfOk, List, ℕ, OnOk, drop, length, take};
-ghost use Rattle.std.specs.List.{flat_map};
+ghost use Rattle.std.specs.Prelude.{◌≡◌, ◌+◌, IfOk, OnOk, drop, take};
 ghost use Rattle.std.specs.Result.{IsOkUnless};
 ghost use Rattle.contacts_base.specs.Proxies.{IsProxyList};
 ghost use Rattle.contacts.specs.Fates.{moved_by};
-ghost use Rattle.contacts.specs.SurveyPieces.{IsLookRoomFor, both_looks, joined_looks, looks_of, places_in, shown_looks};
-ghost use Rattle.contacts.specs.SurveyValues.{Looks, PlaceRange};
+ghost use Rattle.contacts.specs.SurveyPieces.{IsLookRoomFor, joined_looks, looks_of, shown_looks};
+ghost use Rattle.contacts.specs.PieceRanges.{items_in};
+ghost use Rattle.contacts.specs.SurveyValues.{Looks};
 
 use crate::collide::Collide;
 use crate::fates::ShapesById;
 use crate::forbidden::ForbiddenPairs;
+use crate::range_pieces::{Mapped, RangePiece, map_in_pieces, range_of};
 use crate::survey::{Looked, look_over};
 use contacts_base::SplitContacts;
-use crew::{Piece, PieceMap, Returned};
+use crew::{Piece, PieceMap};
 use fixed_geom::Refusal;
 use std::alloc::Global;
 use std::marker::{Model, PhantomData};
@@ -43,9 +44,9 @@ pub struct SurveyPiece<S, F> {
 
 impl<S, F> Model for SurveyPiece<S, F> {
     ghost use Rattle.contacts.specs.SurveyPieces.{IsLookRoomFor};
-    ghost use Rattle.contacts.specs.SurveyValues.{PlaceRange};
+    ghost use Rattle.contacts.specs.PieceRanges.{PieceRange};
 
-    ghost Value = { PlaceRange };
+    ghost Value = { PieceRange };
 
     ghost view = { λ a. record { first = a.first; count = a.count } };
 
@@ -65,15 +66,6 @@ impl Model for LookedPlaces {
     ghost Value = { Looks };
 
     ghost view = { λ a. shown_looks a.looked };
-}
-
-/// Some places of a list that follow one another, as far as there are any.
-fn range_of(places: &[usize], first: usize, count: usize) -> &[usize]
-    ensures { result.now ≡ take count (drop first places.now) }
-{
-    let (_, rest) = places.split_at(first.min(places.len()));
-    let (range, _) = rest.split_at(count.min(rest.len()));
-    range
 }
 
 impl<S: ShapesById + Drop, F: ForbiddenPairs + Drop> Survey<S, F> {
@@ -97,7 +89,7 @@ impl<S: ShapesById + Drop, F: ForbiddenPairs + Drop> Piece for SurveyPiece<S, F>
 
     type Out = LookedPlaces;
 
-    ghost worked = { λ lent r. looks_of (moved_by (S.marks lent.shapes)) (F.pairs lent.forbidden) (S.proxies lent.shapes) lent.contacts (places_in lent.places.items r) };
+    ghost worked = { λ lent r. looks_of (moved_by (S.marks lent.shapes)) (F.pairs lent.forbidden) (S.proxies lent.shapes) lent.contacts (items_in lent.places.items r) };
 
     fn work(self, lent: &Survey<S, F>) -> LookedPlaces {
         let SurveyPiece {
@@ -160,96 +152,43 @@ fn kept_room(alloc: Global, rooms: &mut Vec<LookedPlaces>) -> Looked {
     }
 }
 
-/// A piece of so many places, from one on.
-fn piece_of<S, F>(
-    rooms: &mut Vec<LookedPlaces>,
-    first: usize,
-    count: usize,
-) -> Result<SurveyPiece<S, F>, Refusal>
-    ensures piece { IfOk result (λ piece. piece ≡ record { first = first; count = count }) }
-    ensures memory_only { IsOkUnless result Refusal.NoMemory }
-{
-    let alloc = *rooms.allocator();
-    let room = with_room(kept_room(alloc, rooms), count)?;
-    Ok(SurveyPiece {
-        first,
-        count,
-        room,
-        of: PhantomData,
-    })
-}
+impl<S: ShapesById + Drop, F: ForbiddenPairs + Drop> RangePiece for SurveyPiece<S, F> {
+    ghost range = { λ p. p };
 
-/// Adds a piece of so many places, from one on.
-fn add_piece<S, F>(
-    pieces: &mut Vec<SurveyPiece<S, F>>,
-    rooms: &mut Vec<LookedPlaces>,
-    first: usize,
-    count: usize,
-) -> Result<(), Refusal>
-    ensures added { OnOk result (pieces.new.items ≡ pieces.old.items ++ record { first = first; count = count } ∷ []) }
-    ensures memory_only { IsOkUnless result Refusal.NoMemory }
-{
-    let piece = piece_of(rooms, first, count)?;
-    if pieces.push(piece).is_err() {
-        return Err(Refusal::NoMemory);
+    ghost items = { λ lent. lent.places.items };
+
+    ghost answer_at = { λ lent places. looks_of (moved_by (S.marks lent.shapes)) (F.pairs lent.forbidden) (S.proxies lent.shapes) lent.contacts places };
+
+    ghost joined = { joined_looks };
+
+    fn count_items(lent: &Survey<S, F>) -> usize {
+        lent.places.len()
     }
-    Ok(())
-}
 
-/// Cuts so many places into pieces, of which each but the last has as many as fall to each of `of`.
-fn cut<S, F>(
-    pieces: &mut Vec<SurveyPiece<S, F>>,
-    rooms: &mut Vec<LookedPlaces>,
-    all: usize,
-    of: usize,
-) -> Result<(), Refusal>
-    requires empty { pieces.old.items ≡ [] }
-    ensures cut { OnOk result ((places : List ℕ) → length places ≡ all → flat_map (places_in places) pieces.new.items ≡ places) }
-    ensures memory_only { IsOkUnless result Refusal.NoMemory }
-{
-    let share = all / of.max(1);
-    let mut first = 0;
-    for _ in 1..of {
-        let count = share.min(all - first);
-        add_piece(pieces, rooms, first, count)?;
-        first += count;
+    fn of_range(
+        kept: &mut Vec<LookedPlaces>,
+        first: usize,
+        count: usize,
+    ) -> Result<SurveyPiece<S, F>, Refusal> {
+        let alloc = *kept.allocator();
+        let room = with_room(kept_room(alloc, kept), count)?;
+        Ok(SurveyPiece {
+            first,
+            count,
+            room,
+            of: PhantomData,
+        })
     }
-    add_piece(pieces, rooms, first, all - first)?;
-    Ok(())
-}
 
-/// Adds what a piece answered.
-fn append(all: &mut Looked, piece: &LookedPlaces) -> Result<(), Refusal>
-    ensures added { OnOk result (shown_looks all.new ≡ both_looks (shown_looks all.old) piece.now) }
-    ensures memory_only { IsOkUnless result Refusal.NoMemory }
-{
-    all.notes.extend_from_slice(&piece.looked.notes)?;
-    all.ends.extend_from_slice(&piece.looked.ends)?;
-    all.begin.extend_from_slice(&piece.looked.begin)?;
-    all.end.extend_from_slice(&piece.looked.end)?;
-    Ok(())
-}
-
-/// Puts the answers of pieces one behind the other, in the memory of `room`.
-fn join(room: Looked, pieces: &[LookedPlaces]) -> Result<Looked, Refusal>
-    requires empty { shown_looks room ≡ joined_looks [] }
-    ensures joined { IfOk result (λ all. shown_looks all ≡ joined_looks pieces.now) }
-    ensures memory_only { IsOkUnless result Refusal.NoMemory }
-{
-    let mut all = room;
-    for piece in pieces {
-        append(&mut all, piece)?;
+    fn append(all: &mut LookedPlaces, answer: &LookedPlaces) -> Result<(), Refusal> {
+        all.looked.notes.extend_from_slice(&answer.looked.notes)?;
+        all.looked.ends.extend_from_slice(&answer.looked.ends)?;
+        all.looked.begin.extend_from_slice(&answer.looked.begin)?;
+        all.looked.end.extend_from_slice(&answer.looked.end)?;
+        Ok(())
     }
-    Ok(all)
-}
 
-/// Keeps the memory of pieces for those of the next map.
-fn keep(pieces: &mut Vec<LookedPlaces>, rooms: &mut Vec<LookedPlaces>) {
-    for _ in 0..pieces.len() {
-        if let Some(piece) = pieces.pop() {
-            let _ = rooms.push(piece);
-        }
-    }
+    fn know_joined() {}
 }
 
 /// Takes what a look over contacts reads out of its places, to be lent.
@@ -299,51 +238,6 @@ fn put_survey<S: ShapesById + Drop, F: ForbiddenPairs + Drop>(
     *places = own_places;
 }
 
-/// What the pieces answered, and what was lent to them.
-struct Mapped<S: ShapesById + Drop, F: ForbiddenPairs + Drop> {
-    survey: Survey<S, F>,
-    answers: Result<Vec<LookedPlaces>, Refusal>,
-}
-
-/// Has the pieces of all places worked.
-fn map_all<S: ShapesById + Drop, F: ForbiddenPairs + Drop, M: PieceMap<SurveyPiece<S, F>>>(
-    mapper: &mut M,
-    survey: Survey<S, F>,
-    rooms: &mut Vec<LookedPlaces>,
-) -> Mapped<S, F>
-    ensures survey { result.survey ≡ survey }
-    ensures answers { IfOk result.answers (λ answers. joined_looks answers.items ≡ looks_of (moved_by (S.marks survey.shapes)) (F.pairs survey.forbidden) (S.proxies survey.shapes) survey.contacts survey.places.items) }
-    ensures memory_only { IsOkUnless result.answers Refusal.NoMemory }
-{
-    let alloc = *rooms.allocator();
-    let of = mapper.workers();
-    let mut pieces = Vec::new(alloc);
-    let mut answers = Vec::new(alloc);
-    if let Err(refused) = cut(&mut pieces, rooms, survey.places.len(), of) {
-        return Mapped {
-            survey,
-            answers: Err(refused),
-        };
-    }
-    if answers.reserve(pieces.len()).is_err() {
-        return Mapped {
-            survey,
-            answers: Err(Refusal::NoMemory),
-        };
-    }
-    let Returned { lent, is_done } = mapper.map_pieces(survey, &mut pieces, &mut answers);
-    if !is_done {
-        return Mapped {
-            survey: lent,
-            answers: Err(Refusal::NoMemory),
-        };
-    }
-    Mapped {
-        survey: lent,
-        answers: Ok(answers),
-    }
-}
-
 /// What is kept for looks over contacts from one to the next: what the last one found, and memory for pieces.
 #[derive(Drop)]
 pub(crate) struct LookMemory {
@@ -388,13 +282,14 @@ fn look_in_pieces<S: ShapesById + Drop, F: ForbiddenPairs + Drop, M: PieceMap<Su
     ensures memory_only { IsOkUnless result Refusal.NoMemory }
 {
     let alloc = *places.allocator();
-    let room = memory.take_room(places.len())?;
+    let room = LookedPlaces {
+        looked: memory.take_room(places.len())?,
+    };
     let survey = take_survey(alloc, shapes, forbidden, contacts, places);
-    let Mapped { survey, answers } = map_all(mapper, survey, &mut memory.rooms);
-    put_survey(survey, shapes, forbidden, contacts, places);
-    let mut answers = answers?;
-    memory.found = join(room, &answers)?;
-    keep(&mut answers, &mut memory.rooms);
+    let Mapped { lent, answer } = map_in_pieces(mapper, survey, room, &mut memory.rooms);
+    put_survey(lent, shapes, forbidden, contacts, places);
+    let LookedPlaces { looked } = answer?;
+    memory.found = looked;
     Ok(())
 }
 

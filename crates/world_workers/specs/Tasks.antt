@@ -3,8 +3,9 @@ use Rattle.std.specs.Prelude.{Option, None, Some}
 use Rattle.contacts.specs.Fates.{moved_by}
 use Rattle.contacts.specs.PairPieces.{evaluated}
 use Rattle.contacts.specs.PairValues.{Evaluated}
-use Rattle.contacts.specs.SurveyPieces.{looks_of, places_in}
-use Rattle.contacts.specs.SurveyValues.{Looks, PlaceRange}
+use Rattle.contacts.specs.PieceRanges.{PieceRange, items_in}
+use Rattle.contacts.specs.SurveyPieces.{looks_of}
+use Rattle.contacts.specs.SurveyValues.{Looks}
 use Rattle.contacts.specs.declared.survey_pieces.Survey.{Survey}
 use Rattle.part_solver.specs.Parts.{Solved, solved}
 use Rattle.plain_world.specs.Joints.{forbidden_pairs}
@@ -17,8 +18,8 @@ use Rattle.world_workers.specs.declared.tasks.Done.{Done}
 use Rattle.world_workers.specs.declared.tasks.Done.TheVariants.{Part, Pairs as PairsDone, Look as LookDone}
 
 -- what a look over some places of a world's contacts finds
-abbrev pub looked_by : {g h : _} → Survey Bodies Joints g h → PlaceRange → Looks
-looked_by lent r = looks_of (moved_by lent.shapes.marks) (forbidden_pairs lent.forbidden.joints) (proxies_of lent.shapes.bodies) lent.contacts (places_in lent.places.items r)
+abbrev pub looked_by : {g h : _} → Survey Bodies Joints g h → PieceRange → Looks
+looked_by lent r = looks_of (moved_by lent.shapes.marks) (forbidden_pairs lent.forbidden.joints) (proxies_of lent.shapes.bodies) lent.contacts (items_in lent.places.items r)
 
 abbrev pub done_of : Task → Done
 done_of (Seat seat) = Part (solved seat)
