@@ -17,6 +17,7 @@ mod pairs;
 mod pen;
 mod reports;
 mod saved_forms;
+mod saved_keys;
 mod saved_paths;
 mod saved_scan;
 mod saved_ways;

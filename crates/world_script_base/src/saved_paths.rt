@@ -4,19 +4,17 @@
 //! them is read here in a list of its own, by the readers that `world_file` has. Which value of it is to blame is found
 //! by putting another one in its place, that would do, and reading it again.
 
-use crate::saved_ways::{BODY, CONTACT, JOINT, Mend, POINT, Part, SHAPE, SHAPES, SLOT, Way};
+use crate::saved_keys::{BODY, BODY_SLOT, CONTACT, JOINT, JOINT_SLOT, Key, POINT, SHAPE, SHAPES};
+use crate::saved_ways::{Part, Way};
 use fixed_geom::Refusal;
 use serde_json::Value;
 use shapes::MAX_SHAPES;
 use std::alloc::Global;
 use std::fmt;
-use world_file::read;
+use world_file::{MOST_TICKS, read};
 use world_file_base::{
     Broken, Clause, Reader, Version, array_value, read_bodies, read_contacts, read_joints,
 };
-
-/// For how many ticks a body may have been slow, for each step of its world.
-const TICKS_OF_A_STEP: u64 = 8;
 
 /// How many points a contact has at most.
 const MAX_POINTS: usize = 2;
@@ -80,7 +78,7 @@ impl Question {
         Question {
             alloc,
             version,
-            most_ticks: number("step").saturating_mul(TICKS_OF_A_STEP),
+            most_ticks: number("step").saturating_mul(MOST_TICKS),
             clause,
         }
     }
@@ -189,14 +187,10 @@ struct Search<'a> {
 }
 
 impl Search<'_> {
-    /// Looks at a part's keys, if nothing was found before.
-    fn look(&mut self, part: Part, mends: &[Mend]) -> Result<(), Broken> {
-        if self.found.is_some() {
-            return Ok(());
-        }
-        for (key, by) in mends {
-            let way = Way { part, key };
-            if self.question.is_mended(self.list, self.item, way, by)? {
+    /// Looks at a key of a part.
+    fn try_key(&mut self, way: Way, texts: &[&str]) -> Result<(), Broken> {
+        for text in texts {
+            if self.question.is_mended(self.list, self.item, way, text)? {
                 self.found = Some(way);
                 return Ok(());
             }
@@ -204,25 +198,37 @@ impl Search<'_> {
         Ok(())
     }
 
-    fn look_in_slot_of_body(&mut self) -> Result<(), Broken> {
-        self.look(Part::Item, &SLOT)?;
-        self.look(Part::Within("body"), &BODY)?;
-        for index in 0..MAX_SHAPES {
-            self.look(Part::Shape(index), &SHAPE)?;
+    /// Looks at a part's keys, if nothing was found before.
+    fn look(&mut self, part: Part, keys: &[Key]) -> Result<(), Broken> {
+        for place in 0..keys.len() {
+            if self.found.is_some() {
+                return Ok(());
+            }
+            let (key, _, _, texts) = keys[place];
+            self.try_key(Way { part, key }, texts)?;
         }
-        self.look(Part::Within("body"), &SHAPES)
+        Ok(())
+    }
+
+    fn look_in_slot_of_body(&mut self) -> Result<(), Broken> {
+        self.look(Part::Item, BODY_SLOT)?;
+        self.look(Part::Within("body"), BODY)?;
+        for index in 0..MAX_SHAPES {
+            self.look(Part::Shape(index), SHAPE)?;
+        }
+        self.look(Part::Within("body"), SHAPES)
     }
 
     fn look_in_slot_of_joint(&mut self) -> Result<(), Broken> {
-        self.look(Part::Item, &SLOT)?;
-        self.look(Part::Within("joint"), &JOINT)
+        self.look(Part::Item, JOINT_SLOT)?;
+        self.look(Part::Within("joint"), JOINT)
     }
 
     fn look_in_contact(&mut self) -> Result<(), Broken> {
         for index in 0..MAX_POINTS {
-            self.look(Part::Point(index), &POINT)?;
+            self.look(Part::Point(index), POINT)?;
         }
-        self.look(Part::Item, &CONTACT)
+        self.look(Part::Item, CONTACT)
     }
 }
 

@@ -1,41 +1,58 @@
 //! The tokens of a text, asked for what a saved world has. Each value is read to its end, whatever it is.
 
+use crate::saved_keys::{Key, Kind};
 use json::{Reader, Token};
-
-/// What the value of a key has to be.
-#[derive(Clone, Copy)]
-pub(crate) enum Kind {
-    Number,
-    NumberOrNull,
-    Truth,
-    Text,
-    /// A list of two numbers.
-    Pair,
-    /// A list of two such lists.
-    Pairs,
-    /// A list of two texts.
-    Texts,
-    /// An object or a list of objects, which the form reads itself.
-    Parts,
-}
 
 /// A key of a form: its bit among those of the form, and what its value has to be.
 #[derive(Clone, Copy)]
-pub(crate) struct Field {
-    pub(crate) bit: u32,
-    pub(crate) kind: Kind,
+struct Field {
+    bit: u32,
+    kind: Kind,
 }
 
 /// An object of a saved world.
 pub(crate) trait Form {
-    /// The bits of the keys that each object of the form has.
-    fn needed() -> u32;
-
-    /// What a key is to the form, if an object of it may have the key.
-    fn field(key: &str) -> Option<Field>;
+    /// The keys that an object of the form may have.
+    fn keys() -> &'static [Key];
 
     /// Reads the value of a key that is an object or a list of objects. Answers whether it may be one.
-    fn read_parts(scan: &mut Scan<'_>, bit: u32) -> bool;
+    fn read_parts(_scan: &mut Scan<'_>, _key: &str) -> bool {
+        false
+    }
+}
+
+/// The bit of the key in this place.
+fn bit_of(place: usize) -> u32 {
+    match u32::try_from(place) {
+        Ok(place) => 1u32.checked_shl(place).unwrap_or(0),
+        Err(_) => 0,
+    }
+}
+
+/// What a key is to a form, if an object of it may have the key.
+fn field_of(keys: &[Key], name: &str) -> Option<Field> {
+    for place in 0..keys.len() {
+        let (key, kind, _, _) = keys[place];
+        if key == name {
+            return Some(Field {
+                bit: bit_of(place),
+                kind,
+            });
+        }
+    }
+    None
+}
+
+/// The bits of the keys that each object of a form has.
+fn needed_of(keys: &[Key]) -> u32 {
+    let mut needed = 0;
+    for place in 0..keys.len() {
+        let (_, _, is_needed, _) = keys[place];
+        if is_needed {
+            needed |= bit_of(place);
+        }
+    }
+    needed
 }
 
 /// What was read of an object: the keys that it has, those whose last value isn't what it has to be, and whether it has
@@ -64,7 +81,8 @@ impl Seen {
 
     /// Whether an object with these keys may be of a form.
     fn may_be<F: Form>(self) -> bool {
-        !self.has_other && self.bad == 0 && self.keys & F::needed() == F::needed()
+        let needed = needed_of(F::keys());
+        !self.has_other && self.bad == 0 && self.keys & needed == needed
     }
 }
 
@@ -191,8 +209,8 @@ impl<'a> Scan<'a> {
     }
 
     /// Reads the value of a key. Answers whether it is what it has to be.
-    fn read_field<F: Form>(&mut self, field: Field) -> bool {
-        match field.kind {
+    fn read_field<F: Form>(&mut self, kind: Kind, key: &str) -> bool {
+        match kind {
             Kind::Number => self.read_one(false),
             Kind::NumberOrNull => self.read_number_or_null(),
             Kind::Truth => self.read_truth(),
@@ -200,15 +218,15 @@ impl<'a> Scan<'a> {
             Kind::Pair => self.read_two(false),
             Kind::Pairs => self.read_pairs(),
             Kind::Texts => self.read_two(true),
-            Kind::Parts => F::read_parts(self, field.bit),
+            Kind::Parts => F::read_parts(self, key),
         }
     }
 
     /// Reads a key's value into what was seen of an object.
     fn read_key<F: Form>(&mut self, seen: Seen, key: &str) -> Seen {
-        match F::field(key) {
+        match field_of(F::keys(), key) {
             Some(field) => {
-                let good = self.read_field::<F>(field);
+                let good = self.read_field::<F>(field.kind, key);
                 seen.with(field.bit, good)
             }
             None => {
