@@ -1,13 +1,6 @@
 -- What stands under the keys of a body that is read, and what its kind, its mass, its motion and its island are read
 -- as.
-use Rattle.std.proofs.Common.{◌≡◌, ℕ, ◌^◌, ◌<◌, ◌++◌, ◌∷◌, [], true, List, Option, Some, codes, ℤ, pos, unsigned_abs, int_eq, refl, ap, ◌∙◌, arith}
-use Rattle.fixed_geom.specs.Facings.{IsFacing, is_facing}
-use Rattle.fixed_geom.specs.Vectors.{IsWithin}
-use Rattle.fixed_geom.specs.declared.facings.Rot.{Rot}
-use Rattle.fixed_geom.specs.declared.limits.TheConstants.{MAX_POSITION}
-use Rattle.fixed_geom.specs.declared.vectors.Vec2.{Vec2}
-use Rattle.momenta.specs.declared.limits.TheConstants.{MAX_MOMENTUM}
-use Rattle.momenta.specs.declared.motion.Motion.{Motion}
+use Rattle.std.proofs.Common.{◌≡◌, ℕ, ◌++◌, ◌∷◌, [], true, List, Some, codes, refl, ◌∙◌}
 use Rattle.plain_world.specs.declared.kind.Kind.{Kind}
 use Rattle.plain_world.specs.declared.kind.Kind.TheVariants.{Static, Kinematic, Dynamic}
 use Rattle.saved_text.specs.Bodies.{last_of_body}
@@ -16,22 +9,19 @@ use Rattle.saved_text.specs.Tokens.{have_whole, in_order}
 use Rattle.saved_text.specs.Whole.{are_members_whole}
 use Rattle.serde_json.specs.Data.{Data, boolean, object, string}
 use Rattle.serde_json.specs.Find.{get}
-use Rattle.world_file_base.specs.Reading.{island_in, truth_in, vector_in, vector_within}
-use Rattle.world_file_base.specs.AskedValues.{island_asks, truth_asks, vector_asks, vector_within_asks, decimal_asks}
-use Rattle.world_file_base.specs.SavedBodies.{facing_in, kind_name, membership_in, momenta_in, most_angular, motion_in, pose_in}
-use Rattle.world_file_base.specs.AskedBodies.{membership_asks, momenta_asks, motion_asks, pose_asks}
-use Rattle.world_file_base.specs.Texts.{decimal_in}
+use Rattle.world_file_base.specs.Reading.{island_in, truth_in}
+use Rattle.world_file_base.specs.AskedValues.{island_asks, truth_asks}
+use Rattle.world_file_base.specs.SavedBodies.{kind_name, membership_in}
+use Rattle.world_file_base.specs.AskedBodies.{membership_asks}
 use Rattle.world_file_base.specs.Written.{Member, decimal_of, integer, list_data, natural, natural_or_null, vector_of}
-use Rattle.world_file_base.specs.declared.clause.Clause.TheVariants.{Limits}
 use Rattle.world_file_base.specs.declared.reader.Reader.{Reader}
 use Rattle.world_file_base.specs.declared.saved.Membership.{Membership}
-use Rattle.world_file.proofs.BackNumbers.{asked_true, decimal_back, facing_true, within_back}
-use Rattle.world_file.proofs.BackBodies.{truth_back, angular_by, angular_most, HasCourseKeys, back_at}
+use Rattle.world_file.proofs.BackBodies.{truth_back, HasCourseKeys, back_at}
 use Rattle.loaded_text.specs.Bodies.{IsFront, IsStill, membership_of}
 use Rattle.loaded_text.specs.Stands.{MembersStand, Stands, key_text}
 use Rattle.loaded_text.specs.declared.body_members.Front.{Front}
 use Rattle.loaded_text.proofs.Joined.{member_then, no_member}
-use Rattle.loaded_text.proofs.Back.{island_or_none, vector_any}
+use Rattle.loaded_text.proofs.Back.{island_or_none}
 
 -- ---- its members
 
@@ -86,36 +76,6 @@ pub has_course_of : (f : Front) (kind : Kind) (shapes : List Data) (timer : ℕ)
 has_course_of f Static shapes timer = refl
 has_course_of f (Kinematic course) shapes timer = (refl, refl, refl)
 has_course_of f Dynamic shapes timer = refl
-
--- ---- its motion
-
-pub record IsMotionRead (inertia : ℤ) (s : Motion) (d : Data) : Type 0 where
-  pub value : motion_in inertia d ≡ s
-  pub asks : (r : Reader) → motion_asks inertia d r ≡ r
-
-facing_same : (o : Option Data) (q : Rot) → vector_in o ≡ record { x = q.c; y = q.s } → facing_in o ≡ q
-facing_same o q e = λ i. record { c = (e i).x; s = (e i).y }
-
-facing_signed : (q : Rot) → IsFacing q → IsWithin (2 ^ 62) (record { x = q.c; y = q.s })
-facing_signed q h = let far = h.c in let up = h.s in record { x = omega (arith, far); y = omega (arith, up) }
-
-within_signed : (v : Vec2) → IsWithin (2 ^ 62) v → (unsigned_abs v.x < 2 ^ 63) × (unsigned_abs v.y < 2 ^ 63)
-within_signed v h = let x = h.x in let y = h.y in (omega (arith, x), omega (arith, y))
-
-pub motion_read : (f : Front) (kind : Kind) (shapes : List Data) (timer : ℕ) (d : Data) → HasKeys d f kind shapes timer → IsFront f → (f.inertia ≡ pos 0 → f.l ≡ pos 0) → IsMotionRead f.inertia (record { p = f.p; l = f.l; x = f.at; rot = f.facing }) d
-unfolding motion_in motion_asks momenta_in momenta_asks pose_in pose_asks
-motion_read f kind shapes timer d keys h still =
-    let v : Vec2 = record { x = f.facing.c; y = f.facing.s } in
-    let p = back_at (vector_within (unsigned_abs MAX_MOMENTUM)) (vector_within_asks (unsigned_abs MAX_MOMENTUM)) (get (codes "p") d) (vector_of f.p) f.p keys.p (within_back (unsigned_abs MAX_MOMENTUM) f.p (omega arith) h.p) in
-    let l = back_at (decimal_in (most_angular f.inertia)) (decimal_asks (most_angular f.inertia)) (get (codes "l") d) (decimal_of f.l) f.l keys.l
-    (decimal_back (most_angular f.inertia) f.l (angular_most (int_eq f.inertia (pos 0))) (angular_by (int_eq f.inertia (pos 0)) f.inertia f.l refl still h.l)) in
-    let x = back_at (vector_within (unsigned_abs MAX_POSITION)) (vector_within_asks (unsigned_abs MAX_POSITION)) (get (codes "at") d) (vector_of f.at) f.at keys.at (within_back (unsigned_abs MAX_POSITION) f.at (omega arith) h.at) in
-    let q = back_at vector_in vector_asks (get (codes "facing") d) (facing_of f.facing) v keys.facing (vector_any v (within_signed v (facing_signed f.facing h.facing))) in
-    let rot = facing_same (get (codes "facing") d) f.facing q.value in
-    record {
-      value = λ i. record { p = p.value i; l = l.value i; x = x.value i; rot = rot i };
-      asks = λ r. asked_true (is_facing (facing_in (get (codes "facing") d))) Limits _ (ap (λ (v : Rot). is_facing v) rot ∙ facing_true f.facing h.facing) ∙ q.asks _ ∙ x.asks _ ∙ l.asks _ ∙ p.asks r;
-    }
 
 -- ---- its island
 

@@ -1,6 +1,7 @@
 -- A body that stands in a text is read as this body.
 use Rattle.std.proofs.Common.{◌≡◌, ℕ, ◌≤◌, ◌++◌, ◌∷◌, [], false, true, List, Option, codes, pos, refl, sym, ap, ap₂, ◌∙◌, subst, arith}
 use Rattle.momenta.specs.declared.mass.MassData.{MassData}
+use Rattle.momenta.specs.declared.motion.Motion.{Motion}
 use Rattle.plain_world.specs.Bodies.{IsMassOf}
 use Rattle.plain_world.specs.Kinds.{IsCourseOf}
 use Rattle.plain_world.specs.declared.body.Body.{Body}
@@ -21,7 +22,7 @@ use Rattle.world_file_base.specs.AskedShapes.{shapes_asks}
 use Rattle.world_file_base.specs.Written.{Member, decimal_of, integer, list_data, natural, natural_or_null, vector_of}
 use Rattle.world_file_base.specs.declared.saved.Membership.{Membership}
 use Rattle.world_file.proofs.BackNumbers.{unsigned_back}
-use Rattle.world_file.proofs.BackBodies.{truth_back, mass_back, HasCourseKeys, back_at, kind_back}
+use Rattle.world_file.proofs.BackBodies.{truth_back, mass_back, HasCourseKeys, back_at, kind_back, motion_back}
 use Rattle.loaded_text.specs.Bodies.{BodyHolds, IsFront, front_members, made, membership_of}
 use Rattle.loaded_text.specs.Shapes.{ShapesHold, no_shapes}
 use Rattle.loaded_text.specs.Stands.{MembersStand, key_text}
@@ -29,7 +30,7 @@ use Rattle.loaded_text.specs.declared.bodies.LoadedBody.{LoadedBody}
 use Rattle.loaded_text.specs.declared.body_members.Front.{Front}
 use Rattle.loaded_text.specs.declared.body_members.Last.{Last}
 use Rattle.loaded_text.specs.declared.saved_shapes.LoadedShapes.{LoadedShapes}
-use Rattle.loaded_text.proofs.BodyKeys.{HasKeys, body_ascends, body_data, body_members, front_by, has_course_of, has_keys_of, membership_read, motion_read}
+use Rattle.loaded_text.proofs.BodyKeys.{HasKeys, body_ascends, body_data, body_members, front_by, has_course_of, has_keys_of, membership_read}
 use Rattle.loaded_text.proofs.Joined.{member_then, members_then, object_stands}
 use Rattle.loaded_text.proofs.Parts.{or_null_depth}
 
@@ -55,7 +56,8 @@ body_read most f s last items d keys course h timed defs_are fats_are fine =
     let m : MassData = record { mass = f.mass; inertia = f.inertia } in
     let mass = mass_back last.kind m d h.mass keys.mass keys.inertia in
     let heavy : mass_in (kind_in d) d ≡ m = ap (λ (k : Kind). mass_in k d) kind.value ∙ mass.value in
-    let motion = motion_read f last.kind items last.timer d keys h.front h.still in
+    let v : Motion = record { p = f.p; l = f.l; x = f.at; rot = f.facing } in
+    let motion = motion_back m v d (record { at_is = keys.at; facing_is = keys.facing; l_is = keys.l; p_is = keys.p }) (record { p = h.front.p; l = h.front.l; still = h.still; x = h.front.at; facing = h.front.facing }) in
     let moves : motion_in (mass_in (kind_in d) d).inertia d ≡ (made f s last).body.motion = ap (λ (m : MassData). motion_in m.inertia d) heavy ∙ motion.value in
     let membership = membership_read f last.kind items last.timer d keys h.front in
     let enabled = back_at truth_in truth_asks (get (codes "enabled") d) (boolean f.enabled) f.enabled keys.enabled (truth_back f.enabled) in

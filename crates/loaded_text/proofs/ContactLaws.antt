@@ -1,32 +1,27 @@
 -- Contacts that stand in a text, and their points.
-use Rattle.std.proofs.Common.{◌≡◌, ℕ, ◌+◌, ◌^◌, ◌<◌, ◌≤◌, ◌==◌, ◌++◌, ◌∷◌, [], Bool, false, true, not, List, Option, Some, None, IfSome, codes, pos, ◌≤ℤ◌, unsigned_abs, refl, sym, ap, ap₂, ◌∙◌, arith, append-nil}
+use Rattle.std.proofs.Common.{◌≡◌, ℕ, ◌+◌, ◌≤◌, ◌==◌, ◌++◌, ◌∷◌, [], Bool, false, true, not, List, Option, Some, None, codes, refl, sym, ap, ap₂, ◌∙◌, arith, append-nil}
 use Rattle.contacts_base.specs.Limits.{IsPackable}
 use Rattle.contacts_base.specs.declared.contact.ContactPoint.{ContactPoint}
 use Rattle.contacts_base.specs.declared.key.ShapeId.{ShapeId}
-use Rattle.contacts_base.specs.declared.limits.TheConstants.{MAX_NORMAL, MAX_NORMAL_IMPULSE, MAX_OFFSET, MAX_SEPARATION, MAX_TANGENT_IMPULSE}
-use Rattle.fixed_geom.specs.Vectors.{IsWithin}
-use Rattle.graph_colours.specs.declared.limits.TheConstants.{COLOURS}
 use Rattle.saved_text.specs.Tokens.{in_order}
 use Rattle.serde_json.specs.Data.{Data, boolean, depth, object}
-use Rattle.serde_json.specs.Events.{items_len}
 use Rattle.serde_json.specs.View.{items_of}
 use Rattle.serde_json.specs.Written.{comma_if}
 use Rattle.world_file_base.specs.Asks.{no_asks}
-use Rattle.world_file_base.specs.SavedContacts.{contact_in, contacts_in, last_candidate, no_points, point_in, shape_id_of, with_point, with_points}
-use Rattle.world_file_base.specs.AskedContacts.{contact_asks, contacts_asks, point_asks, points_asks}
+use Rattle.world_file_base.specs.SavedContacts.{contact_in, contacts_in, no_points, point_in, shape_id_of, with_point, point_data}
+use Rattle.world_file_base.specs.AskedContacts.{contact_asks, contacts_asks, point_asks}
 use Rattle.world_file_base.specs.Written.{Member, integer, list_data, natural, natural_or_null, vector_of}
 use Rattle.world_file_base.specs.declared.reader.Reader.{Reader}
 use Rattle.world_file_base.specs.declared.saved.SavedContact.{SavedContact}
 use Rattle.world_file_base.specs.declared.version.Version.TheVariants.{Second}
-use Rattle.world_file.proofs.BackNumbers.{unsigned_back, within_back}
-use Rattle.world_file.proofs.BackParts.{push_asked, shape_id_back, size_asked, size_back}
 use Rattle.loaded_text.specs.Contacts.{ContactsHold, PointsHold}
 use Rattle.loaded_text.specs.Stands.{Holds, Stands, key_text}
 use Rattle.loaded_text.specs.declared.points.Points.{Points}
-use Rattle.loaded_text.proofs.Back.{colour_or_none, signed_any}
 use Rattle.loaded_text.proofs.ShapeLaws.{at_most}
 use Rattle.loaded_text.proofs.Joined.{item_more, list_stands, member_then, no_item, no_member, object_stands}
 use Rattle.loaded_text.proofs.Lists.{ItemsSoFar, added_more, asked_more, list_ends, list_shallow, none_so_far, one_more}
+use Rattle.world_file.proofs.BackParts.{IsContactHeld, contact_members, contact_read, point_back}
+use Rattle.world_file.proofs.ReadPoints.{IsPoint}
 
 -- ---- a point
 
@@ -41,42 +36,10 @@ point_members p =
     ∷ (codes "slip", integer p.tangent_impulse)
     ∷ []
 
--- what is known of a point's numbers
-pub record IsPointRead (p : ContactPoint) : Type 0 where
-  pub candidate : p.candidate ≤ 3
-  pub normal : IsWithin MAX_NORMAL p.normal
-  pub push : unsigned_abs p.normal_impulse ≤ MAX_NORMAL_IMPULSE
-  pub positive : pos 0 ≤ℤ p.normal_impulse
-  pub ra : IsWithin MAX_OFFSET p.ra
-  pub rb : IsWithin MAX_OFFSET p.rb
-  pub separation : unsigned_abs p.separation ≤ MAX_SEPARATION
-  pub slip : unsigned_abs p.tangent_impulse ≤ MAX_TANGENT_IMPULSE
+pub is_packable : (p : ContactPoint) → IsPoint p → IsPackable p
+is_packable p h = record { normal = h.point.normal; separation = h.point.separation; ra = h.point.ra; rb = h.point.rb; candidate = h.candidate }
 
-pub is_packable : (p : ContactPoint) → IsPointRead p → IsPackable p
-is_packable p h = record { normal = h.normal; separation = h.separation; ra = h.ra; rb = h.rb; candidate = h.candidate }
-
-record IsPointIn (p : ContactPoint) : Type 0 where
-  value : point_in (object (in_order (point_members p))) ≡ p
-  asks : point_asks (object (in_order (point_members p))) no_asks ≡ no_asks
-
-point_read : (p : ContactPoint) → IsPointRead p → IsPointIn p
-unfolding point_in point_asks
-point_read p h =
-    let push = h.push in
-    let slip = h.slip in
-    let normal = within_back MAX_NORMAL p.normal (omega arith) h.normal in
-    let first = within_back MAX_OFFSET p.ra (omega arith) h.ra in
-    let second = within_back MAX_OFFSET p.rb (omega arith) h.rb in
-    let apart = size_back MAX_SEPARATION p.separation (omega arith) h.separation in
-    let along = signed_any p.normal_impulse (omega (arith, push)) in
-    let across = signed_any p.tangent_impulse (omega (arith, slip)) in
-    let candidate = unsigned_back last_candidate p.candidate h.candidate in
-    record {
-      value = λ i. record { normal = normal.value i; separation = apart i; ra = first.value i; rb = second.value i; normal_impulse = along.value i; tangent_impulse = across.value i; candidate = candidate.value i };
-      asks = candidate.asks _ ∙ size_asked MAX_TANGENT_IMPULSE p.tangent_impulse (omega arith) slip _ ∙ push_asked p.normal_impulse h.positive push _ ∙ second.asks _ ∙ first.asks _ ∙ size_asked MAX_SEPARATION p.separation (omega arith) h.separation _ ∙ normal.asks no_asks;
-    }
-
-pub point_holds : (p : ContactPoint) (a b c d e f g h i k : List ℕ) → IsPointRead p
+pub point_holds : (p : ContactPoint) (a b c d e f g h i k : List ℕ) → IsPoint p
     → a ≡ 123 ∷ b
     → Stands (key_text false (codes "candidate")) (natural p.candidate) b c
     → Stands (key_text true (codes "normal")) (vector_of p.normal) c d
@@ -87,6 +50,7 @@ pub point_holds : (p : ContactPoint) (a b c d e f g h i k : List ℕ) → IsPoin
     → Stands (key_text true (codes "slip")) (integer p.tangent_impulse) h i
     → i ≡ 125 ∷ k
     → Holds [] point_in point_asks 2 p a k
+unfolding point_data
 point_holds p a b c d e f g h i k fits begun one two three four five six seven close =
     let members =
     member_then false _ (codes "candidate") (natural p.candidate) _ b c i refl one
@@ -96,13 +60,13 @@ point_holds p a b c d e f g h i k fits begun one two three four five six seven c
     (member_then true _ (codes "rb") (vector_of p.rb) _ f g i refl five
     (member_then true _ (codes "sep") (integer p.separation) _ g h i refl six
     (member_then true _ (codes "slip") (integer p.tangent_impulse) [] h i i refl seven (no_member true i))))))) in
-    let read = point_read p fits in
+    let read = point_back p fits in
     record {
       value = object (in_order (point_members p));
       stands = object_stands [] (point_members p) a a b i k refl begun members close refl;
       shallow = at_most (depth (object (in_order (point_members p)))) 2 refl;
       is = read.value;
-      asks = read.asks;
+      asks = read.asks no_asks;
     }
 
 -- ---- the points of a contact
@@ -142,15 +106,6 @@ two_points_hold lead points p q a b c d e f g contact count before begun h comma
 
 -- ---- a contact
 
-abbrev contact_members : ShapeId → ShapeId → Option ℕ → List Data → Bool → List Member
-contact_members first second colour points touching =
-    (codes "a", shape_id_of first)
-    ∷ (codes "b", shape_id_of second)
-    ∷ (codes "colour", natural_or_null colour)
-    ∷ (codes "points", list_data points)
-    ∷ (codes "touching", boolean touching)
-    ∷ []
-
 contact_depth : (first second : ShapeId) (colour : Option ℕ) (points : List Data) (touching : Bool) → depth (list_data points) ≤ 3 → depth (object (in_order (contact_members first second colour points touching))) ≤ 4
 contact_depth first second None points touching low = omega (arith, low)
 contact_depth first second (Some k) points touching low = omega (arith, low)
@@ -158,31 +113,7 @@ contact_depth first second (Some k) points touching low = omega (arith, low)
 abbrev pub contact_by : ShapeId → ShapeId → Bool → Option ℕ → Points → SavedContact
 contact_by first second touching colour points = record { key = record { first = first; second = second }; touching = touching; colour = colour; contact = points.contact; points = points.count }
 
--- what is known of a contact's numbers
-pub record IsContactRead (first second : ShapeId) (colour : Option ℕ) : Type 0 where
-  pub first_slot : first.slot < 2 ^ 32
-  pub first_index : first.index < 256
-  pub second_slot : second.slot < 2 ^ 32
-  pub second_index : second.index < 256
-  pub colour_is : IfSome colour (λ k. k ≤ COLOURS)
-
-record IsContactIn (d : Data) (c : SavedContact) : Type 0 where
-  value : contact_in Second d ≡ c
-  asks : contact_asks Second d no_asks ≡ no_asks
-
-contact_read : (first second : ShapeId) (touching : Bool) (colour : Option ℕ) (points : Points) (items : List Data) → IsContactRead first second colour → with_points (items_of items) no_points ≡ points.contact → items_len (items_of items) ≡ points.count → points_asks (items_of items) no_asks ≡ no_asks
-    → IsContactIn (object (in_order (contact_members first second colour items touching))) (contact_by first second touching colour points)
-unfolding contact_in contact_asks
-contact_read first second touching colour points items h contact count fine =
-    let a = shape_id_back first h.first_slot h.first_index in
-    let b = shape_id_back second h.second_slot h.second_index in
-    let c = colour_or_none colour h.colour_is in
-    record {
-      value = λ i. record { key = record { first = a.value i; second = b.value i }; touching = touching; colour = c.value i; contact = contact i; points = count i };
-      asks = ap (λ r. points_asks (items_of items) r) (c.asks _ ∙ b.asks _ ∙ a.asks no_asks) ∙ fine;
-    }
-
-pub contact_holds : (first second : ShapeId) (colour : Option ℕ) (points : Points) (touching : Bool) (a b c d e f g h : List ℕ) → IsContactRead first second colour
+pub contact_holds : (first second : ShapeId) (colour : Option ℕ) (points : Points) (touching : Bool) (a b c d e f g h : List ℕ) → IsContactHeld first second colour
     → a ≡ 123 ∷ b
     → Stands (key_text false (codes "a")) (shape_id_of first) b c
     → Stands (key_text true (codes "b")) (shape_id_of second) c d
@@ -199,13 +130,13 @@ contact_holds first second colour points touching a b c d e f g h fits begun one
     (member_then true _ (codes "colour") (natural_or_null colour) _ d e g refl three
     (member_then true _ (codes "points") (list_data items) _ e f g refl four.stands
     (member_then true _ (codes "touching") (boolean touching) [] f g g refl five (no_member true g))))) in
-    let read = contact_read first second touching colour points items fits four.contact four.count four.asks in
+    let read = contact_read first second colour items touching fits in
     record {
       value = object (in_order (contact_members first second colour items touching));
       stands = object_stands [] (contact_members first second colour items touching) a a b g h refl begun members close refl;
       shallow = contact_depth first second colour items touching four.shallow;
-      is = read.value;
-      asks = read.asks;
+      is = read.value ∙ (λ i. record { key = record { first = first; second = second }; touching = touching; colour = colour; contact = four.contact i; points = four.count i });
+      asks = read.asks no_asks ∙ four.asks;
     }
 
 -- ---- lists of contacts

@@ -1,13 +1,9 @@
 -- Joints that stand in a text, and their slots.
-use Rattle.std.proofs.Common.{◌≡◌, ℕ, ◌+◌, ◌^◌, ◌<◌, ◌≤◌, ◌==◌, ◌++◌, ◌∷◌, [], Bool, false, true, not, List, Option, Some, None, IfSome, codes, ℤ, pos, neg_ℤ, ◌≤ℤ◌, unsigned_abs, refl, sym, ap, ◌∙◌, arith, append-nil}
-use Rattle.std.proofs.lemmas.Int.{ints}
+use Rattle.std.proofs.Common.{◌≡◌, ℕ, ◌+◌, ◌<◌, ◌≤◌, ◌==◌, ◌++◌, ◌∷◌, [], Bool, false, true, not, List, Option, Some, None, codes, refl, sym, ap, ◌∙◌, arith, append-nil}
 use Rattle.body_handles.specs.declared.handle.Handle.{Handle}
 use Rattle.body_handles.specs.declared.slot_table.SlotEntry.{SlotEntry}
 use Rattle.body_handles.specs.declared.slot_table.TheConstants.{MAX_SLOTS, WORN_OUT}
-use Rattle.fixed_geom.specs.Vectors.{IsWithin}
-use Rattle.graph_colours.specs.declared.limits.TheConstants.{COLOURS}
 use Rattle.joint_rows.specs.declared.joint.Joint.{Joint}
-use Rattle.joint_rows.specs.declared.limits.TheConstants.{MAX_ANCHOR, MAX_JOINT_IMPULSE, MAX_JOINT_LENGTH}
 use Rattle.saved_text.specs.Tokens.{in_order}
 use Rattle.serde_json.specs.Data.{Data, boolean, depth, object}
 use Rattle.serde_json.specs.Events.{items_len}
@@ -22,83 +18,18 @@ use Rattle.world_file_base.specs.declared.reader.Reader.{Reader}
 use Rattle.world_file_base.specs.declared.saved.SavedJoint.{SavedJoint}
 use Rattle.world_file_base.specs.declared.saved.SavedJoints.{SavedJoints}
 use Rattle.world_file_base.specs.declared.version.Version.TheVariants.{Second}
-use Rattle.world_file.proofs.BackNumbers.{between_true, handle_back, signed_back, within_back}
 use Rattle.loaded_text.specs.Joints.{JointSlotHolds, JointsHold}
 use Rattle.loaded_text.specs.Stands.{Holds, Stands, key_text}
 use Rattle.loaded_text.specs.declared.joint_slots.JointSlot.{JointSlot}
-use Rattle.loaded_text.proofs.Back.{colour_or_none}
 use Rattle.loaded_text.proofs.ShapeLaws.{at_most}
 use Rattle.loaded_text.proofs.Joined.{member_then, no_member, object_stands}
 use Rattle.loaded_text.proofs.Lists.{ItemsSoFar, added_more, asked_more, items_count, list_ends, list_shallow, none_so_far, one_more}
 use Rattle.loaded_text.proofs.SlotLaws.{free_members, free_stands, entry_read}
+use Rattle.world_file.proofs.BackParts.{IsJointHeld, joint_by, joint_members, joint_read}
 
 -- ---- a joint
 
-abbrev joint_members : Handle → Handle → Bool → Option ℕ → Joint → List Member
-joint_members a b collide colour j =
-    (codes "a", id_of a)
-    ∷ (codes "b", id_of b)
-    ∷ (codes "collide", boolean collide)
-    ∷ (codes "colour", natural_or_null colour)
-    ∷ (codes "from", vector_of j.from)
-    ∷ (codes "impulse", integer j.impulse)
-    ∷ (codes "length", integer j.length)
-    ∷ (codes "to", vector_of j.to)
-    ∷ []
-
-abbrev pub joint_by : Handle → Handle → Bool → Option ℕ → Joint → SavedJoint
-joint_by a b collide colour j = record { a = a; b = b; joint = record { a = a.slot; b = b.slot; collide = collide; joint = j }; colour = colour }
-
--- what is known of a joint's numbers
-pub record IsJointRead (a b : Handle) (colour : Option ℕ) (j : Joint) : Type 0 where
-  pub a_slot : a.slot < 2 ^ 32
-  pub a_generation : a.generation < 2 ^ 32
-  pub b_slot : b.slot < 2 ^ 32
-  pub b_generation : b.generation < 2 ^ 32
-  pub colour_is : IfSome colour (λ k. k ≤ COLOURS)
-  pub from : IsWithin (unsigned_abs MAX_ANCHOR) j.from
-  pub impulse : unsigned_abs j.impulse ≤ unsigned_abs MAX_JOINT_IMPULSE
-  pub length : unsigned_abs j.length ≤ unsigned_abs MAX_JOINT_LENGTH
-  pub positive : pos 0 ≤ℤ j.length
-  pub to : IsWithin (unsigned_abs MAX_ANCHOR) j.to
-
-impulse_between : (z : ℤ) → unsigned_abs z ≤ 2 ^ 42 → (neg_ℤ (pos (2 ^ 42)) ≤ℤ z) × (z ≤ℤ pos (2 ^ 42))
-impulse_between z h = (omega (arith, ints, h), omega (arith, ints, h))
-
-length_most : (z : ℤ) → unsigned_abs z ≤ 2 ^ 25 → z ≤ℤ pos (2 ^ 25)
-length_most z h = omega (arith, ints, h)
-
-record IsJointIn (a b : Handle) (collide : Bool) (colour : Option ℕ) (j : Joint) : Type 0 where
-  value : joint_in Second (object (in_order (joint_members a b collide colour j))) ≡ joint_by a b collide colour j
-  asks : joint_asks Second (object (in_order (joint_members a b collide colour j))) no_asks ≡ no_asks
-
-joint_read : (a b : Handle) (collide : Bool) (colour : Option ℕ) (j : Joint) → IsJointRead a b colour j → IsJointIn a b collide colour j
-unfolding joint_in joint_asks
-joint_read a b collide colour j h =
-    let first = handle_back a h.a_slot h.a_generation in
-    let second = handle_back b h.b_slot h.b_generation in
-    let c = colour_or_none colour h.colour_is in
-    let from = within_back (unsigned_abs MAX_ANCHOR) j.from (omega arith) h.from in
-    let to = within_back (unsigned_abs MAX_ANCHOR) j.to (omega arith) h.to in
-    let size = impulse_between j.impulse h.impulse in
-    let impulse = signed_back (neg_ℤ MAX_JOINT_IMPULSE) MAX_JOINT_IMPULSE j.impulse (between_true (neg_ℤ MAX_JOINT_IMPULSE) MAX_JOINT_IMPULSE j.impulse size.0 size.1) in
-    let long = signed_back (pos 0) MAX_JOINT_LENGTH j.length (between_true (pos 0) MAX_JOINT_LENGTH j.length h.positive (length_most j.length h.length)) in
-    record {
-      value = λ i. record {
-        a = first.value i;
-        b = second.value i;
-        joint = record {
-          a = (first.value i).slot;
-          b = (second.value i).slot;
-          collide = collide;
-          joint = record { from = from.value i; to = to.value i; length = long.value i; impulse = impulse.value i };
-        };
-        colour = c.value i;
-      };
-      asks = to.asks _ ∙ long.asks _ ∙ impulse.asks _ ∙ from.asks _ ∙ c.asks _ ∙ second.asks _ ∙ first.asks no_asks;
-    }
-
-pub joint_holds : (lead : List ℕ) (first second : Handle) (collide : Bool) (colour : Option ℕ) (j : Joint) (a b c d e f g h i k l m : List ℕ) → IsJointRead first second colour j
+pub joint_holds : (lead : List ℕ) (first second : Handle) (collide : Bool) (colour : Option ℕ) (j : Joint) (a b c d e f g h i k l m : List ℕ) → IsJointHeld first second colour j
     → a ≡ lead ++ b
     → b ≡ 123 ∷ c
     → Stands (key_text false (codes "a")) (id_of first) c d
@@ -127,7 +58,7 @@ joint_holds lead first second collide colour j a b c d e f g h i k l m fits befo
       stands = object_stands lead (joint_members first second collide colour j) a b c l m before begun members close refl;
       shallow = joint_depth first second collide colour j;
       is = read.value;
-      asks = read.asks;
+      asks = read.asks no_asks;
     }
   where
     joint_depth : (a b : Handle) (collide : Bool) (colour : Option ℕ) (j : Joint) → depth (object (in_order (joint_members a b collide colour j))) ≤ 2

@@ -10,19 +10,19 @@ use Rattle.shapes.specs.declared.shape.Shape.{Shape}
 use Rattle.shapes.specs.declared.shape.Shape.TheVariants.{Circle, Capsule, Segment}
 use Rattle.world_file_base.specs.Asks.{no_asks}
 use Rattle.world_file_base.specs.Reading.{greatest_group, least_group}
-use Rattle.world_file_base.specs.SavedShapes.{defs_in, fats_in, form_in, most_bits, most_corner, shape_in}
-use Rattle.world_file_base.specs.AskedShapes.{form_asks, shape_asks, shapes_asks}
+use Rattle.world_file_base.specs.SavedShapes.{defs_in, fats_in, shape_in, shape_of}
+use Rattle.world_file_base.specs.AskedShapes.{shape_asks, shapes_asks}
 use Rattle.world_file_base.specs.Written.{Member, corners_of, ends_of, integer, natural, vector_of}
 use Rattle.world_file_base.specs.declared.reader.Reader.{Reader}
 use Rattle.world_file_base.specs.declared.saved_shapes.SavedShape.{SavedShape}
-use Rattle.world_file.proofs.BackNumbers.{corners_back, signed_back, unsigned_back}
 use Rattle.loaded_text.specs.Shapes.{IsSurround, ShapesHold, surround_members}
 use Rattle.loaded_text.specs.Stands.{Holds, IsSignedVector, MembersStand, Stands, key_text}
 use Rattle.loaded_text.specs.declared.forms.Surround.{Surround}
 use Rattle.loaded_text.specs.declared.saved_shapes.LoadedShapes.{LoadedShapes}
-use Rattle.loaded_text.proofs.Back.{signed_any, vector_any}
 use Rattle.loaded_text.proofs.Joined.{member_then, members_then, no_member, object_stands}
 use Rattle.loaded_text.proofs.Lists.{ItemsSoFar, added_more, asked_more, list_ends, list_shallow, none_so_far, one_more}
+use Rattle.world_file.proofs.BackShapes.{IsFormHeld, IsShapeBack, shape_read}
+use Rattle.world_file.proofs.Tests.{between_is}
 
 abbrev pub shape_by : Shape → ℕ → Surround → ℤ → SavedShape
 shape_by shape category s restitution = record {
@@ -36,6 +36,13 @@ surround_then s ns a b c first second =
 
 pub at_most : (n k : ℕ) → n ≡ k → n ≤ k
 at_most n k e = omega (arith, e)
+
+-- what is read of a shape with this surround
+shape_read_back : (shape : Shape) (category : ℕ) (s : Surround) (restitution : ℤ) → IsFormHeld shape → category < 2 ^ 64 → IsSurround s → IsSigned restitution → IsShapeBack (shape_by shape category s restitution).def s.fat
+shape_read_back shape category s restitution form small fits bouncy =
+    let few = fits.mask in
+    let group = between_is least_group greatest_group s.group fits.group in
+    shape_read (shape_by shape category s restitution).def s.fat (record { form = form; friction = fits.friction; restitution = bouncy; filter = record { category = omega (arith, small); mask = omega (arith, few); least = group.least; most = group.most }; corners = fits.fat })
 
 -- ---- circles
 
@@ -55,7 +62,7 @@ pub circle_holds : (category : ℕ) (center : Vec2) (s : Surround) (radius resti
     → Stands (key_text true (codes "restitution")) (integer restitution) f g
     → g ≡ 125 ∷ h
     → Holds [] shape_in shape_asks 3 (shape_by (Circle center radius) category s restitution) a h
-unfolding shape_in shape_asks form_in form_asks
+unfolding shape_of
 circle_holds category center s radius restitution a b c d e f g h small signed fits round bouncy begun first second third fourth fifth close =
     let members =
     member_then false _ (codes "category") (natural category) _ b c g refl first
@@ -63,21 +70,13 @@ circle_holds category center s radius restitution a b c d e f g h small signed f
     (surround_then s (round_end radius restitution) d e g third
     (member_then true _ (codes "radius") (integer radius) _ e f g refl fourth
     (member_then true _ (codes "restitution") (integer restitution) [] f g g refl fifth (no_member true g))))) in
-    let x = vector_any center signed in
-    let k = signed_any radius round in
-    let p = signed_any s.friction fits.friction in
-    let q = signed_any restitution bouncy in
-    let u = unsigned_back most_bits category (omega (arith, small)) in
-    let few = fits.mask in
-    let m = unsigned_back most_bits s.mask (omega (arith, few)) in
-    let n = signed_back least_group greatest_group s.group fits.group in
-    let o = corners_back most_corner s.fat (omega arith) fits.fat in
+    let read = shape_read_back (Circle center radius) category s restitution (signed, round) small fits bouncy in
     record {
       value = object (in_order (circle_members category center s radius restitution));
       stands = object_stands [] (circle_members category center s radius restitution) a a b g h refl begun members close refl;
       shallow = at_most (depth (object (in_order (circle_members category center s radius restitution)))) 3 refl;
-      is = λ i. record { def = record { shape = Circle (x.value i) (k.value i); friction = p.value i; restitution = q.value i; filter = record { category = u.value i; mask = m.value i; group = n.value i } }; fat = o.value i };
-      asks = o.asks _ ∙ n.asks _ ∙ m.asks _ ∙ u.asks _ ∙ q.asks _ ∙ p.asks _ ∙ k.asks _ ∙ x.asks no_asks;
+      is = read.value;
+      asks = read.asks no_asks;
     }
 
 -- ---- capsules
@@ -95,7 +94,7 @@ pub capsule_holds : (one two : Vec2) (category : ℕ) (s : Surround) (radius res
     → Stands (key_text true (codes "restitution")) (integer restitution) f g
     → g ≡ 125 ∷ h
     → Holds [] shape_in shape_asks 3 (shape_by (Capsule one two radius) category s restitution) a h
-unfolding shape_in shape_asks form_in form_asks
+unfolding shape_of
 capsule_holds one two category s radius restitution a b c d e f g h signed also small fits round bouncy begun first second third fourth fifth close =
     let members =
     member_then false _ (codes "capsule") (ends_of one two) _ b c g refl first
@@ -103,22 +102,13 @@ capsule_holds one two category s radius restitution a b c d e f g h signed also 
     (surround_then s (round_end radius restitution) d e g third
     (member_then true _ (codes "radius") (integer radius) _ e f g refl fourth
     (member_then true _ (codes "restitution") (integer restitution) [] f g g refl fifth (no_member true g))))) in
-    let x = vector_any one signed in
-    let y = vector_any two also in
-    let k = signed_any radius round in
-    let p = signed_any s.friction fits.friction in
-    let q = signed_any restitution bouncy in
-    let u = unsigned_back most_bits category (omega (arith, small)) in
-    let few = fits.mask in
-    let m = unsigned_back most_bits s.mask (omega (arith, few)) in
-    let n = signed_back least_group greatest_group s.group fits.group in
-    let o = corners_back most_corner s.fat (omega arith) fits.fat in
+    let read = shape_read_back (Capsule one two radius) category s restitution (signed, (also, round)) small fits bouncy in
     record {
       value = object (in_order (capsule_members one two category s radius restitution));
       stands = object_stands [] (capsule_members one two category s radius restitution) a a b g h refl begun members close refl;
       shallow = at_most (depth (object (in_order (capsule_members one two category s radius restitution)))) 3 refl;
-      is = λ i. record { def = record { shape = Capsule (x.value i) (y.value i) (k.value i); friction = p.value i; restitution = q.value i; filter = record { category = u.value i; mask = m.value i; group = n.value i } }; fat = o.value i };
-      asks = o.asks _ ∙ n.asks _ ∙ m.asks _ ∙ u.asks _ ∙ q.asks _ ∙ p.asks _ ∙ k.asks _ ∙ y.asks _ ∙ x.asks no_asks;
+      is = read.value;
+      asks = read.asks no_asks;
     }
 
 -- ---- segments
@@ -138,28 +128,20 @@ pub segment_holds : (category : ℕ) (s : Surround) (restitution : ℤ) (one two
     → Stands (key_text true (codes "segment")) (ends_of one two) e f
     → f ≡ 125 ∷ g
     → Holds [] shape_in shape_asks 3 (shape_by (Segment one two) category s restitution) a g
-unfolding shape_in shape_asks form_in form_asks
+unfolding shape_of
 segment_holds category s restitution one two a b c d e f g small fits bouncy signed also begun first second third fourth close =
     let members =
     member_then false _ (codes "category") (natural category) _ b c f refl first
     (surround_then s (segment_end restitution one two) c d f second
     (member_then true _ (codes "restitution") (integer restitution) _ d e f refl third
     (member_then true _ (codes "segment") (ends_of one two) [] e f f refl fourth (no_member true f)))) in
-    let x = vector_any one signed in
-    let y = vector_any two also in
-    let p = signed_any s.friction fits.friction in
-    let q = signed_any restitution bouncy in
-    let u = unsigned_back most_bits category (omega (arith, small)) in
-    let few = fits.mask in
-    let m = unsigned_back most_bits s.mask (omega (arith, few)) in
-    let n = signed_back least_group greatest_group s.group fits.group in
-    let o = corners_back most_corner s.fat (omega arith) fits.fat in
+    let read = shape_read_back (Segment one two) category s restitution (signed, also) small fits bouncy in
     record {
       value = object (in_order (segment_members category s restitution one two));
       stands = object_stands [] (segment_members category s restitution one two) a a b f g refl begun members close refl;
       shallow = at_most (depth (object (in_order (segment_members category s restitution one two)))) 3 refl;
-      is = λ i. record { def = record { shape = Segment (x.value i) (y.value i); friction = p.value i; restitution = q.value i; filter = record { category = u.value i; mask = m.value i; group = n.value i } }; fat = o.value i };
-      asks = o.asks _ ∙ n.asks _ ∙ m.asks _ ∙ u.asks _ ∙ q.asks _ ∙ p.asks _ ∙ y.asks _ ∙ x.asks no_asks;
+      is = read.value;
+      asks = read.asks no_asks;
     }
 
 -- ---- lists of shapes

@@ -13,6 +13,7 @@ use Rattle.fixed_geom.specs.declared.facings.Rot.{Rot}
 use Rattle.fixed_geom.specs.declared.limits.TheConstants.{MAX_POSITION, MAX_SPIN}
 use Rattle.fixed_geom.specs.declared.refusal.Refusal.{Refusal}
 use Rattle.islands.specs.declared.label.Label.{Label}
+use Rattle.fixed_geom.specs.declared.vectors.Vec2.{Vec2}
 use Rattle.momenta.specs.Motions.{IsMotion}
 use Rattle.momenta.specs.declared.limits.TheConstants.{MAX_MOMENTUM, MAX_SPEED}
 use Rattle.momenta.specs.declared.mass.MassData.{MassData}
@@ -187,23 +188,31 @@ pub angular_most : (t : Bool) → cond t 0 (2 ^ 90) < 10 ^ 64
 angular_most true = omega arith
 angular_most false = omega arith
 
-record IsMotionBack (inertia : ℤ) (s : Motion) (d : Data) : Type 0 where
-  value : motion_in inertia d ≡ s
-  asks : (r : Reader) → motion_asks inertia d r ≡ r
+pub record IsMotionBack (inertia : ℤ) (s : Motion) (d : Data) : Type 0 where
+  pub value : motion_in inertia d ≡ s
+  pub asks : (r : Reader) → motion_asks inertia d r ≡ r
+
+-- what stands under the keys of a motion
+pub record HasMotionKeys (d : Data) (s : Motion) : Type 0 where
+  pub at_is : get (codes "at") d ≡ Some (vector_of s.x)
+  pub facing_is : get (codes "facing") d ≡ Some (vector_of (record { x = s.rot.c; y = s.rot.s }))
+  pub l_is : get (codes "l") d ≡ Some (decimal_of s.l)
+  pub p_is : get (codes "p") d ≡ Some (vector_of s.p)
 
 facing_same : (o : Option Data) (q : Rot) → vector_in o ≡ record { x = q.c; y = q.s } → facing_in o ≡ q
 facing_same o q e = λ i. record { c = (e i).x; s = (e i).y }
 
-motion_back : (m : MassData) (s : Motion) (d : Data) (b : Body) (label : Option Label) → b.motion ≡ s → HasBodyKeys d b label → IsMotion m s → IsMotionBack m.inertia s d
+pub motion_back : (m : MassData) (s : Motion) (d : Data) → HasMotionKeys d s → IsMotion m s → IsMotionBack m.inertia s d
 unfolding motion_in motion_asks momenta_in momenta_asks pose_in pose_asks
-motion_back m s d b label same keys h =
+motion_back m s d keys h =
     let far = h.facing.c in
     let up = h.facing.s in
-    let p = back_at (vector_within (unsigned_abs MAX_MOMENTUM)) (vector_within_asks (unsigned_abs MAX_MOMENTUM)) (get (codes "p") d) (vector_of s.p) s.p (keys.p ∙ ap (λ (v : Motion). Some (vector_of v.p)) same) (within_back (unsigned_abs MAX_MOMENTUM) s.p (omega arith) h.p) in
-    let l = back_at (decimal_in (most_angular m.inertia)) (decimal_asks (most_angular m.inertia)) (get (codes "l") d) (decimal_of s.l) s.l (keys.l ∙ ap (λ (v : Motion). Some (decimal_of v.l)) same)
+    let v : Vec2 = record { x = s.rot.c; y = s.rot.s } in
+    let p = back_at (vector_within (unsigned_abs MAX_MOMENTUM)) (vector_within_asks (unsigned_abs MAX_MOMENTUM)) (get (codes "p") d) (vector_of s.p) s.p keys.p_is (within_back (unsigned_abs MAX_MOMENTUM) s.p (omega arith) h.p) in
+    let l = back_at (decimal_in (most_angular m.inertia)) (decimal_asks (most_angular m.inertia)) (get (codes "l") d) (decimal_of s.l) s.l keys.l_is
     (decimal_back (most_angular m.inertia) s.l (angular_most (int_eq m.inertia (pos 0))) (angular_by (int_eq m.inertia (pos 0)) m.inertia s.l refl h.still h.l)) in
-    let x = back_at (vector_within (unsigned_abs MAX_POSITION)) (vector_within_asks (unsigned_abs MAX_POSITION)) (get (codes "at") d) (vector_of s.x) s.x (keys.at ∙ ap (λ (v : Motion). Some (vector_of v.x)) same) (within_back (unsigned_abs MAX_POSITION) s.x (omega arith) h.x) in
-    let q = back_at vector_in vector_asks (get (codes "facing") d) (vector_of (record { x = s.rot.c; y = s.rot.s })) (record { x = s.rot.c; y = s.rot.s }) (keys.facing ∙ ap (λ (v : Motion). Some (vector_of (record { x = v.rot.c; y = v.rot.s }))) same) (vector_back (record { x = s.rot.c; y = s.rot.s }) (record { x = omega (arith, far); y = omega (arith, up) })) in
+    let x = back_at (vector_within (unsigned_abs MAX_POSITION)) (vector_within_asks (unsigned_abs MAX_POSITION)) (get (codes "at") d) (vector_of s.x) s.x keys.at_is (within_back (unsigned_abs MAX_POSITION) s.x (omega arith) h.x) in
+    let q = back_at vector_in vector_asks (get (codes "facing") d) (vector_of v) v keys.facing_is (vector_back v (omega (arith, far), omega (arith, up))) in
     let rot = facing_same (get (codes "facing") d) s.rot q.value in
     record {
       value = λ i. record { p = p.value i; l = l.value i; x = x.value i; rot = rot i };
@@ -324,7 +333,7 @@ body_by most b label d same keys course h =
     let kind = kind_back b.kind d keys.kind h.body.course course in
     let mass = mass_back b.kind b.mass d h.body.mass keys.mass keys.inertia in
     let heavy : mass_in (kind_in d) d ≡ b.mass = ap (λ (k : Kind). mass_in k d) kind.value ∙ mass.value in
-    let motion = motion_back b.mass b.motion d b label refl keys h.body.motion in
+    let motion = motion_back b.mass b.motion d (record { at_is = keys.at; facing_is = keys.facing; l_is = keys.l; p_is = keys.p }) h.body.motion in
     let moves : motion_in (mass_in (kind_in d) d).inertia d ≡ b.motion = ap (λ (m : MassData). motion_in m.inertia d) heavy ∙ motion.value in
     let membership = membership_back label d b keys h.low in
     let enabled = back_at truth_in truth_asks (get (codes "enabled") d) (boolean b.enabled) b.enabled keys.enabled (truth_back b.enabled) in

@@ -70,7 +70,11 @@ signed_back low high z h = record {
   asks = λ r. asked_true (is_between low high (whole_in (Some (integer z)))) Limits (whole_asks (Some (integer z)) r) (ap (λ (v : ℤ). is_between low high v) (whole_is z) ∙ h) ∙ whole_asked z r;
 }
 
-pub number_back : (z : ℤ) → unsigned_abs z ≤ 2 ^ 62 → IsBack number_in number_asks (integer z) z
+-- 64 bits hold it with a sign, and its size too
+abbrev pub IsHeld : ℤ → Type 0
+IsHeld z = unsigned_abs z < 2 ^ 63
+
+pub number_back : (z : ℤ) → IsHeld z → IsBack number_in number_asks (integer z) z
 number_back z h = signed_back least greatest z (between_true least greatest z (omega (arith, ints, h)) (omega (arith, ints, h)))
 
 pub unsigned_back : (high n : ℕ) → n ≤ high → IsBack (unsigned_in high) (unsigned_asks high) (natural n) n
@@ -87,24 +91,27 @@ island_back n h = let o = unsigned_back (2 ^ 32 - 1) n h in record { value = ap 
 vector_is : (v w : Vec2) → v.x ≡ w.x → v.y ≡ w.y → v ≡ w
 vector_is v w e f = λ i. record { x = e i; y = f i }
 
-pub vector_back : (v : Vec2) → IsWithin (2 ^ 62) v → IsBack vector_in vector_asks (vector_of v) v
+abbrev pub AreHeld : Vec2 → Type 0
+AreHeld v = IsHeld v.x × IsHeld v.y
+
+pub vector_back : (v : Vec2) → AreHeld v → IsBack vector_in vector_asks (vector_of v) v
 vector_back v h =
-    let x = number_back v.x h.x in
-    let y = number_back v.y h.y in
+    let x = number_back v.x h.0 in
+    let y = number_back v.y h.1 in
     record {
       value = vector_is (vector_in (Some (vector_of v))) v x.value y.value;
       asks = λ r. y.asks (number_asks (Some (integer v.x)) r) ∙ x.asks r;
     }
 
-within_less : (n m : ℕ) (v : Vec2) → n ≤ m → IsWithin n v → IsWithin m v
-within_less n m v le h = let x = h.x in let y = h.y in record { x = omega (arith, le, x); y = omega (arith, le, y) }
+pub within_held : (n : ℕ) (v : Vec2) → n ≤ 2 ^ 62 → IsWithin n v → AreHeld v
+within_held n v le h = let x = h.x in let y = h.y in (omega (arith, le, x), omega (arith, le, y))
 
 within_true : (n : ℕ) (v : Vec2) → IsWithin n v → is_within n v ≡ true
 within_true n v h = both_hold (nat_le (unsigned_abs v.x) n) (nat_le (unsigned_abs v.y) n) (le-leb (unsigned_abs v.x) n h.x) (le-leb (unsigned_abs v.y) n h.y)
 
 pub within_back : (most : ℕ) (v : Vec2) → most ≤ 2 ^ 62 → IsWithin most v → IsBack (vector_within most) (vector_within_asks most) (vector_of v) v
 within_back most v le h =
-    let o = vector_back v (within_less most (2 ^ 62) v le h) in
+    let o = vector_back v (within_held most v le h) in
     record {
       value = ap (λ (u : Vec2). cond (is_within most u) u zero_vector) o.value ∙ cond_true (is_within most v) v zero_vector (within_true most v h);
       asks = λ r. asked_true (is_within most (vector_in (Some (vector_of v)))) Limits (vector_asks (Some (vector_of v)) r) (ap (λ (u : Vec2). is_within most u) o.value ∙ within_true most v h) ∙ o.asks r;

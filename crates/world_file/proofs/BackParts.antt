@@ -1,5 +1,5 @@
 -- Contacts, joints and totals are read as they are written.
-use Rattle.std.proofs.Common.{◌≡◌, ℕ, ◌+◌, ◌-◌, ◌^◌, ◌<◌, ◌≤◌, ◌==◌, ◌++◌, Bool, true, false, cond, nat_le, nat_lt, List, [], ◌∷◌, map, slice_get, Option, Some, None, is_some, ℤ, pos, neg_ℤ, ◌≤ℤ◌, unsigned_abs, int_le, refl, sym, ap, ap₂, ◌∙◌, arith, le-leb, eq-eqb}
+use Rattle.std.proofs.Common.{◌≡◌, ℕ, ◌+◌, ◌-◌, ◌^◌, ◌<◌, ◌≤◌, ◌==◌, ◌++◌, Bool, true, false, cond, nat_le, nat_lt, List, [], ◌∷◌, map, slice_get, Option, Some, None, is_some, ℤ, pos, neg_ℤ, ◌≤ℤ◌, unsigned_abs, int_le, refl, sym, ap, ap₂, ◌∙◌, arith, le-leb, eq-eqb, codes}
 use Rattle.std.proofs.lemmas.Bool.Decides.{nat_tests}
 use Rattle.std.proofs.lemmas.Int.{ints}
 use Rattle.std.proofs.lemmas.Option.{none-some}
@@ -19,12 +19,13 @@ use Rattle.impulse_ledger.specs.declared.limits.TheConstants.{MAX_TOTAL}
 use Rattle.impulse_ledger.specs.declared.totals.Total.{Total}
 use Rattle.impulse_ledger.specs.declared.totals.Totals.{Totals}
 use Rattle.joint_rows.specs.Joints.{IsJoint}
+use Rattle.joint_rows.specs.declared.joint.Joint.{Joint}
 use Rattle.joint_rows.specs.declared.limits.TheConstants.{MAX_ANCHOR, MAX_JOINT_IMPULSE, MAX_JOINT_LENGTH}
 use Rattle.plain_world.specs.Plain.{colour_of}
 use Rattle.plain_world.specs.declared.joint.BodyJoint.{BodyJoint}
 use Rattle.world_file_base.specs.Reading.{number_in, unsigned_in}
 use Rattle.world_file_base.specs.AskedValues.{number_asks, unsigned_asks, colour_asks, total_asks, totals_asks}
-use Rattle.world_file_base.specs.Written.{integer, natural, natural_or_null}
+use Rattle.world_file_base.specs.Written.{integer, natural, natural_or_null, Member, id_of, list_data, object_of, vector_of}
 use Rattle.world_file_base.specs.declared.clause.Clause.TheVariants.{Colours, Limits}
 use Rattle.world_file_base.specs.declared.reader.Reader.{Reader}
 use Rattle.world_file_base.specs.SavedContacts.{contact_in, contact_data, contacts_in, each_contact, last_candidate, no_points, point_in, point_data, point_or_none, shape_id_in, shape_id_of, size_in, with_points}
@@ -39,9 +40,12 @@ use Rattle.world_file_base.specs.declared.version.Version.TheVariants.{Second}
 use Rattle.world_file.specs.Files.{contact_colours}
 use Rattle.world_file.specs.Again.{count_of, id_in, saved_contact, saved_joint}
 use Rattle.world_file.proofs.BackNumbers.{IsBack, asked_true, between_true, cond_true, decimal_back, handle_back, number_back, signed_back, unsigned_back, within_back}
-use Rattle.world_file.proofs.ContactAsks.{IsColour}
-use Rattle.world_file.proofs.PointAsks.{IsPoint, OnPoint}
+use Rattle.world_file.proofs.ReadContacts.{IsColour}
+use Rattle.world_file.proofs.ReadPoints.{IsPoint, OnPoint}
 use Rattle.world_file.proofs.ReadParts.{IsSmallTotal}
+use Rattle.serde_json.specs.Data.{Data, boolean}
+use Rattle.body_handles.specs.declared.handle.Handle.{Handle}
+use Rattle.world_file_base.specs.declared.saved.SavedJoint.{SavedJoint}
 
 -- ---- colours
 
@@ -85,11 +89,11 @@ push_asked z low high r =
     let o = number_back z (omega (arith, high)) in
     asked_true (int_le (pos 0) (number_in (Some (integer z)))) Limits (size_asks MAX_NORMAL_IMPULSE (Some (integer z)) r) (ap (λ (v : ℤ). int_le (pos 0) v) o.value ∙ low_true z low) ∙ size_asked MAX_NORMAL_IMPULSE z (omega arith) high r
 
-record IsPointBack (p : ContactPoint) : Type 0 where
-  value : point_in (point_data p) ≡ p
-  asks : (r : Reader) → point_asks (point_data p) r ≡ r
+pub record IsPointBack (p : ContactPoint) : Type 0 where
+  pub value : point_in (point_data p) ≡ p
+  pub asks : (r : Reader) → point_asks (point_data p) r ≡ r
 
-point_back : (p : ContactPoint) → IsPoint p → IsPointBack p
+pub point_back : (p : ContactPoint) → IsPoint p → IsPointBack p
 unfolding point_in point_data point_asks
 point_back p h =
     let point = h.point in
@@ -148,21 +152,52 @@ pub record IsContactWritten (colours : List (List Constraint)) (e : ContactEntry
   pub beside : e.contact.first ≡ None → e.contact.second ≡ None
   pub colour : IsColour (colour_of (Contact e.key) colours)
 
+-- what is known of the members of a contact
+pub record IsContactHeld (first second : ShapeId) (colour : Option ℕ) : Type 0 where
+  pub first_slot : first.slot < 2 ^ 32
+  pub first_index : first.index < 256
+  pub second_slot : second.slot < 2 ^ 32
+  pub second_index : second.index < 256
+  pub colour_is : IsColour colour
+
+abbrev pub contact_members : ShapeId → ShapeId → Option ℕ → List Data → Bool → List Member
+contact_members first second colour points touching =
+    (codes "a", shape_id_of first)
+    ∷ (codes "b", shape_id_of second)
+    ∷ (codes "colour", natural_or_null colour)
+    ∷ (codes "points", list_data points)
+    ∷ (codes "touching", boolean touching)
+    ∷ []
+
+-- whatever its points are
+pub record IsContactRead (first second : ShapeId) (colour : Option ℕ) (points : List Data) (touching : Bool) : Type 0 where
+  pub value : contact_in Second (object_of (contact_members first second colour points touching)) ≡ record { key = record { first = first; second = second }; touching = touching; colour = colour; contact = with_points (items_of points) no_points; points = items_len (items_of points) }
+  pub asks : (r : Reader) → contact_asks Second (object_of (contact_members first second colour points touching)) r ≡ points_asks (items_of points) r
+
+pub contact_read : (first second : ShapeId) (colour : Option ℕ) (points : List Data) (touching : Bool) → IsContactHeld first second colour → IsContactRead first second colour points touching
+unfolding contact_in contact_asks
+contact_read first second colour points touching h =
+    let a = shape_id_back first h.first_slot h.first_index in
+    let b = shape_id_back second h.second_slot h.second_index in
+    let c = colour_back colour h.colour_is in
+    record {
+      value = λ i. record { key = record { first = a.value i; second = b.value i }; touching = touching; colour = c.value i; contact = with_points (items_of points) no_points; points = items_len (items_of points) };
+      asks = λ r. ap (λ q. points_asks (items_of points) q) (c.asks _ ∙ b.asks _ ∙ a.asks r);
+    }
+
 record IsContactBack (colours : List (List Constraint)) (e : ContactEntry) : Type 0 where
   value : contact_in Second (contact_data e (colour_of (Contact e.key) colours)) ≡ saved_contact colours e
   asks : (r : Reader) → contact_asks Second (contact_data e (colour_of (Contact e.key) colours)) r ≡ r
 
 contact_back : (colours : List (List Constraint)) (e : ContactEntry) → IsContactWritten colours e → IsContactBack colours e
-unfolding contact_in contact_data contact_asks
+unfolding contact_data
 contact_back colours e h =
-    let a = shape_id_back e.key.first h.first_slot h.first_index in
-    let b = shape_id_back e.key.second h.second_slot h.second_index in
-    let colour = colour_back (colour_of (Contact e.key) colours) h.colour in
+    let o = contact_read e.key.first e.key.second (colour_of (Contact e.key) colours) (point_or_none e.contact.first ++ point_or_none e.contact.second) (touches e.contact) (record { first_slot = h.first_slot; first_index = h.first_index; second_slot = h.second_slot; second_index = h.second_index; colour_is = h.colour }) in
     let points = points_back e.contact.first e.contact.second h.first h.second h.beside in
     let count = count_back e.contact.first e.contact.second in
     record {
-      value = λ i. record { key = record { first = a.value i; second = b.value i }; touching = touches e.contact; colour = colour.value i; contact = points.value i; points = count i };
-      asks = λ r. points.asks _ ∙ colour.asks _ ∙ b.asks _ ∙ a.asks r;
+      value = o.value ∙ (λ i. record { key = e.key; touching = touches e.contact; colour = colour_of (Contact e.key) colours; contact = points.value i; points = count i });
+      asks = λ r. o.asks r ∙ points.asks r;
     }
 
 pub record AreContactsBack (colours : List (List Constraint)) (es : List ContactEntry) : Type 0 where
@@ -200,17 +235,45 @@ impulse_between z h = (omega (arith, ints, h), omega (arith, ints, h))
 length_most : (z : ℤ) → unsigned_abs z ≤ 2 ^ 25 → z ≤ℤ pos (2 ^ 25)
 length_most z h = omega (arith, ints, h)
 
-pub joint_back : (slot_entries : List SlotEntry) (colour : Option ℕ) (j : BodyJoint) → IsJointWritten slot_entries colour j → IsJointBack slot_entries colour j
-unfolding joint_in joint_data joint_asks
-joint_back slot_entries colour j h =
-    let first = handle_back (id_in slot_entries j.a) h.a h.a_generation in
-    let second = handle_back (id_in slot_entries j.b) h.b h.b_generation in
-    let c = colour_back colour h.colour in
-    let from = within_back (unsigned_abs MAX_ANCHOR) j.joint.from (omega arith) h.joint.from in
-    let to = within_back (unsigned_abs MAX_ANCHOR) j.joint.to (omega arith) h.joint.to in
-    let size = impulse_between j.joint.impulse h.joint.impulse in
-    let impulse = signed_back (neg_ℤ MAX_JOINT_IMPULSE) MAX_JOINT_IMPULSE j.joint.impulse (between_true (neg_ℤ MAX_JOINT_IMPULSE) MAX_JOINT_IMPULSE j.joint.impulse size.0 size.1) in
-    let long = signed_back (pos 0) MAX_JOINT_LENGTH j.joint.length (between_true (pos 0) MAX_JOINT_LENGTH j.joint.length h.joint.nonnegative (length_most j.joint.length h.joint.length)) in
+-- what is known of the members of a joint between bodies of these ids
+pub record IsJointHeld (a b : Handle) (colour : Option ℕ) (j : Joint) : Type 0 where
+  pub a_slot : a.slot < 2 ^ 32
+  pub a_generation : a.generation < 2 ^ 32
+  pub b_slot : b.slot < 2 ^ 32
+  pub b_generation : b.generation < 2 ^ 32
+  pub colour_is : IsColour colour
+  pub joint : IsJoint j
+
+abbrev pub joint_members : Handle → Handle → Bool → Option ℕ → Joint → List Member
+joint_members a b collide colour j =
+    (codes "a", id_of a)
+    ∷ (codes "b", id_of b)
+    ∷ (codes "collide", boolean collide)
+    ∷ (codes "colour", natural_or_null colour)
+    ∷ (codes "from", vector_of j.from)
+    ∷ (codes "impulse", integer j.impulse)
+    ∷ (codes "length", integer j.length)
+    ∷ (codes "to", vector_of j.to)
+    ∷ []
+
+abbrev pub joint_by : Handle → Handle → Bool → Option ℕ → Joint → SavedJoint
+joint_by a b collide colour j = record { a = a; b = b; joint = record { a = a.slot; b = b.slot; collide = collide; joint = j }; colour = colour }
+
+pub record IsJointRead (a b : Handle) (collide : Bool) (colour : Option ℕ) (j : Joint) : Type 0 where
+  pub value : joint_in Second (object_of (joint_members a b collide colour j)) ≡ joint_by a b collide colour j
+  pub asks : (r : Reader) → joint_asks Second (object_of (joint_members a b collide colour j)) r ≡ r
+
+pub joint_read : (a b : Handle) (collide : Bool) (colour : Option ℕ) (j : Joint) → IsJointHeld a b colour j → IsJointRead a b collide colour j
+unfolding joint_in joint_asks
+joint_read a b collide colour j h =
+    let first = handle_back a h.a_slot h.a_generation in
+    let second = handle_back b h.b_slot h.b_generation in
+    let c = colour_back colour h.colour_is in
+    let from = within_back (unsigned_abs MAX_ANCHOR) j.from (omega arith) h.joint.from in
+    let to = within_back (unsigned_abs MAX_ANCHOR) j.to (omega arith) h.joint.to in
+    let size = impulse_between j.impulse h.joint.impulse in
+    let impulse = signed_back (neg_ℤ MAX_JOINT_IMPULSE) MAX_JOINT_IMPULSE j.impulse (between_true (neg_ℤ MAX_JOINT_IMPULSE) MAX_JOINT_IMPULSE j.impulse size.0 size.1) in
+    let long = signed_back (pos 0) MAX_JOINT_LENGTH j.length (between_true (pos 0) MAX_JOINT_LENGTH j.length h.joint.nonnegative (length_most j.length h.joint.length)) in
     record {
       value = λ i. record {
         a = first.value i;
@@ -218,13 +281,19 @@ joint_back slot_entries colour j h =
         joint = record {
           a = (first.value i).slot;
           b = (second.value i).slot;
-          collide = j.collide;
+          collide = collide;
           joint = record { from = from.value i; to = to.value i; length = long.value i; impulse = impulse.value i };
         };
         colour = c.value i;
       };
       asks = λ r. to.asks _ ∙ long.asks _ ∙ impulse.asks _ ∙ from.asks _ ∙ c.asks _ ∙ second.asks _ ∙ first.asks r;
     }
+
+pub joint_back : (slot_entries : List SlotEntry) (colour : Option ℕ) (j : BodyJoint) → IsJointWritten slot_entries colour j → IsJointBack slot_entries colour j
+unfolding joint_data
+joint_back slot_entries colour j h =
+    let o = joint_read (id_in slot_entries j.a) (id_in slot_entries j.b) j.collide colour j.joint (record { a_slot = h.a; a_generation = h.a_generation; b_slot = h.b; b_generation = h.b_generation; colour_is = h.colour; joint = h.joint }) in
+    record { value = o.value; asks = o.asks }
 
 -- ---- totals
 

@@ -5,10 +5,8 @@ use Rattle.plain_world.specs.Formed.{HasFilter}
 use Rattle.serde_json.specs.View.{items_of}
 use Rattle.contacts.proofs.Members.{Each}
 use Rattle.fixed_geom.specs.Boxes.{IsBoxWithin}
-use Rattle.fixed_geom.specs.Vectors.{IsWithin}
 use Rattle.fixed_geom.specs.declared.boxes.Box2.{Box2}
-use Rattle.fixed_geom.specs.declared.vectors.Vec2.{Vec2}
-use Rattle.shapes.specs.Shapes.{IsShapeDef}
+use Rattle.shapes.specs.Shapes.{IsShape, IsShapeDef}
 use Rattle.shapes.specs.declared.filter.Filter.{Filter}
 use Rattle.shapes.specs.declared.shape.Shape.{Shape}
 use Rattle.shapes.specs.declared.shape.Shape.TheVariants.{Circle, Capsule, Segment}
@@ -18,68 +16,82 @@ use Rattle.world_file_base.specs.declared.reader.Reader.{Reader}
 use Rattle.world_file_base.specs.SavedShapes.{defs_in, fats_in, form_in, most_bits, most_corner, shape_in, shape_of, shapes_of}
 use Rattle.world_file_base.specs.AskedShapes.{form_asks, shape_asks, shapes_asks}
 use Rattle.world_file_base.specs.declared.saved_shapes.SavedShape.{SavedShape}
-use Rattle.world_file.proofs.BackNumbers.{between_true, corners_back, number_back, signed_back, unsigned_back, vector_back}
+use Rattle.world_file.proofs.BackNumbers.{between_true, corners_back, number_back, signed_back, unsigned_back, vector_back, AreHeld, IsHeld, within_held}
 
-record IsShapeBack (def : ShapeDef) (fat : Box2) : Type 0 where
-  value : shape_in (shape_of def fat) ≡ record { def = def; fat = fat }
-  asks : (r : Reader) → shape_asks (shape_of def fat) r ≡ r
+pub record IsShapeBack (def : ShapeDef) (fat : Box2) : Type 0 where
+  pub value : shape_in (shape_of def fat) ≡ record { def = def; fat = fat }
+  pub asks : (r : Reader) → shape_asks (shape_of def fat) r ≡ r
 
-near : (v : Vec2) → IsWithin (2 ^ 24) v → IsWithin (2 ^ 62) v
-near v h = let x = h.x in let y = h.y in record { x = omega (arith, x); y = omega (arith, y) }
+-- 64 bits hold the numbers of a form
+abbrev pub IsFormHeld : Shape → Type 0
+IsFormHeld (Circle center radius) = AreHeld center × IsHeld radius
+IsFormHeld (Capsule first second radius) = AreHeld first × (AreHeld second × IsHeld radius)
+IsFormHeld (Segment first second) = AreHeld first × AreHeld second
 
-shape_back : (s : Shape) (friction restitution : ℤ) (filter : Filter) (fat : Box2) → let def : ShapeDef = record { shape = s; friction = friction; restitution = restitution; filter = filter } in IsShapeDef def → HasFilter filter → IsBoxWithin (2 ^ 37) fat → IsShapeBack def fat
+-- and all of a shape
+pub record IsShapeHeld (def : ShapeDef) (fat : Box2) : Type 0 where
+  pub form : IsFormHeld def.shape
+  pub friction : IsHeld def.friction
+  pub restitution : IsHeld def.restitution
+  pub filter : HasFilter def.filter
+  pub corners : IsBoxWithin (2 ^ 37) fat
+
+shape_back : (s : Shape) (friction restitution : ℤ) (filter : Filter) (fat : Box2) → let def : ShapeDef = record { shape = s; friction = friction; restitution = restitution; filter = filter } in IsShapeHeld def fat → IsShapeBack def fat
 unfolding shape_in shape_of shape_asks form_in form_asks
-shape_back (Circle center radius) friction restitution filter fat h hf small =
-    let friction_small = h.friction_small in
-    let restitution_small = h.restitution_small in
-    let radius_small = h.shape.radius in
-    let x = vector_back center (near center h.shape.first) in
-    let k = number_back radius (omega (arith, ints, radius_small)) in
-    let f = number_back friction (omega (arith, ints, friction_small)) in
-    let e = number_back restitution (omega (arith, ints, restitution_small)) in
-    let c = unsigned_back most_bits filter.category hf.category in
-    let m = unsigned_back most_bits filter.mask hf.mask in
-    let g = signed_back least_group greatest_group filter.group (between_true least_group greatest_group filter.group hf.least hf.most) in
-    let b = corners_back most_corner fat (omega arith) small in
+shape_back (Circle center radius) friction restitution filter fat h =
+    let x = vector_back center h.form.0 in
+    let k = number_back radius h.form.1 in
+    let f = number_back friction h.friction in
+    let e = number_back restitution h.restitution in
+    let c = unsigned_back most_bits filter.category h.filter.category in
+    let m = unsigned_back most_bits filter.mask h.filter.mask in
+    let g = signed_back least_group greatest_group filter.group (between_true least_group greatest_group filter.group h.filter.least h.filter.most) in
+    let b = corners_back most_corner fat (omega arith) h.corners in
     record {
       value = λ i. record { def = record { shape = Circle (x.value i) (k.value i); friction = f.value i; restitution = e.value i; filter = record { category = c.value i; mask = m.value i; group = g.value i } }; fat = b.value i };
       asks = λ r. b.asks _ ∙ g.asks _ ∙ m.asks _ ∙ c.asks _ ∙ e.asks _ ∙ f.asks _ ∙ k.asks _ ∙ x.asks r;
     }
-shape_back (Capsule first second radius) friction restitution filter fat h hf small =
-    let friction_small = h.friction_small in
-    let restitution_small = h.restitution_small in
-    let radius_small = h.shape.radius in
-    let x = vector_back first (near first h.shape.first) in
-    let y = vector_back second (near second h.shape.second) in
-    let k = number_back radius (omega (arith, ints, radius_small)) in
-    let f = number_back friction (omega (arith, ints, friction_small)) in
-    let e = number_back restitution (omega (arith, ints, restitution_small)) in
-    let c = unsigned_back most_bits filter.category hf.category in
-    let m = unsigned_back most_bits filter.mask hf.mask in
-    let g = signed_back least_group greatest_group filter.group (between_true least_group greatest_group filter.group hf.least hf.most) in
-    let b = corners_back most_corner fat (omega arith) small in
+shape_back (Capsule first second radius) friction restitution filter fat h =
+    let x = vector_back first h.form.0 in
+    let y = vector_back second h.form.1.0 in
+    let k = number_back radius h.form.1.1 in
+    let f = number_back friction h.friction in
+    let e = number_back restitution h.restitution in
+    let c = unsigned_back most_bits filter.category h.filter.category in
+    let m = unsigned_back most_bits filter.mask h.filter.mask in
+    let g = signed_back least_group greatest_group filter.group (between_true least_group greatest_group filter.group h.filter.least h.filter.most) in
+    let b = corners_back most_corner fat (omega arith) h.corners in
     record {
       value = λ i. record { def = record { shape = Capsule (x.value i) (y.value i) (k.value i); friction = f.value i; restitution = e.value i; filter = record { category = c.value i; mask = m.value i; group = g.value i } }; fat = b.value i };
       asks = λ r. b.asks _ ∙ g.asks _ ∙ m.asks _ ∙ c.asks _ ∙ e.asks _ ∙ f.asks _ ∙ k.asks _ ∙ y.asks _ ∙ x.asks r;
     }
-shape_back (Segment first second) friction restitution filter fat h hf small =
-    let friction_small = h.friction_small in
-    let restitution_small = h.restitution_small in
-    let x = vector_back first (near first h.shape.first) in
-    let y = vector_back second (near second h.shape.second) in
-    let f = number_back friction (omega (arith, ints, friction_small)) in
-    let e = number_back restitution (omega (arith, ints, restitution_small)) in
-    let c = unsigned_back most_bits filter.category hf.category in
-    let m = unsigned_back most_bits filter.mask hf.mask in
-    let g = signed_back least_group greatest_group filter.group (between_true least_group greatest_group filter.group hf.least hf.most) in
-    let b = corners_back most_corner fat (omega arith) small in
+shape_back (Segment first second) friction restitution filter fat h =
+    let x = vector_back first h.form.0 in
+    let y = vector_back second h.form.1 in
+    let f = number_back friction h.friction in
+    let e = number_back restitution h.restitution in
+    let c = unsigned_back most_bits filter.category h.filter.category in
+    let m = unsigned_back most_bits filter.mask h.filter.mask in
+    let g = signed_back least_group greatest_group filter.group (between_true least_group greatest_group filter.group h.filter.least h.filter.most) in
+    let b = corners_back most_corner fat (omega arith) h.corners in
     record {
       value = λ i. record { def = record { shape = Segment (x.value i) (y.value i); friction = f.value i; restitution = e.value i; filter = record { category = c.value i; mask = m.value i; group = g.value i } }; fat = b.value i };
       asks = λ r. b.asks _ ∙ g.asks _ ∙ m.asks _ ∙ c.asks _ ∙ e.asks _ ∙ f.asks _ ∙ y.asks _ ∙ x.asks r;
     }
 
+pub shape_read : (def : ShapeDef) (fat : Box2) → IsShapeHeld def fat → IsShapeBack def fat
+shape_read def fat h = shape_back def.shape def.friction def.restitution def.filter fat h
+
+form_held : (s : Shape) → IsShape s → IsFormHeld s
+form_held (Circle center radius) h = let small = h.radius in (within_held (2 ^ 24) center (omega arith) h.first, omega (arith, ints, small))
+form_held (Capsule first second radius) h = let small = h.radius in (within_held (2 ^ 24) first (omega arith) h.first, (within_held (2 ^ 24) second (omega arith) h.second, omega (arith, ints, small)))
+form_held (Segment first second) h = (within_held (2 ^ 24) first (omega arith) h.first, within_held (2 ^ 24) second (omega arith) h.second)
+
 shape_is : (def : ShapeDef) (fat : Box2) → IsShapeDef def → HasFilter def.filter → IsBoxWithin (2 ^ 37) fat → IsShapeBack def fat
-shape_is def fat h f small = shape_back def.shape def.friction def.restitution def.filter fat h f small
+shape_is def fat h filter small =
+    let friction = h.friction_small in
+    let restitution = h.restitution_small in
+    shape_read def fat (record { form = form_held def.shape h.shape; friction = omega (arith, ints, friction); restitution = omega (arith, ints, restitution); filter = filter; corners = small })
 
 -- ---- those of a body
 

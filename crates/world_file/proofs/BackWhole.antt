@@ -63,10 +63,10 @@ use Rattle.world_file.proofs.AgainWhole.{is_consistent, what_is_written_fits}
 use Rattle.world_file.proofs.BackNumbers.{asked_true, unsigned_back, within_back}
 use Rattle.world_file.proofs.BackParts.{AreContactsBack, AreSmallTotals, IsContactWritten, IsJointWritten, contacts_back, totals_back}
 use Rattle.world_file.proofs.BackSlots.{AreBodiesBack, AreBodiesWritten, AreJointsBack, AreJointsWritten, OnJointWritten, OnWritten, bodies_back, joints_back}
-use Rattle.world_file.proofs.ContactAsks.{IsColour}
+use Rattle.world_file.proofs.ReadContacts.{IsColour}
 use Rattle.world_file.proofs.FirstBroken.{asking_finds_the_first, found_unfit}
 use Rattle.world_file.proofs.ReadParts.{IsSmallTotal}
-use Rattle.world_file.proofs.PointAsks.{OnPoint}
+use Rattle.world_file.proofs.ReadPoints.{OnPoint}
 
 -- ---- the value's keys
 

@@ -40,8 +40,8 @@ use Rattle.world_file.specs.Saved.{Saved, calls_in, most_calls, saved_in, slow_t
 use Rattle.world_file.specs.AskedParts.{heads_asks, parts_asks, fitting_asks}
 use Rattle.world_file.specs.SavedForms.{all_items, are_totals, are_two_vectors, are_two_wholes, has_course, has_form, if_there, is_body, is_contact, is_id, is_joint, is_kind, is_list, is_long, is_motion, is_number_text, is_pair, is_point_form, is_round, is_shape, is_slot_form, is_text, is_total, is_truth, is_whole, is_whole_or_null}
 use Rattle.world_file.specs.SavedLimits.{are_ends_numbers, are_few_slots, are_totals_within, are_two_numbers, is_body_within, is_box_within, is_contact_within, is_course_within, is_facing_within, is_from, is_in_limits, is_joint_within, is_long_within, is_motion_within, is_null_or_up_to, is_number, is_point_within, is_round_within, is_shape_id_within, is_shape_within, is_sized, is_slot_within, is_text_within, is_total_within, is_up_to, is_vector_within, may_have_shapes}
+use Rattle.world_file.proofs.ReadBodies.{told_within}
 use Rattle.world_file.proofs.TestLaws.{Hold, Says, Tests, after, asks, asks_unless, both_hold, idle, says_too}
-use Rattle.world_file.proofs.Tests.{both_true}
 
 -- ---- lists of tests
 
@@ -225,25 +225,15 @@ within_by most v false e = let none : nat_le 0 most ≡ true = le-leb 0 most (om
 place_within : (most : ℕ) (v : Option Data) → is_within most (vector_within most v) ≡ true
 place_within most v = within_by most (vector_in v) (is_within most (vector_in v)) refl
 
-faced : (course mass inertia p l at numbers facing island timer shapes allowed : Bool) → (course && mass && inertia && (p && l && at && (numbers && facing)) && island && timer && shapes && allowed) ≡ true → (allowed ≡ true) × (facing ≡ true)
-faced course mass inertia p l at numbers facing island timer shapes allowed h =
-    let motion : Bool = p && l && at && (numbers && facing) in
-    let one = both_true (course && mass && inertia && motion && island && timer && shapes) allowed h in
-    let two = both_true (course && mass && inertia && motion && island && timer) shapes one.0 in
-    let three = both_true (course && mass && inertia && motion && island) timer two.0 in
-    let four = both_true (course && mass && inertia && motion) island three.0 in
-    let five = both_true (course && mass && inertia) motion four.0 in
-    let six = both_true (p && l && at) (numbers && facing) five.1 in
-    let seven = both_true numbers facing six.1 in
-    (one.1, seven.1)
+posed_so : (most_ticks : ℕ) (d : Data) → is_facing (pose_in d).rot ≡ true → is_pose (pose_of (body_in most_ticks d)) ≡ true
+unfolding body_in motion_in pose_in
+posed_so most_ticks d facing = both_hold (is_within (unsigned_abs MAX_POSITION) (pose_of (body_in most_ticks d)).x) (is_facing (pose_of (body_in most_ticks d)).rot) (place_within (unsigned_abs MAX_POSITION) (get (codes "at") d)) facing
 
 boxed_there : (most_ticks : ℕ) (d : Data) → is_body_within most_ticks d ≡ true → is_boxed_there (body_in most_ticks d) ≡ is_boxed (Some (body_in most_ticks d))
-unfolding is_body_within is_motion_within body_in motion_in pose_in
 boxed_there most_ticks d h =
     let b : Body = body_in most_ticks d in
-    let told = faced (is_course_within (bare_kind d) d) _ _ (is_vector_within (unsigned_abs MAX_MOMENTUM) (get (codes "p") d)) _ _ (are_two_numbers (get (codes "facing") d)) (is_facing (facing_in (get (codes "facing") d))) _ _ _ (may_have_shapes b) h in
-    let posed = both_hold (is_within (unsigned_abs MAX_POSITION) (pose_of b).x) (is_facing (pose_of b).rot) (place_within (unsigned_abs MAX_POSITION) (get (codes "at") d)) told.1 in
-    unguarded (may_have_shapes b) (is_pose (pose_of b)) (are_in_boxes (pose_of b) b.shapes b.fats) told.0 posed
+    let told = told_within most_ticks d h in
+    unguarded (may_have_shapes b) (is_pose (pose_of b)) (are_in_boxes (pose_of b) b.shapes b.fats) told.0 (posed_so most_ticks d told.1)
 
 boxed_to : (f l b c m i : Bool) → (l ≡ true → b ≡ c) → (n : ℕ) → Hold n (bodily f l b m i) → Hold n (bodily f l c m i)
 boxed_to f l b c m i e zero h = tt

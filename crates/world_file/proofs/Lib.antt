@@ -8,12 +8,11 @@ pub mod ReadingLaws
 pub mod SumLaws
 pub mod CountLaws
 pub mod Tests
-pub mod AskLaws
-pub mod PointAsks
-pub mod ContactAsks
-pub mod ShapeAsks
-pub mod BodyAsks
-pub mod SlotAsks
+pub mod ReadPoints
+pub mod ReadContacts
+pub mod ReadShapes
+pub mod ReadBodies
+pub mod ReadSlots
 pub mod ReadParts
 pub mod TestLaws
 pub mod ClauseTests

@@ -27,7 +27,6 @@ use Rattle.plain_world.specs.Formed.{AreFiltered, HasFilter}
 use Rattle.plain_world.specs.Plain.{Plain}
 use Rattle.plain_world.specs.Slots.{body_at}
 use Rattle.plain_world.specs.declared.body.Body.{Body}
-use Rattle.world_file_base.specs.Asks.{no_asks}
 use Rattle.world_file_base.specs.declared.clause.Clause.{Clause}
 use Rattle.world_file_base.specs.declared.saved.Membership.{Membership}
 use Rattle.shapes.specs.declared.shape.ShapeDef.{ShapeDef}
@@ -43,7 +42,6 @@ use Rattle.world_file.specs.Clauses.{first_broken}
 use Rattle.world_file.specs.Files.{plain_of, read_of, read_unless}
 use Rattle.world_file.specs.Fitting.{share_no_mover, are_joints_colourless, are_rising_after, colours_below, entry_read, ids_below, is_coloured_well, is_contact_colourless, is_contact_fitting, is_joint_fitting, is_tie_kept, joint_kept, label_of, members_among, membership_at, ties_read}
 use Rattle.world_file.specs.Saved.{Saved, saved_in}
-use Rattle.world_file.specs.AskedParts.{parts_asks}
 use Rattle.world_file.specs.declared.ties.Tie.{Tie}
 use Rattle.world_rules.specs.Sets.{acting_of}
 use Rattle.world_rules.specs.Sound.{AreSmall, AreTimers, IsSound}
@@ -52,15 +50,14 @@ use Rattle.world_rules.specs.World.{book_of}
 use Rattle.world_rules.proofs.LowerLaws.{lists_are_members, ties_have_labels, ties_rise}
 use Rattle.world_rules.proofs.SoundLaws.{IsKept, sound_kept}
 use Rattle.world_file.specs.Laws.{WhatIsReadIsSound}
-use Rattle.world_file.proofs.BodyAsks.{IsSavedBody}
-use Rattle.world_file.proofs.FirstBroken.{asking_finds_the_first}
-use Rattle.world_file.proofs.ReadParts.{AreFitting, HasParts, establishes_fitting, establishes_parts}
+use Rattle.world_file.proofs.ReadBodies.{IsSavedBody}
+use Rattle.world_file.proofs.ReadParts.{AreFitting, HasParts, unbroken_is}
 use Rattle.world_file.proofs.SavedColours.{IsTie, acting_is, colouring_is, ids_are, lists_are_ties, saved_lists}
 use Rattle.world_file.proofs.SavedContacts.{IsFittingContact, contacts_of, contacts_rise, contacts_there, fitting_each, touching_each}
 use Rattle.world_file.proofs.SavedIslands.{islands_are, tie_together, tied_is, told_is}
 use Rattle.world_file.proofs.SavedJoints.{joints_are, kept_matched}
 use Rattle.world_file.proofs.SavedTies.{ties_are}
-use Rattle.world_file.proofs.SlotAsks.{AreBodySlots, OnBody, bodies_matched, joint_slot_entries_are, joints_matched, slot_is}
+use Rattle.world_file.proofs.ReadSlots.{AreBodySlots, OnBody, bodies_matched, joint_slot_entries_are, joints_matched, slot_is}
 use Rattle.world_file.proofs.TieColours.{ties_coloured}
 use Rattle.world_file.proofs.Tests.{all_pass, both_true, equal_z}
 
@@ -289,9 +286,8 @@ pub has_read : (d : Data) (p : Plain) (t : Totals) → read_of d ≡ Ok (p, t) �
 unfolding read_of
 has_read d p t e =
     let o = read_by (first_broken d) (saved_in d) p t e in
-    let whole = establishes_fitting (saved_in d) (parts_asks d no_asks) (asking_finds_the_first d ∙ o.unbroken) in
-    let parts = establishes_parts d no_asks whole.1 in
-    record { parts = parts.0; fitting = whole.0; plain = o.plain; totals = o.totals }
+    let is = unbroken_is d o.unbroken in
+    record { parts = is.parts; fitting = is.fitting; plain = o.plain; totals = o.totals }
 
 pub what_is_read_is_sound : WhatIsReadIsSound
 what_is_read_is_sound d p t e =

@@ -30,7 +30,7 @@ use Rattle.solver_sets.proofs.ListLaws.{Rises, in_mapped, mapped_in, pairs_from_
 use Rattle.solver_sets.proofs.TieLaws.{tie_number}
 use Rattle.world_file.specs.Fitting.{share_no_mover, are_named_well, coloured, colours_below, has_colour, ids_below, ids_coloured, is_coloured_well, is_tie_kept, label_of, members_among, membership_at}
 use Rattle.world_file.specs.declared.ties.Tie.{Tie}
-use Rattle.world_file.proofs.ContactAsks.{IsColour}
+use Rattle.world_file.proofs.ReadContacts.{IsColour}
 use Rattle.world_file.proofs.SavedIslands.{label_there, same_truth, tie_together}
 use Rattle.world_file.proofs.Tests.{both_true, equal_n, not_true, some_item}
 

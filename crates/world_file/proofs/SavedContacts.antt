@@ -25,8 +25,8 @@ use Rattle.solver_sets.proofs.SlotLemmas.{below_length}
 use Rattle.world_core_base.specs.ContactBodies.{AreContactsOf, IsContactOf}
 use Rattle.world_file.specs.Fitting.{are_points, are_rising_after, entry_read, has_points, is_above, is_contact_fitting, is_dynamic_body}
 use Rattle.world_rules.specs.Sound.{HasBodies}
-use Rattle.world_file.proofs.ContactAsks.{IsSavedContact}
-use Rattle.world_file.proofs.PointAsks.{IsPoint, OnPoint}
+use Rattle.world_file.proofs.ReadContacts.{IsSavedContact}
+use Rattle.world_file.proofs.ReadPoints.{IsPoint, OnPoint}
 use Rattle.world_file.proofs.SavedTies.{DoesTouch}
 use Rattle.world_file.proofs.Tests.{all_pass, below, both_true, either_true, not_true, some_item}
 

@@ -20,7 +20,7 @@ use Rattle.world_file.specs.Fitting.{are_named_well, are_whole, as_one_island, c
 use Rattle.world_file.specs.declared.ties.Tie.{Tie}
 use Rattle.world_rules.specs.Sound.{AreTold}
 use Rattle.world_file.proofs.ComponentLaws.{component_is, is_mover_at, linked_by_all}
-use Rattle.world_file.proofs.SlotAsks.{OnBody}
+use Rattle.world_file.proofs.ReadSlots.{OnBody}
 use Rattle.world_file.proofs.Tests.{at_most, both_true, equal_n, not_true}
 
 -- ---- the label of a slot

@@ -13,8 +13,8 @@ use Rattle.plain_world.specs.declared.body.Body.{Body}
 use Rattle.plain_world.specs.declared.joint.BodyJoint.{BodyJoint}
 use Rattle.world_file_base.specs.declared.saved.SavedJoint.{SavedJoint}
 use Rattle.world_file.specs.Fitting.{is_joint_fitting, joint_kept}
-use Rattle.world_file.proofs.ContactAsks.{IsSavedJoint}
-use Rattle.world_file.proofs.SlotAsks.{AreSavedSlots, OnJoint, joint_slot_is}
+use Rattle.world_file.proofs.ReadContacts.{IsSavedJoint}
+use Rattle.world_file.proofs.ReadSlots.{AreSavedSlots, OnJoint, joint_slot_is}
 use Rattle.world_file.proofs.Tests.{both_true, not_true}
 
 kept_at : (os : List (Option SavedJoint)) (slot : ℕ) → item_at (map joint_kept os) slot ≡ joint_kept (item_at os slot)

@@ -65,7 +65,7 @@ pub record IsFrom (low high z : ℤ) : Type 0 where
   pub least : low ≤ℤ z
   pub most : z ≤ℤ high
 
-between_is : (low high z : ℤ) → is_between low high z ≡ true → IsFrom low high z
+pub between_is : (low high z : ℤ) → is_between low high z ≡ true → IsFrom low high z
 between_is low high z h = let o = both_true (int_le low z) (int_le z high) h in record { least = at_most_z low z o.0; most = at_most_z z high o.1 }
 
 same_z : (z : ℤ) → z ≤ℤ z

@@ -13,9 +13,9 @@ use Rattle.solver_sets.specs.Ties.{contact_movers, joint_movers, tie_with}
 use Rattle.world_file.specs.Fitting.{contact_listed, joint_ties, tie_if_any, tie_read, ties_read}
 use Rattle.world_file.specs.Saved.{Saved}
 use Rattle.world_file.specs.declared.ties.Tie.{Tie}
-use Rattle.world_file.proofs.ContactAsks.{IsColour, IsSavedContact}
+use Rattle.world_file.proofs.ReadContacts.{IsColour, IsSavedContact}
 use Rattle.world_file.proofs.ReadParts.{HasParts}
-use Rattle.world_file.proofs.SlotAsks.{AreSavedSlots}
+use Rattle.world_file.proofs.ReadSlots.{AreSavedSlots}
 
 abbrev HasColour : Tie → Type 0
 HasColour t = IsColour t.colour

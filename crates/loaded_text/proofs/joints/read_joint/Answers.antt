@@ -2,6 +2,7 @@ use Rattle.std.proofs.Common.{rules, to_z-of_z}
 use Rattle.std.specs.Int.{w64}
 use mir.Val.{SFits}
 use Rattle.json.specs.Print.{escape_byte}
+use Rattle.loaded_text.proofs.Back.{colour_is}
 use Rattle.loaded_text.proofs.JointLaws.{joint_holds}
 use Rattle.loaded_text.proofs.joints.read_joint.Goals as goal
 
@@ -16,11 +17,13 @@ returns c =
       a_generation = c.in_ok-a.ensures.generation;
       b_slot = c.in_ok-b.ensures.slot;
       b_generation = c.in_ok-b.ensures.generation;
-      colour_is = c.in_ok-colour.ensures.low;
-      from = rw c.unsigned_abs.ensures.value at c.in_ok-from.ensures.within;
-      impulse = rw c.unsigned_abs-2.ensures.value at c.in_ok-impulse.ensures.size;
-      length = rw c.unsigned_abs-3.ensures.value at c.in_ok-length.ensures.size;
-      positive = c.in_ok-length.ensures.nonnegative;
-      to = rw c.unsigned_abs-4.ensures.value at c.in_ok-to.ensures.within;
+      colour_is = colour_is c.in_ok-colour.colour c.in_ok-colour.ensures.low;
+      joint = record {
+        from = rw c.unsigned_abs.ensures.value at c.in_ok-from.ensures.within;
+        to = rw c.unsigned_abs-4.ensures.value at c.in_ok-to.ensures.within;
+        nonnegative = c.in_ok-length.ensures.nonnegative;
+        length = rw c.unsigned_abs-3.ensures.value at c.in_ok-length.ensures.size;
+        impulse = rw c.unsigned_abs-2.ensures.value at c.in_ok-impulse.ensures.size;
+      };
     })
     c.in_ok-expect.ensures.taken c.in_ok-expect-2.ensures.taken c.in_ok-a.ensures.text c.in_ok-b.ensures.text c.in_ok-collide.ensures c.in_ok-colour.ensures.text c.in_ok-from.ensures.text c.in_ok-impulse.ensures.text c.in_ok-length.ensures.text c.in_ok-to.ensures.text c.in_ok-expect-3.ensures.taken))

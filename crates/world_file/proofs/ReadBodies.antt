@@ -1,15 +1,12 @@
--- What is known of a body of which nothing is found broken.
+-- What is known of a body that keeps each clause by itself.
 use Rattle.std.proofs.Common.{◌≡◌, ℕ, ◌^◌, ◌≤◌, ◌&&◌, ◌||◌, Bool, true, false, not, cond, length, Option, Some, None, is_none, is_some, codes, ℤ, pos, neg_ℤ, unsigned_abs, int_eq, inl, inr, refl, sym, ap, ◌∙◌, arith, le_trans}
 use Rattle.std.proofs.lemmas.Bool.{false≢true}
-use Rattle.std.proofs.lemmas.Bool.Decides.{nat_tests}
 use Rattle.std.proofs.lemmas.Int.{ints}
 use Rattle.serde_json.specs.Data.{Data}
 use Rattle.serde_json.specs.Find.{get}
 use Rattle.contacts.proofs.Members.{Each}
 use Rattle.fixed_geom.specs.Boxes.{IsBoxWithin}
 use Rattle.fixed_geom.specs.Facings.{is_facing}
-use Rattle.fixed_geom.specs.Vectors.{IsWithin, is_within}
-use Rattle.fixed_geom.specs.declared.vectors.Vec2.{Vec2}
 use Rattle.fixed_geom.specs.declared.limits.TheConstants.{MAX_POSITION, MAX_SPIN}
 use Rattle.momenta.specs.Motions.{IsMass, IsMotion}
 use Rattle.momenta.specs.declared.limits.TheConstants.{MAX_ANGULAR_MOMENTUM, MAX_MOMENTUM, MAX_SPEED}
@@ -22,31 +19,17 @@ use Rattle.plain_world.specs.declared.body.Body.{Body}
 use Rattle.plain_world.specs.declared.kind.Kind.{Kind}
 use Rattle.plain_world.specs.declared.kind.Kind.TheVariants.{Static, Kinematic, Dynamic}
 use Rattle.shapes.specs.declared.shape.ShapeDef.{ShapeDef}
-use Rattle.world_file_base.specs.Reading.{has_keys, items_in, signed_in, text_in}
-use Rattle.world_file_base.specs.declared.clause.Clause.TheVariants.{Form, Islands, Limits, Memberships}
-use Rattle.world_file_base.specs.SavedBodies.{bare_kind, body_in, facing_in, island_fits, is_island_or_nothing, is_at_rest, kind_in, least_mass, mass_in, membership_in, momenta_in, most_angular, most_inertia, most_mass, motion_in, named_kind, pose_in, sleeping_under, with_course}
-use Rattle.world_file_base.specs.AskedBodies.{body_asks, course_asks, keys_asks, kind_asks, mass_asks, membership_asks, momenta_asks, motion_asks, numbers_asks, pose_asks, rest_asks, fitting_membership_asks, whole_body_asks}
+use Rattle.world_file_base.specs.Reading.{items_in, signed_in}
+use Rattle.world_file_base.specs.SavedBodies.{bare_kind, body_in, facing_in, island_fits, is_island_or_nothing, is_at_rest, kind_in, mass_in, membership_in, momenta_in, most_angular, motion_in, pose_in, sleeping_under, with_course}
 use Rattle.world_file_base.specs.declared.saved.Membership.{Membership}
-use Rattle.world_file.proofs.AskLaws.{Passes, Establishes, passes, passes_decimal, passes_island, passes_list, passes_signed, passes_text, passes_truth, passes_unsigned, passes_vector, passes_within, establishes}
-use Rattle.world_file.proofs.ShapeAsks.{IsFit, as_many, boxes_small, fat_boxes_are, filters_small, forms_of, passes_shapes, establishes_fit}
+use Rattle.world_file.proofs.ReadShapes.{as_many, boxes_small, fat_boxes_are, filters_small, forms_of}
 use Rattle.world_file.proofs.Tests.{IsFrom, both_true, decimal_small, either_true, equal_z, facing, not_true, signed_from, size_from, unsigned_small, vector_small}
+use Rattle.fixed_geom.specs.declared.refusal.Refusal.{Refusal}
+use Rattle.world_file.specs.SavedLimits.{are_two_numbers, is_body_within, is_course_within, is_motion_within, is_vector_within, may_have_shapes}
+use Rattle.world_file.specs.Clauses.{is_boxed, is_membership_right, is_rested}
+use Rattle.shapes.specs.Shapes.{shapes_refusal}
 
 -- ---- its kind
-
-passes_course : (k : Kind) (d : Data) → Passes (course_asks k d)
-passes_course Static d r h = passes (has_keys 13 d) Form r h
-passes_course (Kinematic course) d r h =
-    let keys = passes (has_keys 15 d) Form _ h in
-    let spin = passes_signed (neg_ℤ MAX_SPIN) MAX_SPIN (get (codes "spin") d) _ keys in
-    passes_within (unsigned_abs MAX_SPEED) (get (codes "velocity") d) r spin
-passes_course Dynamic d r h = passes (has_keys 13 d) Form r h
-
-passes_kind : (d : Data) → Passes (kind_asks d)
-unfolding kind_asks
-passes_kind d r h =
-    let course = passes_course (bare_kind d) d _ h in
-    let name = passes (is_some (named_kind (text_in (get (codes "kind") d)))) Form _ course in
-    passes_text (get (codes "kind") d) r name
 
 course_of : (k : Kind) (d : Data) → IsCourse (carried_by (with_course k d))
 course_of Static d = record { velocity = record { x = omega arith; y = omega arith }; spin = omega arith }
@@ -61,12 +44,6 @@ unfolding kind_in
 course_is d = course_of (bare_kind d) d
 
 -- ---- its numbers
-
-passes_mass : (k : Kind) (d : Data) → Passes (mass_asks k d)
-unfolding mass_asks
-passes_mass k d r h =
-    let inertia = passes_signed (pos 0) (most_inertia k) (get (codes "inertia") d) _ h in
-    passes_signed (least_mass k) (most_mass k) (get (codes "mass") d) r inertia
 
 none_of : (z : ℤ) → IsFrom (pos 0) (pos 0) z → z ≡ pos 0
 none_of z h = let least = h.least in let most = h.most in omega (arith, ints, least, most)
@@ -87,24 +64,6 @@ unfolding mass_in
 mass_is Static d = no_mass (get (codes "mass") d) (get (codes "inertia") d)
 mass_is (Kinematic course) d = no_mass (get (codes "mass") d) (get (codes "inertia") d)
 mass_is Dynamic d = is_mass (mass_in Dynamic d) (signed_from (pos 1) (pos (2 ^ 20)) (get (codes "mass") d) (omega (arith, ints))) (signed_from (pos 0) (pos (2 ^ 60)) (get (codes "inertia") d) (omega (arith, ints)))
-
-passes_momenta : (most : ℕ) (d : Data) → Passes (momenta_asks most d)
-unfolding momenta_asks
-passes_momenta most d r h =
-    let l = passes_decimal most (get (codes "l") d) _ h in
-    passes_within (unsigned_abs MAX_MOMENTUM) (get (codes "p") d) r l
-
-establishes_pose : (d : Data) → Establishes (is_facing (pose_in d).rot ≡ true) (pose_asks d)
-unfolding pose_asks pose_in
-establishes_pose d r h =
-    let o = establishes (is_facing (facing_in (get (codes "facing") d))) Limits _ h in
-    (o.0, passes_within (unsigned_abs MAX_POSITION) (get (codes "at") d) r (passes_vector (get (codes "facing") d) _ o.1))
-
-establishes_motion : (inertia : ℤ) (d : Data) → Establishes (is_facing (pose_in d).rot ≡ true) (motion_asks inertia d)
-unfolding motion_asks
-establishes_motion inertia d r h =
-    let pose = establishes_pose d _ h in
-    (pose.0, passes_momenta (most_angular inertia) d r pose.1)
 
 angular_small : (inertia : ℤ) (t : Bool) → int_eq inertia (pos 0) ≡ t → cond t 0 (unsigned_abs MAX_ANGULAR_MOMENTUM) ≤ unsigned_abs MAX_ANGULAR_MOMENTUM
 angular_small inertia true e = omega arith
@@ -127,45 +86,7 @@ motion_is m d h =
       facing = facing (facing_in (get (codes "facing") d)) h;
     }
 
-passes_membership : (d : Data) → Passes (membership_asks d)
-unfolding membership_asks
-passes_membership d r h =
-    let asleep = passes_truth (get (codes "asleep") d) _ h in
-    let loose = passes_truth (get (codes "loose") d) _ asleep in
-    passes_island (get (codes "island") d) r loose
-
-establishes_numbers : (t : ℕ) (d : Data) → Establishes (is_facing (pose_in d).rot ≡ true) (numbers_asks t d)
-unfolding numbers_asks
-establishes_numbers t d r h =
-    let timer = passes_unsigned t (get (codes "timer") d) _ h in
-    let enabled = passes_truth (get (codes "enabled") d) _ timer in
-    let membership = passes_membership d _ enabled in
-    let motion = establishes_motion (mass_in (kind_in d) d).inertia d _ membership in
-    let mass = passes_mass (kind_in d) d _ motion.1 in
-    (motion.0, passes_kind d r mass)
-
-establishes_keys : (t : ℕ) (d : Data) → Establishes (is_facing (pose_in d).rot ≡ true) (keys_asks t d)
-unfolding keys_asks
-establishes_keys t d r h =
-    let shapes = passes_shapes (items_in (get (codes "shapes") d)) _ h in
-    let list = passes_list (get (codes "shapes") d) _ shapes in
-    establishes_numbers t d r list
-
 -- ---- the whole body
-
-establishes_rest : (b : Body) → Establishes (((is_awake b || is_at_rest b.motion) ≡ true) × ((b.enabled || not (is_moving (carried_by b.kind))) ≡ true)) (rest_asks b)
-unfolding rest_asks
-establishes_rest b r h =
-    let halted = establishes (b.enabled || not (is_moving (carried_by b.kind))) Islands _ h in
-    let still = establishes (is_awake b || is_at_rest b.motion) Islands r halted.1 in
-    ((still.0, halted.0), still.1)
-
-establishes_membership : (b : Body) (m : Membership) → Establishes ((island_fits b m ≡ true) × (is_island_or_nothing m ≡ true)) (fitting_membership_asks b m)
-unfolding fitting_membership_asks
-establishes_membership b m r h =
-    let told = establishes (is_island_or_nothing m) Memberships _ h in
-    let fits = establishes (island_fits b m) Memberships r told.1 in
-    ((fits.0, told.0), fits.1)
 
 at_rest_is : (m : Motion) → is_at_rest m ≡ true → IsAtRest m
 at_rest_is m h =
@@ -195,12 +116,6 @@ none_under true None h = refl
 none_under true (Some n) h = absurd (false≢true (sym h))
 none_under false island h = refl
 
-is_within_true : (n : ℕ) (v : Vec2) → IsWithin n v → is_within n v ≡ true
-is_within_true n v h = let x = h.x in let y = h.y in grind (arith, nat_tests)
-
-pose_true : (n : ℕ) (v : Vec2) (t : Bool) → IsWithin n v → t ≡ true → (is_within n v && t) ≡ true
-pose_true n v t h e = ap (λ b. b && t) (is_within_true n v h) ∙ e
-
 -- a body and what it says of its island
 pub record IsSavedBody (most : ℕ) (b : Body) (m : Membership) : Type 0 where
   pub body : IsBody b
@@ -215,27 +130,26 @@ record HasNumbers (b : Body) : Type 0 where
   mass : IsMassOf b.kind b.mass
   motion : IsMotion b.mass b.motion
   course : IsCourse (carried_by b.kind)
-  facing : is_facing b.motion.rot ≡ true
   long : length b.fats ≡ length b.shapes
   small : Each (IsBoxWithin (2 ^ 37)) b.fats
 
-body_is : (b : Body) (m : Membership) → HasNumbers b → b.asleep ≡ sleeping_under m → IsFit b.kind (pose_of b) b.shapes b.fats
+none_is : (o : Option Refusal) → is_none o ≡ true → o ≡ None
+none_is None h = refl
+none_is (Some e) h = absurd (false≢true h)
+
+body_is : (b : Body) (m : Membership) → HasNumbers b → b.asleep ≡ sleeping_under m → may_have_shapes b ≡ true → is_boxed (Some b) ≡ true
     → (is_awake b || is_at_rest b.motion) ≡ true → (b.enabled || not (is_moving (carried_by b.kind))) ≡ true → island_fits b m ≡ true → IsBody b
-body_is b m n asleep fit still halted fits = record {
+body_is b m n asleep allowed boxed still halted fits = record {
   mass = n.mass;
   motion = n.motion;
   rest = still_by b still;
   asleep = λ e. asleep ∙ none_under m.asleep m.island (fits_by (is_mover b) m.island fits ∙ e);
   course = n.course;
   halted = halted_by b halted;
-  shapes = fit.refusal;
-  forms = forms_of (is_static b.kind) b.shapes fit.refusal;
-  fats = fat_boxes_are (pose_of b) b.shapes b.fats n.long (fit.boxes (pose_true (unsigned_abs MAX_POSITION) b.motion.x (is_facing b.motion.rot) n.motion.x n.facing)) n.small;
+  shapes = none_is (shapes_refusal (is_static b.kind) b.shapes) allowed;
+  forms = forms_of (is_static b.kind) b.shapes (none_is (shapes_refusal (is_static b.kind) b.shapes) allowed);
+  fats = fat_boxes_are (pose_of b) b.shapes b.fats n.long boxed n.small;
 }
-
-rotates : (d : Data) (inertia : ℤ) → is_facing (pose_in d).rot ≡ true → is_facing (motion_in inertia d).rot ≡ true
-unfolding motion_in
-rotates d inertia h = h
 
 has_numbers : (t : ℕ) (d : Data) → is_facing (pose_in d).rot ≡ true → HasNumbers (body_in t d)
 unfolding body_in
@@ -243,7 +157,6 @@ has_numbers t d h = record {
   mass = mass_is (kind_in d) d;
   motion = motion_is (mass_in (kind_in d) d) d h;
   course = course_is d;
-  facing = rotates d (mass_in (kind_in d) d).inertia h;
   long = as_many (items_in (get (codes "shapes") d));
   small = boxes_small (items_in (get (codes "shapes") d));
 }
@@ -260,20 +173,34 @@ filtered : (t : ℕ) (d : Data) → Each (λ (s : ShapeDef). HasFilter s.filter)
 unfolding body_in
 filtered t d = filters_small (items_in (get (codes "shapes") d))
 
-pub establishes_body : (t : ℕ) (d : Data) → Establishes (IsSavedBody t (body_in t d) (membership_in d)) (body_asks t d)
-unfolding body_asks whole_body_asks
-establishes_body t d r h =
-    let told = establishes_membership (body_in t d) (membership_in d) _ h in
-    let rest = establishes_rest (body_in t d) _ told.1 in
-    let fit = establishes_fit (body_in t d).kind (pose_of (body_in t d)) (body_in t d).shapes (body_in t d).fats _ rest.1 in
-    let keys = establishes_keys t d r fit.1 in (
-      record {
-        body = body_is (body_in t d) (membership_in d) (has_numbers t d keys.0) (asleep_as t d) fit.0 rest.0.0 rest.0.1 told.0.0;
-        timer = timer_small t d;
-        island = fits_by (is_mover (body_in t d)) (membership_in d).island told.0.0;
-        asleep = asleep_as t d;
-        told = told.0.1;
-        filters = filtered t d;
-      },
-      keys.1,
-    )
+faced : (course mass inertia p l at numbers facing island timer shapes allowed : Bool) → (course && mass && inertia && (p && l && at && (numbers && facing)) && island && timer && shapes && allowed) ≡ true → (allowed ≡ true) × (facing ≡ true)
+faced course mass inertia p l at numbers facing island timer shapes allowed h =
+    let motion : Bool = p && l && at && (numbers && facing) in
+    let one = both_true (course && mass && inertia && motion && island && timer && shapes) allowed h in
+    let two = both_true (course && mass && inertia && motion && island && timer) shapes one.0 in
+    let three = both_true (course && mass && inertia && motion && island) timer two.0 in
+    let four = both_true (course && mass && inertia && motion) island three.0 in
+    let five = both_true (course && mass && inertia) motion four.0 in
+    let six = both_true (p && l && at) (numbers && facing) five.1 in
+    let seven = both_true numbers facing six.1 in
+    (one.1, seven.1)
+
+-- a body within its limits may have its shapes, and has a facing
+pub told_within : (t : ℕ) (d : Data) → is_body_within t d ≡ true → (may_have_shapes (body_in t d) ≡ true) × (is_facing (pose_in d).rot ≡ true)
+unfolding is_body_within is_motion_within pose_in
+told_within t d h = faced (is_course_within (bare_kind d) d) _ _ (is_vector_within (unsigned_abs MAX_MOMENTUM) (get (codes "p") d)) _ _ (are_two_numbers (get (codes "facing") d)) (is_facing (facing_in (get (codes "facing") d))) _ _ _ (may_have_shapes (body_in t d)) h
+
+pub body_kept : (t : ℕ) (d : Data) → is_body_within t d ≡ true → is_boxed (Some (body_in t d)) ≡ true → is_membership_right (Some (body_in t d)) (membership_in d) ≡ true → is_rested (Some (body_in t d)) ≡ true → IsSavedBody t (body_in t d) (membership_in d)
+body_kept t d within boxed right rested =
+    let b : Body = body_in t d in
+    let told = told_within t d within in
+    let own = both_true (island_fits b (membership_in d)) (is_island_or_nothing (membership_in d)) right in
+    let still = both_true (is_awake b || is_at_rest b.motion) (b.enabled || not (is_moving (carried_by b.kind))) rested in
+    record {
+      body = body_is b (membership_in d) (has_numbers t d told.1) (asleep_as t d) told.0 boxed still.0 still.1 own.0;
+      timer = timer_small t d;
+      island = fits_by (is_mover b) (membership_in d).island own.0;
+      asleep = asleep_as t d;
+      told = own.1;
+      filters = filtered t d;
+    }

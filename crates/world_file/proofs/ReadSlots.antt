@@ -1,4 +1,4 @@
--- What is known of the slots of bodies and of joints of which nothing is found broken.
+-- What is known of the slots of bodies and of joints that keep each clause by themselves.
 use Rattle.std.proofs.Common.{◌≡◌, ℕ, zero, suc, ◌<◌, ◌≤◌, Bool, true, false, not, cond, nat_le, nat_lt, List, [], ◌∷◌, length, Option, Some, None, is_some, option_and_then, option_map, unwrap_or, codes, ℤ, pos, negsuc, All, inl, inr, refl, sym, ap, ◌∙◌, arith}
 use Rattle.std.proofs.lemmas.Bool.{false≢true}
 use Rattle.serde_json.specs.Data.{Data, Items, no_items, item}
@@ -10,25 +10,23 @@ use Rattle.body_handles.specs.declared.slot_table.TheConstants.{MAX_SLOTS, WORN_
 use Rattle.contacts.proofs.Members.{Each, all_from_each}
 use Rattle.plain_world.specs.Slots.{AreMatched, body_at, is_taken, item_at}
 use Rattle.plain_world.specs.declared.body.Body.{Body}
-use Rattle.world_file_base.specs.Reading.{has_keys, items_in, whole_in}
-use Rattle.world_file_base.specs.AskedValues.{list_asks, whole_asks}
-use Rattle.world_file_base.specs.declared.clause.Clause.TheVariants.{Form, Generations, Limits}
-use Rattle.world_file_base.specs.declared.reader.Reader.{Reader}
+use Rattle.world_file_base.specs.Reading.{items_in, whole_in}
 use Rattle.world_file_base.specs.SavedBodies.{body_in}
-use Rattle.world_file_base.specs.AskedBodies.{body_asks}
 use Rattle.world_file_base.specs.SavedJoints.{joint_in}
-use Rattle.world_file_base.specs.SavedSlots.{bodies_in, body_key, generation_in, generation_of_number, generation_of_value, is_in_time, joint_key, joints_in, membership_or_none, memberships_in, no_membership, slot_entry_in, slot_entries_in, positive, slot_keys}
-use Rattle.world_file_base.specs.AskedSlots.{bodies_asks, body_slot_asks, generation_asks, item_asks, joint_slot_asks, joints_asks, slot_entry_asks, slots_asks, joint_asks}
+use Rattle.world_file_base.specs.SavedSlots.{bodies_in, body_key, generation_in, generation_of_number, generation_of_value, is_in_time, joint_key, joints_in, membership_or_none, memberships_in, no_membership, positive, slot_body, slot_entries_in, slot_entry_in, slot_membership}
 use Rattle.world_file_base.specs.Versions.{most_slots}
 use Rattle.world_file_base.specs.declared.saved.Membership.{Membership}
 use Rattle.world_file_base.specs.declared.saved.SavedJoint.{SavedJoint}
 use Rattle.world_file_base.specs.declared.version.Version.{Version}
 use Rattle.world_file_base.specs.declared.version.Version.TheVariants.{First, Second}
 use Rattle.world_file.specs.Fitting.{membership_at}
-use Rattle.world_file.proofs.AskLaws.{IsUnbroken, Passes, Establishes, passes, passes_list, passes_whole, establishes}
-use Rattle.world_file.proofs.BodyAsks.{IsSavedBody, establishes_body}
-use Rattle.world_file.proofs.ContactAsks.{IsSavedJoint, joint_is, passes_joint}
-use Rattle.world_file.proofs.Tests.{at_most, below, either_true, not_true}
+use Rattle.world_file.proofs.ReadBodies.{IsSavedBody, body_kept}
+use Rattle.world_file.proofs.ReadContacts.{IsSavedJoint, joint_is}
+use Rattle.world_file.proofs.Tests.{at_most, below, both_true, either_true, not_true}
+use Rattle.world_file.specs.SavedForms.{all_items, if_there}
+use Rattle.world_file.specs.SavedLimits.{are_few_slots, is_body_within, is_slot_within}
+use Rattle.world_file.specs.Clauses.{are_memberships_right, has_generation, is_boxed, is_membership_right, is_rested}
+use Rattle.std.specs.List.{list_all}
 
 -- ---- a slot entry
 
@@ -54,9 +52,6 @@ generation_by (negsuc n) = first_generation
 generation_is : (v : Option Data) → IsGeneration (generation_in v)
 generation_is v = generation_by (whole_in v)
 
-passes_generation : (v : Option Data) → Passes (generation_asks v)
-passes_generation v r h = passes_whole v r (passes (is_some (generation_of_value v)) Generations (whole_asks v r) h)
-
 in_time : (p : SlotEntry) → is_in_time p ≡ true → p.live ≡ true → p.generation < WORN_OUT
 in_time p h e = elim (either_true (not p.live) (nat_lt p.generation WORN_OUT) h) [
   | inl free ↦ absurd (false≢true (sym (not_true p.live free) ∙ e))
@@ -73,23 +68,19 @@ live_is : (key : List ℕ) (d : Data) → (slot_entry_in key d).live ≡ is_some
 unfolding slot_entry_in
 live_is key d = refl
 
-establishes_slot_entry : (key : List ℕ) (d : Data) → Establishes (IsSlotEntry (slot_entry_in key d)) (slot_entry_asks key d)
-unfolding slot_entry_asks
-establishes_slot_entry key d r h =
-    let o = establishes (is_in_time (slot_entry_in key d)) Generations _ h in
-    let keys = passes (has_keys (slot_keys (is_some (get key d))) d) Form _ o.1 in
-    (slot_entry_is key d o.0, passes_generation (get (codes "generation") d) r keys)
+-- where its generation is right
+entry_kept : (key : List ℕ) (d : Data) → has_generation key d ≡ true → IsSlotEntry (slot_entry_in key d)
+entry_kept key d h = slot_entry_is key d (both_true (is_some (generation_of_value (get (codes "generation") d))) (is_in_time (slot_entry_in key d)) h).1
 
 slots_small : (v : Version) → most_slots v ≤ MAX_SLOTS
 slots_small First = omega arith
 slots_small Second = omega arith
 
-pub establishes_slots : (v : Version) (value : Option Data) → Establishes (items_len (items_in value) ≤ MAX_SLOTS) (slots_asks v value)
-establishes_slots v value r h =
-    let o = establishes (nat_le (items_len (items_in value)) (most_slots v)) Limits (list_asks value r) h in
-    let few = at_most (items_len (items_in value)) (most_slots v) o.0 in
+pub few_slots : (v : Version) (value : Option Data) → are_few_slots v value ≡ true → items_len (items_in value) ≤ MAX_SLOTS
+few_slots v value h =
+    let few = at_most (items_len (items_in value)) (most_slots v) h in
     let all = slots_small v in
-    (omega (arith, few, all), passes_list value r o.1)
+    omega (arith, few, all)
 
 -- ---- slots of bodies
 
@@ -111,30 +102,34 @@ AreBodySlots most (p ∷ ps) [] ms = ⊥
 AreBodySlots most (p ∷ ps) (o ∷ os) [] = ⊥
 AreBodySlots most (p ∷ ps) (o ∷ os) (m ∷ ms) = IsBodySlot most p o m × AreBodySlots most ps os ms
 
-establishes_item : (most : ℕ) (o : Option Data) → Establishes (OnBody most (option_map (body_in most) o) (membership_or_none o)) (item_asks (body_asks most) o)
-establishes_item most None r h = (refl, h)
-establishes_item most (Some d) r h = establishes_body most d r h
+item_kept : (most : ℕ) (o : Option Data) → if_there (is_body_within most) o ≡ true → is_boxed (option_map (body_in most) o) ≡ true → is_membership_right (option_map (body_in most) o) (membership_or_none o) ≡ true → is_rested (option_map (body_in most) o) ≡ true
+    → OnBody most (option_map (body_in most) o) (membership_or_none o)
+item_kept most None within boxed right rested = refl
+item_kept most (Some d) within boxed right rested = body_kept most d within boxed right rested
 
 some_map : {X Y : Type 0} (f : X → Y) (o : Option X) → is_some o ≡ is_some (option_map f o)
 some_map f None = refl
 some_map f (Some x) = refl
 
-establishes_body_slot : (most : ℕ) (d : Data) → Establishes (IsBodySlot most (slot_entry_in body_key d) (option_map (body_in most) (get body_key d)) (membership_or_none (get body_key d))) (body_slot_asks most d)
-establishes_body_slot most d r h =
-    let o = establishes_item most (get body_key d) (slot_entry_asks body_key d r) h in
-    let p = establishes_slot_entry body_key d r o.1 in
-    (record { slot_entry = p.0; live = live_is body_key d ∙ some_map (body_in most) (get body_key d); body = o.0 }, p.1)
+-- what slots of bodies keep by themselves
+pub record KeepSlots (most : ℕ) (ds : Items) : Type 0 where
+  pub within : all_items (is_slot_within body_key (is_body_within most)) ds ≡ true
+  pub generations : all_items (has_generation body_key) ds ≡ true
+  pub boxed : list_all is_boxed (bodies_in most ds) ≡ true
+  pub right : are_memberships_right (bodies_in most ds) (memberships_in ds) ≡ true
+  pub rested : list_all is_rested (bodies_in most ds) ≡ true
 
-passes_bodies : (most : ℕ) (ds : Items) (r : Reader) → IsUnbroken (bodies_asks most ds r) → IsUnbroken r
-passes_bodies most no_items r h = h
-passes_bodies most (item d ds) r h = (establishes_body_slot most d r (passes_bodies most ds (body_slot_asks most d r) h)).1
-
-body_slots : (most : ℕ) (ds : Items) (r : Reader) → IsUnbroken (bodies_asks most ds r) → AreBodySlots most (slot_entries_in body_key ds) (bodies_in most ds) (memberships_in ds)
-body_slots most no_items r h = tt
-body_slots most (item d ds) r h = ((establishes_body_slot most d r (passes_bodies most ds (body_slot_asks most d r) h)).0, body_slots most ds (body_slot_asks most d r) h)
-
-pub establishes_bodies : (most : ℕ) (ds : Items) → Establishes (AreBodySlots most (slot_entries_in body_key ds) (bodies_in most ds) (memberships_in ds)) (bodies_asks most ds)
-establishes_bodies most ds r h = (body_slots most ds r h, passes_bodies most ds r h)
+pub body_slots_are : (most : ℕ) (ds : Items) → KeepSlots most ds → AreBodySlots most (slot_entries_in body_key ds) (bodies_in most ds) (memberships_in ds)
+body_slots_are most no_items h = tt
+body_slots_are most (item d ds) h =
+    let within = both_true (is_slot_within body_key (is_body_within most) d) (all_items (is_slot_within body_key (is_body_within most)) ds) h.within in
+    let generations = both_true (has_generation body_key d) (all_items (has_generation body_key) ds) h.generations in
+    let boxed = both_true (is_boxed (slot_body most d)) (list_all is_boxed (bodies_in most ds)) h.boxed in
+    let right = both_true (is_membership_right (slot_body most d) (slot_membership d)) (are_memberships_right (bodies_in most ds) (memberships_in ds)) h.right in
+    let rested = both_true (is_rested (slot_body most d)) (list_all is_rested (bodies_in most ds)) h.rested in (
+      record { slot_entry = entry_kept body_key d generations.0; live = live_is body_key d ∙ some_map (body_in most) (get body_key d); body = item_kept most (get body_key d) within.0 boxed.0 right.0 rested.0 },
+      body_slots_are most ds (record { within = within.1; generations = generations.1; boxed = boxed.1; right = right.1; rested = rested.1 }),
+    )
 
 pub bodies_long : (most : ℕ) (ds : Items) → length (bodies_in most ds) ≡ items_len ds
 bodies_long most no_items = refl
@@ -193,25 +188,11 @@ on_joint : (v : Version) (o : Option Data) → OnJoint (option_map (joint_in v) 
 on_joint v None = tt
 on_joint v (Some d) = joint_is v d
 
-passes_item : (v : Version) (o : Option Data) → Passes (item_asks (joint_asks v) o)
-passes_item v None r h = h
-passes_item v (Some d) r h = passes_joint v d r h
-
-establishes_joint_slot : (v : Version) (d : Data) → Establishes (IsJointSlot (slot_entry_in joint_key d) (option_map (joint_in v) (get joint_key d))) (joint_slot_asks v d)
-establishes_joint_slot v d r h =
-    let p = establishes_slot_entry joint_key d r (passes_item v (get joint_key d) (slot_entry_asks joint_key d r) h) in
-    (record { slot_entry = p.0; live = live_is joint_key d ∙ some_map (joint_in v) (get joint_key d); joint = on_joint v (get joint_key d) }, p.1)
-
-passes_joints : (v : Version) (ds : Items) (r : Reader) → IsUnbroken (joints_asks v ds r) → IsUnbroken r
-passes_joints v no_items r h = h
-passes_joints v (item d ds) r h = (establishes_joint_slot v d r (passes_joints v ds (joint_slot_asks v d r) h)).1
-
-joint_slots : (v : Version) (ds : Items) (r : Reader) → IsUnbroken (joints_asks v ds r) → AreSavedSlots (slot_entries_in joint_key ds) (joints_in v ds)
-joint_slots v no_items r h = tt
-joint_slots v (item d ds) r h = ((establishes_joint_slot v d r (passes_joints v ds (joint_slot_asks v d r) h)).0, joint_slots v ds (joint_slot_asks v d r) h)
-
-pub establishes_joints : (v : Version) (ds : Items) → Establishes (AreSavedSlots (slot_entries_in joint_key ds) (joints_in v ds)) (joints_asks v ds)
-establishes_joints v ds r h = (joint_slots v ds r h, passes_joints v ds r h)
+pub joint_slots_are : (v : Version) (ds : Items) → all_items (has_generation joint_key) ds ≡ true → AreSavedSlots (slot_entries_in joint_key ds) (joints_in v ds)
+joint_slots_are v no_items h = tt
+joint_slots_are v (item d ds) h =
+    let o = both_true (has_generation joint_key d) (all_items (has_generation joint_key) ds) h in
+    (record { slot_entry = entry_kept joint_key d o.0; live = live_is joint_key d ∙ some_map (joint_in v) (get joint_key d); joint = on_joint v (get joint_key d) }, joint_slots_are v ds o.1)
 
 pub joints_long : (v : Version) (ds : Items) → length (joints_in v ds) ≡ items_len ds
 joints_long v no_items = refl
