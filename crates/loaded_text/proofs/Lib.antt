@@ -1,3 +1,9 @@
+pub mod Answered
+pub mod Digits
+pub mod Plain
+pub mod Signs
+pub mod Taken
+pub mod Unique
 pub mod Joined
 pub mod Parts
 pub mod Back

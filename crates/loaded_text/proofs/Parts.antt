@@ -3,8 +3,8 @@ use Rattle.std.proofs.Common.{◌≡◌, ℕ, ◌^◌, ◌<◌, ◌++◌, ◌∷
 use Rattle.body_handles.specs.IdTexts.{id_text}
 use Rattle.body_handles.specs.declared.handle.Handle.{Handle}
 use Rattle.json.specs.Print.{escape}
-use Rattle.printed_json.proofs.Plain.{escape_both, escape_decimal, escape_plain}
-use Rattle.printed_json.specs.Leads.{IsSigned, Leads}
+use Rattle.loaded_text.proofs.Plain.{escape_both, escape_decimal, escape_plain}
+use Rattle.loaded_text.specs.Leads.{IsSigned, Leads}
 use Rattle.saved_text.specs.Whole.{is_whole}
 use Rattle.serde_json.specs.Data.{depth}
 use Rattle.world_file_base.specs.Written.{id_of, integer, natural, natural_or_null}

@@ -1,7 +1,7 @@
 -- Shapes that stand in a text are read as these.
 use Rattle.std.proofs.Common.{◌≡◌, ℕ, ◌^◌, ◌<◌, ◌≤◌, ◌+◌, ◌==◌, ◌++◌, ◌∷◌, [], false, true, not, List, codes, ℤ, refl, sym, ap, ◌∙◌, arith, append-nil}
 use Rattle.fixed_geom.specs.declared.vectors.Vec2.{Vec2}
-use Rattle.printed_json.specs.Leads.{IsSigned}
+use Rattle.loaded_text.specs.Leads.{IsSigned}
 use Rattle.saved_text.specs.Tokens.{in_order}
 use Rattle.serde_json.specs.Data.{Data, depth, object}
 use Rattle.serde_json.specs.View.{items_of}

@@ -10,7 +10,7 @@ use Rattle.plain_world.specs.Kinds.{IsCourseOf}
 use Rattle.plain_world.specs.declared.body.Body.{Body}
 use Rattle.plain_world.specs.declared.kind.Kind.{Kind}
 use Rattle.plain_world.specs.declared.kind.Kind.TheVariants.{Static, Kinematic, Dynamic}
-use Rattle.printed_json.specs.Leads.{IsSigned}
+use Rattle.loaded_text.specs.Leads.{IsSigned}
 use Rattle.saved_text.specs.Leaves.{facing_of}
 use Rattle.serde_json.specs.Data.{Data, boolean, depth, string}
 use Rattle.serde_json.specs.Events.{items_len}

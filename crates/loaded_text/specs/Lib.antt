@@ -1,3 +1,4 @@
+pub mod Leads
 pub mod Stands
 pub mod Shapes
 pub mod Bodies

@@ -1,7 +1,7 @@
 -- Shapes at the front of a text.
 use Rattle.std.specs.Prelude.{◌≡◌, ℕ, ◌≤◌, ◌<◌, ◌^◌, ◌++◌, ◌∷◌, List, [], codes, true}
 use Rattle.fixed_geom.specs.Boxes.{IsBoxWithin}
-use Rattle.printed_json.specs.Leads.{IsSigned}
+use Rattle.loaded_text.specs.Leads.{IsSigned}
 use Rattle.serde_json.specs.Data.{Data, depth}
 use Rattle.serde_json.specs.View.{items_of}
 use Rattle.world_file_base.specs.Asks.{no_asks}

@@ -1,7 +1,7 @@
 -- Which parts of a saved world stand printed at the front of a text.
 use Rattle.std.specs.Prelude.{◌≡◌, ℕ, ◌≤◌, ◌++◌, ◌∷◌, Bool, false, true, List, []}
 use Rattle.fixed_geom.specs.declared.vectors.Vec2.{Vec2}
-use Rattle.printed_json.specs.Leads.{IsSigned, Leads}
+use Rattle.loaded_text.specs.Leads.{IsSigned, Leads}
 use Rattle.saved_text.specs.Tokens.{are_whole, have_whole}
 use Rattle.saved_text.specs.Whole.{is_whole}
 use Rattle.serde_json.specs.Data.{Data, depth}

@@ -8,9 +8,9 @@ ghost use Rattle.loaded_text.specs.Bodies.{BodyHolds, made, membership_of};
 
 use crate::body_members::{Front, Last, read_front, read_last};
 use crate::saved_shapes::{LoadedShapes, read_shapes};
+use crate::text::Text;
 use momenta::{MassData, Motion};
 use plain_world::{Body, is_mass_allowed};
-use printed_json::Text;
 use std::alloc::Global;
 use world_file_base::{Membership, Reader, ask_body, sleeping_under};
 

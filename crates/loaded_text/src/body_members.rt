@@ -9,11 +9,11 @@ ghost use Rattle.loaded_text.specs.Stands.{MembersStand};
 
 use crate::leaves::{read_decimal, read_integer, read_island, read_natural, read_truth};
 use crate::names::read_kind;
+use crate::text::Text;
 use crate::vectors::{read_facing, read_vector_within};
 use fixed_geom::{MAX_POSITION, Rot, Vec2};
 use momenta::{MAX_ANGULAR_MOMENTUM, MAX_MOMENTUM, MAX_SPEED};
 use plain_world::{Course, Kind};
-use printed_json::Text;
 
 /// What stands before the shapes.
 #[derive(Clone, Copy)]

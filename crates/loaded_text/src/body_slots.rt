@@ -5,9 +5,9 @@ ghost use Rattle.loaded_text.specs.Bodies.{BodiesHold, BodySlotHolds, are_timed,
 
 use crate::bodies::read_body;
 use crate::leaves::read_generation;
+use crate::text::Text;
 use body_handles::{MAX_SLOTS, SlotEntry, WORN_OUT};
 use plain_world::Body;
-use printed_json::Text;
 use std::alloc::Global;
 use world_file_base::{Membership, NO_MEMBERSHIP, SavedBodies};
 

@@ -7,9 +7,9 @@ ghost use Rattle.loaded_text.specs.Shapes.{IsSurround, surround_members};
 ghost use Rattle.loaded_text.specs.Stands.{Holds, MembersStand};
 
 use crate::leaves::{read_group, read_integer, read_natural};
+use crate::text::Text;
 use crate::vectors::{read_corners, read_ends, read_vector};
 use fixed_geom::Box2;
-use printed_json::Text;
 use shapes::{Filter, Shape, ShapeDef};
 use world_file_base::SavedShape;
 

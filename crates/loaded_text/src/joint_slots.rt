@@ -5,8 +5,8 @@ ghost use Rattle.loaded_text.specs.Joints.{JointSlotHolds, JointsHold};
 
 use crate::joints::read_joint;
 use crate::leaves::read_generation;
+use crate::text::Text;
 use body_handles::{MAX_SLOTS, SlotEntry, WORN_OUT};
-use printed_json::Text;
 use world_file_base::{SavedJoint, SavedJoints};
 
 /// A slot, and what is in it.

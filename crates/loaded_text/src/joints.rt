@@ -8,11 +8,11 @@ ghost use Rattle.loaded_text.specs.Stands.{Holds};
 
 use crate::leaves::{read_colour, read_nonnegative, read_size, read_truth};
 use crate::names::read_handle;
+use crate::text::Text;
 use crate::vectors::read_vector_within;
 use body_handles::Handle;
 use joint_rows::{Joint, MAX_ANCHOR, MAX_JOINT_IMPULSE, MAX_JOINT_LENGTH};
 use plain_world::BodyJoint;
-use printed_json::Text;
 use world_file_base::SavedJoint;
 
 /// A joint of bodies with these ids.

@@ -2,7 +2,7 @@
 
 ghost use Rattle.std.specs.Prelude.{◌≡◌, ◌≤◌, ◌<◌, ◌^◌, ◌-◌, IfSome, true, pos, ◌≤ℤ◌, unsigned_abs};
 ghost use Rattle.serde_json.specs.Data.{boolean};
-ghost use Rattle.printed_json.specs.Leads.{IsSigned};
+ghost use Rattle.loaded_text.specs.Leads.{IsSigned};
 ghost use Rattle.shapes.specs.Shapes.{is_between};
 ghost use Rattle.world_file_base.specs.Reading.{greatest_group, least_group};
 ghost use Rattle.world_file_base.specs.Written.{decimal_of, integer, natural, natural_or_null};
@@ -10,8 +10,8 @@ ghost use Rattle.body_handles.specs.declared.slot_table.TheConstants.{WORN_OUT};
 ghost use Rattle.graph_colours.specs.declared.limits.TheConstants.{COLOURS};
 ghost use Rattle.loaded_text.specs.Stands.{Stands};
 
+use crate::text::Text;
 use graph_colours::OVERFLOW;
-use printed_json::Text;
 
 pub(crate) fn read_truth(text: &mut Text, lead: &[u8]) -> Option<bool>
     ensures { IfSome result (λ holds. Stands lead.now (boolean holds) text.old.rest.now text.new.rest.now) }

@@ -6,6 +6,9 @@
 //!
 //! Each function takes one part from the front of the text. Its contract says that a value stands there, printed, of
 //! which the part is read, and that no clause is broken by it.
+//!
+//! Below them is JSON as `serde_json` prints it with no space (`text`, `numbers`, `wide`, `truths`, `items`): what is
+//! asked for is taken if it stands first. A call that answers nothing promises nothing, and costs no more than a look.
 #![tactic(auto)]
 
 mod bodies;
@@ -13,15 +16,20 @@ mod body_members;
 mod body_slots;
 mod forms;
 mod heads;
+mod items;
 mod joint_slots;
 mod joints;
 mod leaves;
 mod names;
+mod numbers;
 mod points;
 mod saved_contacts;
 mod saved_shapes;
+mod text;
 mod totals;
+mod truths;
 mod vectors;
+mod wide;
 mod world;
 
 pub use world::read_text;

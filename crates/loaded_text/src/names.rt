@@ -8,10 +8,10 @@ ghost use Rattle.world_file_base.specs.Written.{id_of};
 ghost use Rattle.loaded_text.specs.Stands.{Stands};
 
 use crate::leaves::{read_count, read_index};
+use crate::text::Text;
 use body_handles::Handle;
 use contacts_base::ShapeId;
 use plain_world::{Kind, NO_COURSE};
-use printed_json::Text;
 
 /// The id of a body.
 pub(crate) fn read_handle(text: &mut Text, lead: &[u8]) -> Option<Handle>

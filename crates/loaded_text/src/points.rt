@@ -8,12 +8,12 @@ ghost use Rattle.loaded_text.specs.Contacts.{PointsHold};
 ghost use Rattle.loaded_text.specs.Stands.{Holds};
 
 use crate::leaves::{read_natural, read_nonnegative, read_size};
+use crate::text::Text;
 use crate::vectors::read_vector_within;
 use contacts_base::{
     ContactPoint, MAX_NORMAL, MAX_NORMAL_IMPULSE, MAX_OFFSET, MAX_SEPARATION, MAX_TANGENT_IMPULSE,
     PackedContact,
 };
-use printed_json::Text;
 use world_file_base::LAST_CANDIDATE;
 
 /// The points that a contact was read with, and how many they are.

@@ -10,8 +10,8 @@ ghost use Rattle.loaded_text.specs.Stands.{Holds};
 use crate::leaves::{read_colour, read_truth};
 use crate::names::read_shape_id;
 use crate::points::read_points;
+use crate::text::Text;
 use contacts_base::ContactKey;
-use printed_json::Text;
 use world_file_base::SavedContact;
 
 /// How many contacts are read at most.

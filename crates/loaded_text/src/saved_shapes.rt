@@ -4,8 +4,8 @@ ghost use Rattle.std.specs.Prelude.{◌≡◌, ◌∷◌, ◌++◌, [], IfSome};
 ghost use Rattle.loaded_text.specs.Shapes.{ShapesHold, no_shapes};
 
 use crate::forms::read_shape;
+use crate::text::Text;
 use plain_world::FatBoxes;
-use printed_json::Text;
 use shapes::{MAX_SHAPES, Shapes};
 use std::alloc::Global;
 use world_file_base::SavedShape;

@@ -6,8 +6,8 @@ ghost use Rattle.loaded_text.specs.Stands.{Stands};
 ghost use Rattle.loaded_text.specs.Totals.{AreSmall, IsSmall};
 
 use crate::leaves::read_decimal;
+use crate::text::Text;
 use impulse_ledger::{MAX_TOTAL, Total, Totals};
-use printed_json::Text;
 
 fn read_total(text: &mut Text, lead: &[u8]) -> Option<Total>
     ensures text { IfSome result (λ total. Stands lead.now (total_data total) text.old.rest.now text.new.rest.now) }

@@ -9,8 +9,8 @@ ghost use Rattle.saved_text.specs.Leaves.{facing_of};
 ghost use Rattle.loaded_text.specs.Stands.{IsSignedVector, Stands};
 
 use crate::leaves::read_integer;
+use crate::text::Text;
 use fixed_geom::{Box2, Rot, Vec2, is_facing, is_within};
-use printed_json::Text;
 use world_file_base::MAX_CORNER;
 
 /// The ends of a core.
