@@ -1,4 +1,3 @@
 pub mod SceneLaws
 pub mod RowLaws
-pub mod SleepLaws
 pub mod ToldLaws

@@ -141,9 +141,7 @@ fn islands_have_the_labels_that_they_are_given(rt: HostRuntime) -> Result<(), Fa
     Ok(())
 }
 
-fn body(alloc: Global, kind: Kind) -> Body
-    ensures { result.asleep ≡ None }
-{
+fn body(alloc: Global, kind: Kind) -> Body {
     Body {
         kind,
         mass: MassData {

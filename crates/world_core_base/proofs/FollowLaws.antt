@@ -1,12 +1,10 @@
 -- Items that go where they stand now: what the sets have once one has gone, once all of a list have, and once all have.
-use Rattle.std.proofs.Common.{◌≡◌, ◌⊎◌, ℕ, zero, suc, ◌+◌, ◌<◌, ◌≤◌, Bool, true, false, cond, List, [], ◌∷◌, length, map, drop, get_or, replicate, slice_set, Option, Some, None, is_some, inl, inr, refl, sym, ap, ◌∙◌, subst, add-one, arith}
+use Rattle.std.proofs.Common.{◌≡◌, ◌⊎◌, ℕ, zero, suc, ◌+◌, ◌<◌, ◌≤◌, Bool, true, false, cond, List, [], ◌∷◌, length, map, get_or, replicate, slice_set, Option, Some, None, is_some, inl, inr, refl, sym, ap, ◌∙◌, subst, arith}
 use Rattle.std.specs.Prelude.{◌≢◌, ◌/◌, ◌-◌, Contains}
 use Rattle.std.proofs.lemmas.Bool.{cases_eq, cases_lt}
 use Rattle.std.proofs.lemmas.Bool.Decides.{nat_tests}
-use Rattle.std.proofs.lemmas.List.{drop_all, get_or-map, get_or-set_other, get_or_default, get_or-set_same, length-map, length-set}
-use Rattle.std.proofs.Math.Seq.{drop-cons}
+use Rattle.std.proofs.lemmas.List.{get_or-map, get_or-set_other, get_or_default, get_or-set_same, length-map, length-set}
 use Rattle.graph_colours.proofs.PlaceLemmas.{is_same, not_same}
-use Rattle.islands.proofs.JoinLemmas.{contains_cases}
 use Rattle.packed_sets.specs.declared.stands.Stand.{Stand}
 use Rattle.packed_sets.specs.declared.stands.Stand.TheVariants.{Static, Disabled, Awake, Carried, Sleeping}
 use Rattle.packed_sets.specs.Stands.{is_listed, stand_at, with_items, woken}
@@ -155,49 +153,10 @@ followed_as now D E old new narrower f = record { each = f.each; done = λ id e.
 
 -- ---- a list of items, of which those from a place on are left
 
-abbrev pub HaveLeft : (ℕ → Option Stand) → List ℕ → ℕ → List (Option Stand) → List (Option Stand) → Type 0
-HaveLeft now ids place old new = HaveFollowed now (λ id. Contains (drop place ids) id → ⊥) old new
-
-pub left_first : (now : ℕ → Option Stand) (ids : List ℕ) (old : List (Option Stand)) → ((id : ℕ) → (Contains ids id → ⊥) → now id ≡ stand_at old id) → HaveLeft now ids 0 old old
-left_first now ids old others = record { each = λ id. inl refl; done = λ id off. sym (others id off); long = refl }
-
-pub left_more : (now : ℕ → Option Stand) (ids : List ℕ) (place id d names : ℕ) (old mid new : List (Option Stand)) → place < length ids → id ≡ get_or ids place d → CanFollow (stand_at old) now names → HaveLeft now ids place old mid
-    → new ≡ followed (now id) id mid → HaveLeft now ids (place + 1) old new
-left_more now ids place id d names old mid new lt at can f is =
-    let split : drop place ids ≡ id ∷ drop (suc place) ids = drop-cons ids place d lt ∙ ap (λ (s : ℕ). s ∷ drop (suc place) ids) (sym at) in
-    let one : HaveFollowed now (IsOne id) mid new = one_followed now id names mid new (can_then now (λ k. Contains (drop place ids) k → ⊥) old mid names can f) is in
-    rw add-one (followed_then now (λ k. Contains (drop place ids) k → ⊥) (IsOne id) (λ k. Contains (drop (suc place) ids) k → ⊥) old mid new
-    (λ k off. elim (cases_eq k id) [
-      | inl same ↦ inr same
-      | inr apart ↦ inl (λ h. elim (contains_cases id (drop (suc place) ids) k (subst (λ (l : List ℕ). Contains l k) split h)) [ inl e ↦ apart (sym e) | inr c ↦ off c ])
-    ]) f one)
-
 pub none_contained : (s : ℕ) → Contains [] s → ⊥
 none_contained s h = omega (arith, h.1)
 
-pub left_all : (now : ℕ → Option Stand) (ids : List ℕ) (place : ℕ) (old new : List (Option Stand)) → length ids ≤ place → HaveLeft now ids place old new → (id : ℕ) → stand_at new id ≡ now id
-left_all now ids place old new le f id = f.done id (λ h. none_contained id (subst (λ (l : List ℕ). Contains l id) (drop_all place ids le) h))
-
 -- ---- all items below a number
-
-pub below_more : (now : ℕ → Option Stand) (id names : ℕ) (old mid new : List (Option Stand)) → CanFollow (stand_at old) now names → HaveFollowed now (λ k. k < id) old mid → new ≡ followed (now id) id mid → HaveFollowed now (λ k. k < id + 1) old new
-below_more now id names old mid new can f is =
-    let one : HaveFollowed now (IsOne id) mid new = one_followed now id names mid new (can_then now (λ k. k < id) old mid names can f) is in
-    followed_then now (λ k. k < id) (IsOne id) (λ k. k < id + 1) old mid new (λ k h. elim (cases_lt k id) [ inl lt ↦ inl lt | inr le ↦ inr (omega (arith, le, h)) ]) f one
-
-pub below_first : (now : ℕ → Option Stand) (old : List (Option Stand)) → HaveFollowed now (λ k. k < 0) old old
-below_first now old = record { each = λ id. inl refl; done = λ id h. absurd (omega (arith, h)); long = refl }
-
-pub below_all : (now : ℕ → Option Stand) (n names : ℕ) (old new : List (Option Stand)) → CanFollow (stand_at old) now names → ((id : ℕ) → n ≤ id → now id ≡ None) → HaveFollowed now (λ k. k < n) old new → (id : ℕ) → stand_at new id ≡ now id
-below_all now n names old new can past f id = elim (cases_lt id n) [
-  | inl lt ↦ f.done id lt
-  | inr le ↦
-      let none : now id ≡ None = past id le in
-      elim (f.each id) [
-        | inl same ↦ same ∙ nowhere (stand_at old id) (sym (can.there id) ∙ ap is_some none) ∙ sym none
-        | inr done ↦ done
-      ]
-]
 
 -- ---- joints by the ids of ends, of which those before a place are done
 

@@ -2,7 +2,6 @@
 use Rattle.std.proofs.Common.{◌≡◌, ◌≢◌, ◌⊎◌, ℕ, zero, suc, ◌+◌, ◌<◌, ◌≤◌, Bool, true, false, cond, List, [], ◌∷◌, ◌++◌, length, map, nat_lt, replicate, slice_set, ltb-true, ltb-false, Option, Some, None, is_some, inl, inr, refl, sym, ap, ◌∙◌, subst, arith}
 use Rattle.std.specs.Prelude.{◌-◌, Contains, option_map}
 use Rattle.std.proofs.lemmas.Bool.{cases_eq, cases_lt}
-use Rattle.std.specs.Option.{ForSome}
 use Rattle.std.proofs.lemmas.List.{length-append, length-replicate}
 use Rattle.momenta.specs.declared.state.BodyState.{BodyState}
 use Rattle.graph_colours.proofs.Cases.{by_test}
@@ -10,26 +9,24 @@ use Rattle.islands.specs.Labels.{Labels, label_at, sleeping_name}
 use Rattle.islands.specs.declared.label.Label.{Label}
 use Rattle.packed_sets.specs.declared.stands.Stand.{Stand}
 use Rattle.packed_sets.specs.declared.stands.Stand.TheVariants as standing
-use Rattle.packed_sets.specs.Stands.{is_listed, is_named, stand_at, with_items}
+use Rattle.packed_sets.specs.Stands.{is_listed, stand_at, with_items}
 use Rattle.plain_world.specs.declared.body.Body.{Body}
 use Rattle.plain_world.specs.declared.body.SetName.{SetName}
 use Rattle.plain_world.specs.declared.body.SetName.TheVariants as sets
 use Rattle.plain_world.specs.declared.kind.Kind.{Kind}
 use Rattle.plain_world.specs.declared.kind.Kind.TheVariants.{Static, Kinematic, Dynamic}
 use Rattle.plain_world.specs.Bodies.{can_move, is_awake, is_carried, is_mover, pose_of, set_of, standing_of}
-use Rattle.plain_world.specs.Changes.{changed_at, disabled_body, enabled_body}
 use Rattle.plain_world.specs.Fats.{renewed_boxes}
 use Rattle.plain_world.specs.InSlots.{is_carried_in}
 use Rattle.plain_world.specs.Kinds.{is_dynamic, is_kinematic}
 use Rattle.plain_world.specs.Sleep.{is_slow, roused, timed, timed_bodies, told, told_body, told_by, told_from}
-use Rattle.plain_world.specs.Slots.{body_at, item_at, with_body, with_item}
-use Rattle.world_core_base.specs.Following.{AreSameStands, CanFollow, IsNamedNow, placed}
+use Rattle.plain_world.specs.Slots.{body_at, item_at, with_item}
+use Rattle.world_core_base.specs.Following.{AreSameStands, CanFollow}
 use Rattle.world_core_base.specs.Carried.{carried_to}
 use Rattle.world_core_base.specs.Gather.{with_motion, with_motions}
 use Rattle.world_core_base.specs.Renewal.{renewed_bodies, with_renewed}
-use Rattle.world_core_base.specs.Stands.{AreStands, StandAlike, body_stand, mover_stand, stand_by, stand_in, stand_of}
+use Rattle.world_core_base.specs.Stands.{StandAlike, body_stand, mover_stand, stand_by, stand_in, stand_of}
 use Rattle.world_core_base.specs.Telling.{AreToldBeside, KeepSets, asleep_in}
-use Rattle.world_core_base.proofs.FollowLaws.{stand_beside, stand_put}
 use Rattle.world_core_base.proofs.JointEndLaws.{item_at-before, item_at-end, item_at-other, item_at-same}
 
 -- ---- items by slot
@@ -63,12 +60,6 @@ same_more items stands k = more_at stands (items - length stands) k
 pub long_more : (items : ℕ) (stands : List (Option Stand)) → items ≤ length (with_items items stands)
 long_more items stands = let sum = length-append stands (replicate (items - length stands) None) in let none : Option Stand = None in let more = length-replicate (items - length stands) none in omega (arith, sum, more)
 
-pub longer_more : (items : ℕ) (stands : List (Option Stand)) → length stands ≤ length (with_items items stands)
-longer_more items stands = let sum = length-append stands (replicate (items - length stands) None) in omega (arith, sum)
-
-pub stands_same : (bodies : List (Option Body)) (old new : List (Option Stand)) → AreSameStands old new → AreStands bodies old → AreStands bodies new
-stands_same bodies old new same are slot = same slot ∙ are slot
-
 -- no body is past the last slot
 pub stand_past : (bodies : List (Option Body)) (slot : ℕ) → length bodies ≤ slot → body_stand bodies slot ≡ None
 stand_past [] slot le = refl
@@ -77,76 +68,12 @@ stand_past (o ∷ os) (suc slot) le = stand_past os slot (omega (arith, le))
 
 -- ---- bodies that come, go and change
 
-pub stands_alike : (old new : List (Option Body)) (stands : List (Option Stand)) → StandAlike old new → AreStands old stands → AreStands new stands
-stands_alike old new stands alike are slot = are slot ∙ sym (alike slot)
-
-pub stands_eq : (bodies now : List (Option Body)) (stands later : List (Option Stand)) → now ≡ bodies → later ≡ stands → AreStands bodies stands → AreStands now later
-stands_eq bodies now stands later e f are = subst (λ (bs : List (Option Body)). AreStands bs later) (sym e) (subst (AreStands bodies) (sym f) are)
-
-pub stands_put : (bodies : List (Option Body)) (stands : List (Option Stand)) (slot : ℕ) (b : Body) → slot ≤ length bodies → slot < length stands → AreStands bodies stands → AreStands (with_body bodies slot b) (slice_set stands slot (Some (stand_of b)))
-stands_put bodies stands slot b le lt are k = elim (cases_eq k slot) [
-  | inl same ↦ subst (λ (j : ℕ). stand_at (slice_set stands slot (Some (stand_of b))) j ≡ body_stand (with_body bodies slot b) j) (sym same) (stand_put stands slot (Some (stand_of b)) lt ∙ ap stand_in (sym (with_item_here bodies slot b le)))
-  | inr apart ↦ stand_beside stands slot k (Some (stand_of b)) apart ∙ are k ∙ ap stand_in (sym (with_item_other bodies slot b k le apart))
-]
-
--- another entry in a slot
-pub stands_set : (bodies : List (Option Body)) (stands : List (Option Stand)) (slot : ℕ) (o : Option Body) → slot < length bodies → slot < length stands → AreStands bodies stands → AreStands (slice_set bodies slot o) (slice_set stands slot (stand_in o))
-stands_set bodies stands slot o there lt are k = elim (cases_eq k slot) [
-  | inl same ↦ subst (λ (j : ℕ). stand_at (slice_set stands slot (stand_in o)) j ≡ body_stand (slice_set bodies slot o) j) (sym same) (stand_put stands slot (stand_in o) lt ∙ ap stand_in (sym (item_at-same bodies slot o there)))
-  | inr apart ↦ stand_beside stands slot k (stand_in o) apart ∙ are k ∙ ap stand_in (sym (item_at-other bodies slot o k apart))
-]
-
 -- an entry that stands where that before stood
 pub alike_set : (bodies : List (Option Body)) (slot : ℕ) (o : Option Body) → slot < length bodies → stand_in o ≡ body_stand bodies slot → StandAlike bodies (slice_set bodies slot o)
 alike_set bodies slot o there same k = elim (cases_eq k slot) [
   | inl e ↦ subst (λ (j : ℕ). body_stand (slice_set bodies slot o) j ≡ body_stand bodies j) (sym e) (ap stand_in (item_at-same bodies slot o there) ∙ same)
   | inr apart ↦ ap stand_in (item_at-other bodies slot o k apart)
 ]
-
-nowhere : (p : Option Stand) → is_some p ≡ false → p ≡ None
-nowhere None e = refl
-nowhere (Some s) e = cc
-
-set_past : (ss : List (Option Stand)) (n : ℕ) → length ss ≤ n → stand_at (slice_set ss n None) n ≡ stand_at ss n
-set_past [] n le = refl
-set_past (s ∷ ss) zero le = absurd (omega (arith, le))
-set_past (s ∷ ss) (suc n) le = set_past ss n (omega (arith, le))
-
--- an item that stands nowhere, set to nowhere
-set_none : (stands : List (Option Stand)) (slot k : ℕ) → stand_at stands slot ≡ None → stand_at (slice_set stands slot None) k ≡ stand_at stands k
-set_none stands slot k none = elim (cases_eq k slot) [
-  | inl e ↦ subst (λ (j : ℕ). stand_at (slice_set stands slot None) j ≡ stand_at stands j) (sym e) (elim (cases_lt slot (length stands)) [
-    | inl lt ↦ stand_put stands slot None lt ∙ sym none
-    | inr past ↦ set_past stands slot past
-  ])
-  | inr apart ↦ stand_beside stands slot k None apart
-]
-
--- what is put where a body is, if one is, is what is set there
-placed_set : (o : Option Body) (slot : ℕ) (stands : List (Option Stand)) → is_some (stand_at stands slot) ≡ is_some o → AreSameStands (slice_set stands slot (stand_in o)) (placed (stand_in o) slot stands)
-placed_set (Some b) slot stands same k = refl
-placed_set None slot stands same k = sym (set_none stands slot k (nowhere (stand_at stands slot) same))
-
-there_stand : (o : Option Body) → is_some (stand_in o) ≡ is_some o
-there_stand None = refl
-there_stand (Some b) = refl
-
-there_map : (f : Body → Body) (o : Option Body) → is_some (option_map f o) ≡ is_some o
-there_map f None = refl
-there_map f (Some b) = refl
-
--- the body in a slot changed, and moved to where it stands then
-pub changed_stand : (f : Body → Body) (bodies : List (Option Body)) (slot : ℕ) → slot < length bodies → body_stand (changed_at f bodies slot) slot ≡ stand_in (option_map f (body_at bodies slot))
-changed_stand f bodies slot there = ap stand_in (item_at-same bodies slot (option_map f (body_at bodies slot)) there)
-
-pub stands_changed : (f : Body → Body) (bodies : List (Option Body)) (stands : List (Option Stand)) (slot : ℕ) (shown : Option Stand) → slot < length bodies → slot < length stands → shown ≡ body_stand (changed_at f bodies slot) slot → AreStands bodies stands
-    → AreStands (changed_at f bodies slot) (placed shown slot stands)
-stands_changed f bodies stands slot shown there lt e are =
-    let o : Option Body = option_map f (body_at bodies slot) in
-    let now : shown ≡ stand_in o = e ∙ changed_stand f bodies slot there in
-    let taken : is_some (stand_at stands slot) ≡ is_some o = ap is_some (are slot) ∙ there_stand (body_at bodies slot) ∙ sym (there_map f (body_at bodies slot)) in
-    subst (λ (s : Option Stand). AreStands (changed_at f bodies slot) (placed s slot stands)) (sym now)
-    (stands_same (changed_at f bodies slot) (slice_set stands slot (stand_in o)) (placed (stand_in o) slot stands) (placed_set o slot stands taken) (stands_set bodies stands slot o there lt are))
 
 -- ---- one body
 
@@ -254,40 +181,6 @@ renewed_like b = by (can_move b)
 
 pub alike_moved : (bodies : List (Option Body)) (states : List BodyState) → StandAlike bodies (renewed_bodies (with_motions bodies states))
 alike_moved bodies states = alike_then bodies (with_motions bodies states) (renewed_bodies (with_motions bodies states)) (all_moved bodies states) (all_mapped with_renewed renewed_like (with_motions bodies states))
-
--- ---- bodies that are disabled, and enabled
-
--- nobody that was just enabled sleeps
-pub enabled_named : (names : ℕ) (o : Option Body) → IsNamedNow names (stand_in (option_map enabled_body o))
-enabled_named names None s e = cc
-enabled_named names (Some b) s e = by b.kind (let own : Some (stand_by b.kind None) ≡ Some s = e in cc)
-  where
-    by : (k : Kind) → stand_by k None ≡ s → is_named names s ≡ true
-    by Static f = subst (λ (x : Stand). is_named names x ≡ true) f refl
-    by (Kinematic course) f = subst (λ (x : Stand). is_named names x ≡ true) f refl
-    by Dynamic f = subst (λ (x : Stand). is_named names x ≡ true) f refl
-
-pub disabled_named : (names : ℕ) (o : Option Body) → IsNamedNow names (stand_in (option_map disabled_body o))
-disabled_named names None s e = cc
-disabled_named names (Some b) s e = let own : Some standing.Disabled ≡ Some s = e in let same : standing.Disabled ≡ s = cc in subst (λ (x : Stand). is_named names x ≡ true) same refl
-
--- and so of one that comes awake
-pub awake_named : (names : ℕ) (b : Body) → b.asleep ≡ None → is_named names (stand_of b) ≡ true
-awake_named names b up = ap (λ (n : Option ℕ). is_named names (cond b.enabled (stand_by b.kind n) standing.Disabled)) up ∙ by b.enabled b.kind
-  where
-    by : (e : Bool) (k : Kind) → is_named names (cond e (stand_by k None) standing.Disabled) ≡ true
-    by false k = refl
-    by true Static = refl
-    by true (Kinematic course) = refl
-    by true Dynamic = refl
-
--- a disabled body stands in a list
-pub disabled_listed : (o : Option Body) (s : Option Stand) → ForSome o (λ b. b.enabled ≡ false) → is_some s ≡ is_some o → is_some s ≡ true → is_listed (stand_in o) ≡ true
-disabled_listed None s off same there = let both : true ≡ false = sym there ∙ same in cc
-disabled_listed (Some b) s off same there = ap (λ (e : Bool). is_listed (Some (cond e (stand_by b.kind b.asleep) standing.Disabled))) (off b refl)
-
-pub there_changed : (f : Body → Body) (bodies : List (Option Body)) (slot : ℕ) → slot < length bodies → is_some (body_stand (changed_at f bodies slot) slot) ≡ is_some (body_at bodies slot)
-there_changed f bodies slot there = ap is_some (changed_stand f bodies slot there) ∙ there_stand (option_map f (body_at bodies slot)) ∙ there_map f (body_at bodies slot)
 
 -- ---- bodies that are told
 

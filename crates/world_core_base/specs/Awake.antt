@@ -8,8 +8,6 @@ use Rattle.plain_world.specs.declared.body.Body.{Body}
 use Rattle.world_core_base.specs.Covers.{AreCovered}
 use Rattle.world_core_base.specs.Gather.{states_of}
 use Rattle.world_core_base.specs.Listing.{AreListed, Listing}
-use Rattle.packed_sets.specs.Stands.{Standings}
-use Rattle.world_core_base.specs.Stands.{AreStands}
 
 -- a state put into a slot, or into a new one at the end
 abbrev pub with_state : List BodyState → ℕ → BodyState → List BodyState
@@ -28,9 +26,8 @@ pub record Bodies : Type 0 where
 -- What a table keeps beside its bodies: their states, the slots of the awake movers and of the bodies that are carried
 -- along, and room in each of its lists. No slot is beyond 32 bits. The two lists of slots have room for all bodies, so
 -- that those that wake and those that are enabled take no memory; and there is a mark or none for each body and for
--- each that is to come; the box of each slot with a body holds the body's fat boxes. The sets have each body where it
--- stands, with room for all bodies and for the names of their slots.
-pub record IsBodyTable (bodies : List (Option Body)) (ss : List BodyState) (awake carried : Listing) (sets : Standings) (marks : List Bool) (boxes : List (Option Box2)) (room bodies_left states_left : ℕ) : Type 0 where
+-- each that is to come; the box of each slot with a body holds the body's fat boxes.
+pub record IsBodyTable (bodies : List (Option Body)) (ss : List BodyState) (awake carried : Listing) (marks : List Bool) (boxes : List (Option Box2)) (room bodies_left states_left : ℕ) : Type 0 where
   pub states : ss ≡ states_of bodies
   pub movers : AreListed moves ss awake
   pub along : AreListed is_carried ss carried
@@ -42,6 +39,3 @@ pub record IsBodyTable (bodies : List (Option Body)) (ss : List BodyState) (awak
   pub for_marks : length bodies + room ≤ length marks
   pub covered : AreCovered bodies boxes
   pub for_boxes : length bodies ≤ length boxes
-  pub stands : AreStands bodies sets.stands
-  pub for_items : length bodies + room ≤ length sets.stands
-  pub for_names : length bodies + room ≤ sets.names

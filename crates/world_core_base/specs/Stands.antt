@@ -45,10 +45,6 @@ set_of (standing.Sleeping name) = sets.Sleeping name
 abbrev pub body_stand : List (Option Body) → ℕ → Option Stand
 body_stand bodies slot = stand_in (body_at bodies slot)
 
--- the sets have each body where it stands, and nothing else
-abbrev pub AreStands : List (Option Body) → List (Option Stand) → Type 0
-AreStands bodies stands = (slot : ℕ) → stand_at stands slot ≡ body_stand bodies slot
-
 -- whoever sleeps does so under the name of a body's slot
 abbrev pub AreNamedAsleep : List (Option Body) → Type 0
 AreNamedAsleep bodies = (slot name : ℕ) → body_stand bodies slot ≡ Some (standing.Sleeping name) → name < length bodies

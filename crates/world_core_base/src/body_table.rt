@@ -1,5 +1,4 @@
-//! The bodies of a world by slot, with where each stands, and what a step goes over: their states, and the movers'
-//! slots.
+//! The bodies of a world by slot, and what a step goes over: their states, and the movers' slots.
 
 mod from_bodies;
 
@@ -18,14 +17,13 @@ ghost use Rattle.world_core_base.specs.Listing.{IsRelisted};
 ghost use Rattle.plain_world.specs.Bodies.{AreBodies};
 ghost use Rattle.plain_world.specs.Momentum.{momentum};
 ghost use Rattle.world_core_base.specs.Gather.{state_of, states_of, with_motions};
-ghost use Rattle.packed_sets.specs.Stands.{is_listed};
 ghost use Rattle.world_core_base.specs.Covers.{AreCovered, IsCover};
 ghost use Rattle.world_core_base.specs.Marked.{AreMarked, AreMoreMarks};
 ghost use Rattle.world_core_base.specs.Renewal.{renewed_bodies};
 ghost use Rattle.world_core_base.specs.Standing.{HaveSameStanding};
 ghost use Rattle.world_core_base.specs.Stands.{StandAlike, body_stand};
 ghost use Rattle.world_core_base.specs.StepRuns.{CanStep, HaveImpulses, run_over};
-ghost use Rattle.world_core_base.specs.Telling.{AreToldBeside, KeepSets};
+ghost use Rattle.world_core_base.specs.Telling.{AreToldBeside};
 ghost use Rattle.momenta.specs.Gains.{IsGain};
 ghost use Rattle.plain_world.specs.Changes.{changed_at, disabled_body, enabled_body, is_awake_in};
 ghost use Rattle.plain_world.specs.InSlots.{is_carried_in, HaveSameSlots, AreTimersWithin};
@@ -37,7 +35,7 @@ use crate::gather::body_state;
 use crate::gathered_rows::GatheredRows;
 use crate::moving::move_bodies;
 use crate::slot_list::{Group, SlotList};
-use crate::stands::{body_stand, follow_all, follow_bodies, reserve_stands, shift_to, stand_of};
+use crate::stands::body_stand;
 use crate::step_solver::{Constraints, MovingSlots, Pace, StepSolver};
 use crate::telling_bodies::{tell_bodies, tell_listed};
 use crate::timing::time_bodies;
@@ -49,7 +47,7 @@ use fixed_geom::Refusal;
 use graph_colours::{COLOURS, Colours};
 use islands::Islands;
 use momenta::{BodyState, Gain, NOBODY};
-use packed_sets::{Marks, SolverSets, Stand};
+use packed_sets::{Marks, Stand};
 use plain_world::{
     Body, BodyChange, change_slot, clear_slot, copy_bodies, disable_slot, enable_slot, put_item,
 };
@@ -67,8 +65,6 @@ pub struct BodyTable {
     awake: SlotList,
     // The slots of the bodies that are carried along.
     carried: SlotList,
-    // Each body where it stands, by slot.
-    stands: SolverSets,
     // A mark or none for each body, and for those for which there is room.
     marks: Marks,
     // For each slot with a body a box that holds its fat boxes, in a tree.
@@ -85,7 +81,7 @@ impl Model for BodyTable {
 
     ghost view = { λ a. record { bodies = a.bodies.items; room = a.room; marks = a.marks; boxes = a.boxes; pending = a.awake.pending + a.carried.pending } };
 
-    ghost invariant = { λ a. IsBodyTable a.bodies.items a.states.items a.awake a.carried a.stands a.marks a.boxes a.room (vec_capacity a.bodies - vec_len a.bodies) (vec_capacity a.states - vec_len a.states) };
+    ghost invariant = { λ a. IsBodyTable a.bodies.items a.states.items a.awake a.carried a.marks a.boxes a.room (vec_capacity a.bodies - vec_len a.bodies) (vec_capacity a.states - vec_len a.states) };
 }
 
 /// Puts a state into a slot, or into a new one at the end, for which there is room.
@@ -157,7 +153,6 @@ impl BodyTable {
             states: Vec::new(alloc),
             awake: SlotList::new(alloc),
             carried: SlotList::new(alloc),
-            stands: SolverSets::new(alloc),
             marks: Marks::new(alloc),
             boxes: BoxTree::new(alloc),
             room: 0,
@@ -203,7 +198,7 @@ impl BodyTable {
     pub fn stand(&self, slot: u32) -> Option<Stand>
         ensures { result ≡ body_stand self.now.bodies slot }
     {
-        self.stands.stand_of(slot)
+        body_stand(&self.bodies, slot)
     }
 
     /// For each slot whether it is marked. One that has no mark here counts as marked, and has no body.
@@ -268,12 +263,6 @@ impl BodyTable {
     {
         self.room = 0;
         self.bodies.reserve(1)?;
-        // As many bodies can be put in as the list of bodies has room for, so that most calls make none.
-        reserve_stands(
-            &mut self.stands,
-            self.bodies.capacity(),
-            self.bodies.len() + 1,
-        )?;
         self.states.reserve(1)?;
         self.awake.reserve(self.bodies.len() + 1)?;
         self.carried.reserve(self.bodies.len() + 1)?;
@@ -283,36 +272,32 @@ impl BodyTable {
         Ok(())
     }
 
-    /// Puts a body that doesn't sleep into an empty slot, or into a new one at the end, for which there is room.
+    /// Puts a body into an empty slot, or into a new one at the end, for which there is room.
     pub fn put(&mut self, slot: u32, body: Body)
         requires room { 1 ≤ self.old.room }
         requires next { slot ≤ length self.old.bodies }
         requires free { body_at self.old.bodies slot ≡ None }
         requires covered { IsCover (box_at self.old.boxes slot) body.fats }
-        requires up { body.asleep ≡ None }
         ensures bodies { self.new.bodies ≡ with_body self.old.bodies slot body }
         ensures marked { AreMarked self.old self.new }
     {
         let state = body_state(&body);
         self.room = 0;
         self.marks.mark(slot);
-        self.stands.insert(stand_of(&body), slot);
         put_state(&mut self.states, slot as usize, state);
         put_item(&mut self.bodies, slot as usize, body);
         relist(&mut self.awake, &mut self.carried, &self.states, slot);
     }
 
-    /// Takes a body that doesn't sleep out of its slot.
+    /// Empties a slot.
     pub fn clear(&mut self, slot: u32)
         requires slot { slot < length self.old.bodies }
-        requires listed { is_listed (body_stand self.old.bodies slot) ≡ true }
         ensures bodies { self.new.bodies ≡ slice_set self.old.bodies slot None }
         ensures marked { AreMarked self.old self.new }
     {
         self.room = 0;
         self.marks.mark(slot);
         uncover(&mut self.boxes, slot);
-        self.stands.remove(slot);
         self.states[slot as usize] = NOBODY;
         clear_slot(&mut self.bodies, slot as usize);
         relist(&mut self.awake, &mut self.carried, &self.states, slot);
@@ -334,10 +319,9 @@ impl BodyTable {
         cover_again(&mut self.boxes, slot, &self.bodies[slot as usize], made);
     }
 
-    /// Disables the body in a slot, which doesn't sleep: it comes to a halt.
+    /// Disables the body in a slot, if one is there: it comes to a halt.
     pub fn disable(&mut self, slot: u32)
         requires slot { slot < length self.old.bodies }
-        requires listed { is_listed (body_stand self.old.bodies slot) ≡ true }
         ensures bodies { self.new.bodies ≡ changed_at disabled_body self.old.bodies slot }
         ensures marked { AreMarked self.old self.new }
     {
@@ -346,7 +330,6 @@ impl BodyTable {
         disable_slot(&mut self.bodies, slot as usize);
         renew_state(&mut self.states, &self.bodies, slot as usize);
         relist(&mut self.awake, &mut self.carried, &self.states, slot);
-        shift_to(&mut self.stands, slot, body_stand(&self.bodies, slot));
     }
 
     /// Enables the body in a slot, if one is there, which is disabled: a mover is awake, and its timer 0. Takes no
@@ -362,7 +345,6 @@ impl BodyTable {
         enable_slot(&mut self.bodies, slot as usize);
         renew_state(&mut self.states, &self.bodies, slot as usize);
         relist(&mut self.awake, &mut self.carried, &self.states, slot);
-        shift_to(&mut self.stands, slot, body_stand(&self.bodies, slot));
     }
 
     /// Tells the bodies the labels of their islands: movers of a sleeping one are put to rest, and those of any other
@@ -371,7 +353,6 @@ impl BodyTable {
     pub fn tell(&mut self, islands: &Islands) -> Gain
         requires few { length self.old.bodies ≤ MAX_SLOTS }
         requires bodies { AreBodies self.old.bodies }
-        requires sets { KeepSets islands.now.labels self.old.bodies }
         ensures bodies { self.new.bodies ≡ told islands.now.labels self.old.bodies }
         ensures all_bodies { AreBodies self.new.bodies }
         ensures slots { HaveSameSlots self.old.bodies self.new.bodies }
@@ -383,7 +364,6 @@ impl BodyTable {
         self.room = 0;
         let gain = tell_bodies(&mut self.bodies, &mut self.states, islands);
         self.awake.list_anew(Group::Awake, &self.states);
-        follow_all(&mut self.stands, &self.bodies);
         gain
     }
 
@@ -395,7 +375,6 @@ impl BodyTable {
         requires few { length self.old.bodies ≤ MAX_SLOTS }
         requires bodies { AreBodies self.old.bodies }
         requires others { AreToldBeside slots.now islands.now.labels self.old.bodies }
-        requires sets { KeepSets islands.now.labels self.old.bodies }
         ensures bodies { self.new.bodies ≡ told islands.now.labels self.old.bodies }
         ensures all_bodies { AreBodies self.new.bodies }
         ensures slots { HaveSameSlots self.old.bodies self.new.bodies }
@@ -416,7 +395,6 @@ impl BodyTable {
         requires fewer { length slots.now ≤ length self.old.bodies }
         requires bodies { AreBodies self.old.bodies }
         requires others { AreToldBeside slots.now islands.now.labels self.old.bodies }
-        requires sets { KeepSets islands.now.labels self.old.bodies }
         ensures bodies { self.new.bodies ≡ told islands.now.labels self.old.bodies }
         ensures all_bodies { AreBodies self.new.bodies }
         ensures slots { HaveSameSlots self.old.bodies self.new.bodies }
@@ -433,7 +411,6 @@ impl BodyTable {
             slots,
             islands,
         );
-        follow_bodies(&mut self.stands, &self.bodies, slots);
         gain
     }
 
@@ -531,7 +508,6 @@ impl BodyTable {
             states,
             awake,
             carried,
-            stands: self.stands.try_copy()?,
             marks: self.marks.try_copy()?,
             boxes: self.boxes.try_copy()?,
             room: 0,

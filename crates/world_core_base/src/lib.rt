@@ -3,9 +3,8 @@
 //! The bodies of a world by slot with what a step goes over (`BodyTable`: their states, and the slots of the awake
 //! movers and of the bodies that are carried along), and what a step gathers of joints and contacts (`gather_rows`).
 //!
-//! A [`BodyTable`] also has sets in which each body is where it stands (`stands.rt`). So where a body stands is told at
-//! once, and islands wake and fall asleep as sets. The sets of the joints and of the contacts are kept beside the
-//! tables (`joint_sets.rt`, `contact_sets.rt`), since where these stand is told by their bodies.
+//! Where a body stands is told by the body itself (`stands.rt`). The sets of the joints and of the contacts are kept
+//! beside the tables (`joint_sets.rt`, `contact_sets.rt`), since where these stand is told by their bodies.
 //!
 //! The joints of a world by slot stand in [`JointTable`], with what a world asks of them at hand: beside them the ends
 //! of joints by body, so that what asks for the joints of one body costs by those alone. Whether joints keep two bodies

@@ -1,15 +1,12 @@
 //! Where bodies and joints stand, and items that come, go, and go where they stand now.
 
-ghost use Rattle.std.specs.Prelude.{◌≡◌, ◌≢◌, ◌<◌, ◌≤◌, ◌^◌, ℕ, Contains, List, None, OnOk, Option as TheOption, is_some, length, true};
-ghost use Rattle.std.specs.Result.{IsOkUnless};
+ghost use Rattle.std.specs.Prelude.{◌≡◌, ◌≢◌, ◌<◌, ℕ, Contains, None, is_some, length, true};
 ghost use Rattle.packed_sets.specs.Stands.{is_listed, stand_at};
-ghost use Rattle.plain_world.specs.declared.body.Body.{Body as TheBody};
 ghost use Rattle.plain_world.specs.Joints.{joint_at};
 ghost use Rattle.world_core_base.specs.JointEnds.{AreEnds, halves};
-ghost use Rattle.world_core_base.specs.Following.{AreSameStands, CanFollow, HaveFollowed, IsNamedNow, followed, placed, stand_or, woken_if};
-ghost use Rattle.world_core_base.specs.Stands.{AreStands, IsOfNone, body_stand, joint_stand, mover_stand, of_mover, set_of, stand_between, stand_of, stand_of_joint, stand_with, takes_part};
+ghost use Rattle.world_core_base.specs.Following.{CanFollow, HaveFollowed, IsNamedNow, followed, placed, stand_or, woken_if};
+ghost use Rattle.world_core_base.specs.Stands.{IsOfNone, body_stand, joint_stand, mover_stand, of_mover, set_of, stand_between, stand_of, stand_of_joint, stand_with, takes_part};
 
-use fixed_geom::Refusal;
 use packed_sets::{PackedSets, SolverSets, Stand};
 use plain_world::{Body, BodyJoint, Kind, SetName, item_at};
 
@@ -135,26 +132,6 @@ pub(crate) fn joint_stand(
     }
 }
 
-// ---- room
-
-/// Makes room in the sets for so many items, and for so many names.
-pub(crate) fn reserve_stands(
-    sets: &mut SolverSets,
-    items: usize,
-    names: usize,
-) -> Result<(), Refusal>
-    ensures items { OnOk result (items ≤ length sets.new.stands) }
-    ensures names { OnOk result (names ≤ sets.new.names) }
-    ensures same { AreSameStands sets.old.stands sets.new.stands }
-    ensures bodies { (bodies : List (TheOption TheBody)) → AreStands bodies sets.old.stands → AreStands bodies sets.new.stands }
-    ensures more_items { length sets.old.stands ≤ length sets.new.stands }
-    ensures more_names { sets.old.names ≤ sets.new.names }
-    ensures memory_only { IsOkUnless result Refusal.NoMemory }
-{
-    sets.reserve(items, names)?;
-    Ok(())
-}
-
 // ---- one item
 
 /// Moves an item that is in a list to where it stands now, if it stands somewhere.
@@ -251,34 +228,6 @@ pub(crate) fn follow(sets: &mut SolverSets, id: u32, now: Option<Stand>)
         Some(Stand::Awake) => shift_to(sets, id, now),
         Some(Stand::Carried) => shift_to(sets, id, now),
         Some(Stand::Sleeping(name)) => wake_if(sets, name, now),
-    }
-}
-
-// ---- bodies that go where they stand now
-
-/// Moves the bodies in these slots to where they stand now; those in all other slots stand where they stood.
-pub(crate) fn follow_bodies(sets: &mut SolverSets, bodies: &[Option<Body>], slots: &[u32])
-    requires can { CanFollow (stand_at sets.old.stands) (body_stand bodies.now) sets.old.names }
-    requires others { (slot : ℕ) → (Contains slots.now slot → ⊥) → body_stand bodies.now slot ≡ stand_at sets.old.stands slot }
-    ensures stands { AreStands bodies.now sets.new.stands }
-    ensures names { sets.new.names ≡ sets.old.names }
-    ensures items { length sets.new.stands ≡ length sets.old.stands }
-{
-    for place in 0..slots.len() {
-        follow(sets, slots[place], body_stand(bodies, slots[place]));
-    }
-}
-
-/// The same for all slots.
-pub(crate) fn follow_all(sets: &mut SolverSets, bodies: &[Option<Body>])
-    requires few { length bodies.now ≤ 2 ^ 32 }
-    requires can { CanFollow (stand_at sets.old.stands) (body_stand bodies.now) sets.old.names }
-    ensures stands { AreStands bodies.now sets.new.stands }
-    ensures names { sets.new.names ≡ sets.old.names }
-    ensures items { length sets.new.stands ≡ length sets.old.stands }
-{
-    for slot in 0..bodies.len() {
-        follow(sets, slot as u32, body_stand(bodies, slot as u32));
     }
 }
 

@@ -68,7 +68,6 @@ fn sets_of(alloc: Global, plain: &Plain) -> Result<Sets<Constraint>, Refusal>
 fn load_bodies(alloc: Global, plain: &Plain) -> Result<BodyParts, Refusal>
     requires each { All IsSlotEntry plain.now.slot_entries }
     requires matched { AreMatched plain.now.slot_entries plain.now.bodies }
-    requires named { AreNamedAsleep plain.now.bodies }
     ensures slot_entries { IfOk result (λ made. made.handles.slot_entries ≡ plain.now.slot_entries) }
     ensures bodies { IfOk result (λ made. made.table.bodies ≡ plain.now.bodies) }
     ensures all { IfOk result (λ made. (slot : ℕ) → slice_index_or made.table.marks slot true ≡ true) }

@@ -16,12 +16,6 @@ use Rattle.world_core.proofs.telling_movers.tell_movers.Goals as goal
 pub tell_some-gain-requires-clause-others : goal.tell_some-gain-requires-clause-others
 tell_some-gain-requires-clause-others c = rw c.islands.ensures c.requires.others
 
-pub tell_some-gain-requires-clause-sets : goal.tell_some-gain-requires-clause-sets
-tell_some-gain-requires-clause-sets c = rw c.islands.ensures (record {
-  together = c.requires.together;
-  named = λ slot name lt h. named_low c.args.sets.now.acting (length c.args.bodies.now.bodies) slot name c.know_consistent.ensures lt h;
-})
-
 pub follow-requires-clause-can : goal.follow-requires-clause-can
 follow-requires-clause-can c =
     let labels = c.args.sets.now.acting.labels in

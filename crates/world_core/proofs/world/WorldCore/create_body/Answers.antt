@@ -43,9 +43,6 @@ reserve_one-requires-2-clause-next c =
 pub reserve_one-requires-2-clause-free : goal.reserve_one-requires-2-clause-free
 reserve_one-requires-2-clause-free c = rw (c.next_slot.ensures, c.in_ok-reserve_one.ensures.kept) (free_slot (the_view c.self.inside) (kept_of _ _ c.self.invariant.whole))
 
-pub put-requires-clause-up : goal.put-requires-clause-up
-put-requires-clause-up c = rw c.in_ok-body.ensures.made refl
-
 pub put-requires-clause-covered : goal.put-requires-clause-covered
 put-requires-clause-covered c =
     let covered = rw (c.next_slot.ensures, c.in_ok-reserve_one.ensures.kept) at c.in_ok-reserve_one-2.ensures.covered in

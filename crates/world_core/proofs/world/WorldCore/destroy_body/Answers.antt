@@ -55,14 +55,8 @@ leave-requires-clause-awake c = (going c).awake
 pub leave-requires-clause-alone : goal.leave-requires-clause-alone
 leave-requires-clause-alone c = (going c).alone
 
-pub clear-requires-clause-slot : goal.clear-requires-clause-slot
-clear-requires-clause-slot c = there_still (the_view c.self.inside) c.args.handle c.in-Some.body.now _ _ (rw (← c.bodies.ensures) (sym c.in-Some.ensures)) c.wake_planned.ensures.told
-
-pub clear-requires-clause-listed : goal.clear-requires-clause-listed
-clear-requires-clause-listed c =
-    let w : World = the_view c.self.inside in
-    let left = (goal.at.clear-requires-clause-listed c).After-deref-2 in
-    rw (c.wake_planned.ensures.told, (going left).bodies) (stirred_listed w c.self.inside.sets.acting c.args.handle.slot c.in-Some.body.now c.self.invariant.whole (named_at w.plain c.args.handle c.in-Some.body.now (named left)))
+pub clear-requires : goal.clear-requires
+clear-requires c = record { slot = there_still (the_view c.self.inside) c.args.handle c.in-Some.body.now _ _ (rw (← c.bodies.ensures) (sym c.in-Some.ensures)) c.wake_planned.ensures.told }
 
 pub drop_joint_stands-requires : goal.drop_joint_stands-requires
 drop_joint_stands-requires c k h =

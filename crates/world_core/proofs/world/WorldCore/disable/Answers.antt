@@ -55,14 +55,8 @@ leave-requires-clause-awake c = (going c).awake
 pub leave-requires-clause-alone : goal.leave-requires-clause-alone
 leave-requires-clause-alone c = (going c).alone
 
-pub disable-requires-clause-slot : goal.disable-requires-clause-slot
-disable-requires-clause-slot c = there_still (the_view c.self.inside) c.args.handle c.in-Some.body.now _ _ (rw (← c.bodies.ensures) (sym c.in-Some.ensures)) c.wake_planned.ensures.told
-
-pub disable-requires-clause-listed : goal.disable-requires-clause-listed
-disable-requires-clause-listed c =
-    let w : World = the_view c.self.inside in
-    let left = (goal.at.disable-requires-clause-listed c).After-deref-2 in
-    rw (c.wake_planned.ensures.told, (going left).bodies) (stirred_listed w c.self.inside.sets.acting c.args.handle.slot c.in-Some.body.now c.self.invariant.whole (named_at w.plain c.args.handle c.in-Some.body.now (named left)))
+pub disable-requires : goal.disable-requires
+disable-requires c = record { slot = there_still (the_view c.self.inside) c.args.handle c.in-Some.body.now _ _ (rw (← c.bodies.ensures) (sym c.in-Some.ensures)) c.wake_planned.ensures.told }
 
 -- joints stand where they stood with their impulses
 idle_standing : (c : After-deref-2) (k : ℕ) → stand_at c.wake_planned.new.stands.stands k ≡ joint_stand c.wake_planned.new.bodies.bodies (idle_joints c.args.handle.slot c.self.inside.joints.joints) k

@@ -4,9 +4,6 @@ use Rattle.world_rules.specs.Sets.{acting_of}
 use Rattle.world_core.proofs.Refusals.{handed_on}
 use Rattle.world_core.proofs.world.WorldCore.from_plain.Goals as goal
 
-pub load_bodies-requires-clause-named : goal.load_bodies-requires-clause-named
-load_bodies-requires-clause-named c = named_asleep c.args.plain.now.bodies (acting_of c.args.plain.now) c.requires.sound.promises.consistent (told_acting c.args.plain.now c.requires.sound.promises.told)
-
 pub load_joints-requires-clause-named : goal.load_joints-requires-clause-named
 load_joints-requires-clause-named c = named_asleep c.args.plain.now.bodies (acting_of c.args.plain.now) c.requires.sound.promises.consistent (told_acting c.args.plain.now c.requires.sound.promises.told)
 

@@ -13,7 +13,7 @@ use Rattle.std.specs.Option.{ForSome}
 use Rattle.world_core_base.proofs.CoverLaws.{box_there, covered_eq, covered_if, there_mapped}
 use Rattle.world_core_base.specs.Covers.{IsCovered}
 use Rattle.box_tree.specs.BoxLists.{box_at}
-use Rattle.world_core_base.proofs.StandLaws.{alike_changed, stands_alike}
+use Rattle.world_core_base.proofs.StandLaws.{alike_changed}
 use Rattle.world_core_base.proofs.body_table.BodyTable.change.Goals as goal
 
 pub invariant_of-self : goal.invariant_of-self
@@ -40,9 +40,6 @@ invariant_of-self g c =
       for_states = omega arith;
       for_awake = let long = length-set bodies c.args.slot o in let same = ap length c.change_slot.ensures.value in omega (arith, long, same, c.self.invariant.for_awake);
       for_marks = let long = length-set bodies c.args.slot o in let same = ap length c.change_slot.ensures.value in let marks = ap length c.mark_if.ensures ∙ length-mark_if c.self.inside.marks c.args.slot c.moves-made.result in omega (arith, long, same, marks, c.self.invariant.for_marks);
-      stands = stands_alike bodies _ _ (alike_changed bodies _ c.args.slot o there c.change_slot.ensures.value c.change_slot.ensures.standing c.change_slot.ensures.carried) c.self.invariant.stands;
-      for_items = let long = length-set bodies c.args.slot o in let same = ap length c.change_slot.ensures.value in omega (arith, long, same, c.self.invariant.for_items);
-      for_names = let long = length-set bodies c.args.slot o in let same = ap length c.change_slot.ensures.value in omega (arith, long, same, c.self.invariant.for_names);
       for_carried = let long = length-set bodies c.args.slot o in let same = ap length c.change_slot.ensures.value in omega (arith, long, same, c.self.invariant.for_carried);
     }
 

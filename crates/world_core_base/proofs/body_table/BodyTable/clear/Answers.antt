@@ -1,4 +1,4 @@
-use Rattle.std.proofs.Common.{◌≡◌, ◌<◌, List, length, None, ap, ◌∙◌, arith, slice_set, true, refl}
+use Rattle.std.proofs.Common.{◌<◌, List, length, None, ap, ◌∙◌, arith, slice_set, true, refl}
 use Rattle.std.proofs.lemmas.List.{length-set}
 use Rattle.momenta.specs.declared.state.BodyState.{BodyState}
 use Rattle.colour_solver.specs.States.{is_carried, moves, nobody}
@@ -7,9 +7,6 @@ use Rattle.world_core_base.proofs.TableLaws.{states-set}
 use Rattle.world_core_base.proofs.MarkedLaws.{marked_eq, marked_set}
 use Rattle.world_core_base.proofs.CoverLaws.{covered_eq, covered_set}
 use Rattle.world_core_base.proofs.ListingLaws.{listed_set}
-use Rattle.world_core_base.proofs.StandLaws.{stands_eq, stands_set}
-use Rattle.world_core_base.specs.Stands.{body_stand}
-use Rattle.packed_sets.specs.Stands.{is_listed}
 use Rattle.world_core_base.proofs.body_table.BodyTable.clear.Goals as goal
 
 pub relist-requires-clause-few : goal.relist-requires-clause-few
@@ -30,11 +27,6 @@ relist-requires-clause-for_carried c =
     let long = ap length c.deref.ensures.value ∙ length-set states c.args.slot nobody ∙ ap length c.self.invariant.states ∙ length-states c.self.inside.bodies.items in
     omega (arith, long, c.self.invariant.for_carried)
 
-pub remove-requires : goal.remove-requires
-remove-requires c =
-    let listed : is_listed (body_stand c.self.inside.bodies.items c.args.slot) ≡ true = rw (← c.self.view_is) at c.requires.listed in
-    ap is_listed (c.self.invariant.stands c.args.slot) ∙ listed
-
 pub invariant_of-self : goal.invariant_of-self
 invariant_of-self c =
     let bodies = c.self.inside.bodies.items in
@@ -51,9 +43,6 @@ invariant_of-self c =
       for_states = omega arith;
       for_awake = let now = ap length c.clear_slot.ensures ∙ length-set bodies c.args.slot None in omega (arith, now, c.self.invariant.for_awake, c.relist.ensures.awake_capacity);
       for_marks = let now = ap length c.clear_slot.ensures ∙ length-set bodies c.args.slot None in let marks = ap length c.mark.ensures ∙ length-set c.self.inside.marks c.args.slot true in omega (arith, now, marks, c.self.invariant.for_marks);
-      stands = stands_eq _ _ _ _ c.clear_slot.ensures c.remove.ensures.stands (stands_set bodies c.self.inside.stands.stands c.args.slot None there (omega (arith, there, c.self.invariant.for_items)) c.self.invariant.stands);
-      for_items = let now = ap length c.clear_slot.ensures ∙ length-set bodies c.args.slot None in let sets = ap length c.remove.ensures.stands ∙ length-set c.self.inside.stands.stands c.args.slot None in omega (arith, now, sets, c.self.invariant.for_items);
-      for_names = let now = ap length c.clear_slot.ensures ∙ length-set bodies c.args.slot None in omega (arith, now, c.remove.ensures.names, c.self.invariant.for_names);
       for_carried = let now = ap length c.clear_slot.ensures ∙ length-set bodies c.args.slot None in omega (arith, now, c.self.invariant.for_carried, c.relist.ensures.carried_capacity);
     }
 

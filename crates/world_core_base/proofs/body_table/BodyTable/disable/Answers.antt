@@ -1,4 +1,4 @@
-use Rattle.std.proofs.Common.{◌≡◌, ◌<◌, length, Option, ap, ◌∙◌, arith, true, refl, sym, subst}
+use Rattle.std.proofs.Common.{◌≡◌, ◌<◌, length, Option, ap, ◌∙◌, arith, true, refl}
 use Rattle.std.specs.Prelude.{option_map}
 use Rattle.std.proofs.lemmas.List.{length-set}
 use Rattle.colour_solver.specs.States.{is_carried, moves}
@@ -11,11 +11,6 @@ use Rattle.world_core_base.proofs.MarkedLaws.{marked_eq, marked_set}
 use Rattle.world_core_base.proofs.CoverLaws.{covered_eq, covered_mapped}
 use Rattle.world_core_base.proofs.GatherLaws.{length-states}
 use Rattle.world_core_base.proofs.ListingLaws.{listed_set}
-use Rattle.world_core_base.proofs.StandLaws.{changed_stand, disabled_named, stands_changed, stands_eq}
-use Rattle.world_core_base.proofs.FollowLaws.{length_placed}
-use Rattle.world_core_base.specs.Following.{IsNamedNow}
-use Rattle.world_core_base.specs.Stands.{body_stand}
-use Rattle.packed_sets.specs.Stands.{is_listed}
 use Rattle.world_core_base.proofs.body_table.BodyTable.disable.Goals as goal
 
 -- there are as many states as bodies, as before
@@ -37,20 +32,6 @@ relist-requires-clause-for_awake c = let long = as_many c in omega (arith, long,
 pub relist-requires-clause-for_carried : goal.relist-requires-clause-for_carried
 relist-requires-clause-for_carried c = let long = as_many c in omega (arith, long, c.self.invariant.for_carried)
 
-here : (c : goal.After-body_stand) → c.body_stand.result ≡ body_stand (changed_at disabled_body c.self.inside.bodies.items c.args.slot) c.args.slot
-here c = c.body_stand.ensures ∙ rw (c.deref-3.ensures.value, c.disable_slot.ensures) refl
-
-pub shift_to-requires-clause-named : goal.shift_to-requires-clause-named
-shift_to-requires-clause-named c =
-    let bodies = c.self.inside.bodies.items in
-    let there : c.args.slot < length bodies = rw (← c.self.view_is) at c.requires.slot in
-    subst (IsNamedNow c.self.inside.stands.names) (sym (here c ∙ changed_stand disabled_body bodies c.args.slot there)) (disabled_named c.self.inside.stands.names (body_at bodies c.args.slot))
-
-pub shift_to-requires-clause-listed : goal.shift_to-requires-clause-listed
-shift_to-requires-clause-listed c there_now =
-    let listed : is_listed (body_stand c.self.inside.bodies.items c.args.slot) ≡ true = rw (← c.self.view_is) at c.requires.listed in
-    ap is_listed (c.self.invariant.stands c.args.slot) ∙ listed
-
 pub invariant_of-self : goal.invariant_of-self
 invariant_of-self c =
     let bodies = c.self.inside.bodies.items in
@@ -70,9 +51,6 @@ invariant_of-self c =
       for_states = omega arith;
       for_awake = omega (arith, same, c.self.invariant.for_awake, c.relist.ensures.awake_capacity);
       for_marks = let marks = ap length c.mark.ensures ∙ length-set c.self.inside.marks c.args.slot true in omega (arith, same, marks, c.self.invariant.for_marks);
-      stands = stands_eq _ _ _ _ c.disable_slot.ensures c.shift_to.ensures.stands (stands_changed disabled_body bodies c.self.inside.stands.stands c.args.slot c.body_stand.result there (omega (arith, there, c.self.invariant.for_items)) (c.body_stand.ensures ∙ rw (c.deref-3.ensures.value, c.disable_slot.ensures) refl) c.self.invariant.stands);
-      for_items = let sets = ap length c.shift_to.ensures.stands ∙ length_placed c.body_stand.result c.args.slot c.self.inside.stands.stands in omega (arith, same, sets, c.self.invariant.for_items);
-      for_names = omega (arith, same, c.shift_to.ensures.names, c.self.invariant.for_names);
       for_carried = omega (arith, same, c.self.invariant.for_carried, c.relist.ensures.carried_capacity);
     }
 

@@ -14,9 +14,6 @@ invariant_of-self c = record {
   for_awake = omega (arith, c.flush.ensures.capacity, c.self.invariant.for_awake);
   for_carried = omega (arith, c.flush-2.ensures.capacity, c.self.invariant.for_carried);
   for_marks = c.self.invariant.for_marks;
-  stands = c.self.invariant.stands;
-  for_items = c.self.invariant.for_items;
-  for_names = c.self.invariant.for_names;
   covered = c.self.invariant.covered;
   for_boxes = c.self.invariant.for_boxes;
 }

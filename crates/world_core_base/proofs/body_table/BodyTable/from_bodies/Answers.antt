@@ -6,7 +6,6 @@ use Rattle.world_core_base.specs.Covers.{AreCovered}
 use Rattle.world_core_base.specs.Gather.{states_of}
 use Rattle.world_core_base.proofs.GatherLaws.{length-states}
 use Rattle.world_core_base.proofs.ListingLaws.{listed_exactly}
-use Rattle.world_core_base.specs.Stands.{AreStands}
 use Rattle.world_core_base.proofs.body_table.BodyTable.from_bodies.Goals as goal
 
 pub invariant_of-result-3 : goal.invariant_of-result-3
@@ -32,9 +31,6 @@ invariant_of-result-3 c =
       for_awake = omega (arith, same, long, long_awake, room_awake);
       for_carried = omega (arith, same, long, long_carried, room_carried);
       for_marks = let marks = ap length c.in_ok-all_marked.ensures.marked ∙ length-replicate (length bodies) true in omega (arith, same, marks);
-      stands = subst (λ (os : List (Option Body)). AreStands os c.in_ok-list_stands.field-0.stands) (sym copied) c.in_ok-list_stands.ensures.stands;
-      for_items = omega (arith, same, c.in_ok-list_stands.ensures.items);
-      for_names = omega (arith, same, c.in_ok-list_stands.ensures.names);
       covered = subst (λ (os : List (Option Body)). AreCovered os c.in_ok-cover_all.field-0) (sym copied) c.in_ok-cover_all.ensures.covered;
       for_boxes = omega (arith, same, c.in_ok-cover_all.ensures.len);
     }

@@ -1,4 +1,4 @@
-use Rattle.std.proofs.Common.{◌≡◌, ◌≤◌, ◌+◌, ◌∙◌, ap, length, None, arith, true, refl, slice_set, Some}
+use Rattle.std.proofs.Common.{◌≡◌, ◌≤◌, ◌+◌, ◌∙◌, ap, length, None, arith, true, refl}
 use Rattle.colour_solver.specs.States.{is_carried, moves}
 use Rattle.plain_world.specs.Slots.{body_at, with_body}
 use Rattle.world_core_base.specs.Gather.{states_of}
@@ -10,9 +10,6 @@ use Rattle.world_core_base.proofs.MarkedLaws.{marked_eq, marked_put}
 use Rattle.world_core_base.proofs.CoverLaws.{box_within, cover_there, covered_eq, covered_put, long_put}
 use Rattle.world_core_base.specs.Covers.{IsCover}
 use Rattle.box_tree.specs.BoxLists.{box_at}
-use Rattle.world_core_base.proofs.StandLaws.{awake_named, stands_eq, stands_put}
-use Rattle.world_core_base.specs.Stands.{stand_in}
-use Rattle.packed_sets.specs.declared.stands.Stand.{Stand}
 use Rattle.world_core_base.proofs.body_table.BodyTable.put.Goals as goal
 
 long_states : (c : goal.After-deref) → length c.put_state.new.states.items ≤ length c.self.inside.bodies.items + 1
@@ -46,20 +43,6 @@ relist-requires-clause-for_carried c =
     let more = long_states c in
     omega (arith, long, more, room, c.self.invariant.for_carried)
 
-pub insert-requires-clause-there : goal.insert-requires-clause-there
-insert-requires-clause-there c =
-    let next : c.args.slot ≤ length c.self.inside.bodies.items = rw (← c.self.view_is) at c.requires.next in
-    let room : 1 ≤ c.self.inside.room = rw (← c.self.view_is) at c.requires.room in
-    omega (arith, next, room, c.self.invariant.for_items)
-
-pub insert-requires-clause-absent : goal.insert-requires-clause-absent
-insert-requires-clause-absent c =
-    let free : body_at c.self.inside.bodies.items c.args.slot ≡ None = rw (← c.self.view_is) at c.requires.free in
-    c.self.invariant.stands c.args.slot ∙ ap stand_in free
-
-pub insert-requires-clause-named : goal.insert-requires-clause-named
-insert-requires-clause-named c = rw c.stand_of.ensures (awake_named c.self.inside.stands.names c.args.body c.requires.up)
-
 pub invariant_of-self : goal.invariant_of-self
 invariant_of-self c =
     let bodies = c.self.inside.bodies.items in
@@ -81,9 +64,6 @@ invariant_of-self c =
       for_states = omega arith;
       for_awake = let long = length-with_body bodies c.args.slot c.args.body next in let now = ap length c.put_item.ensures.items in omega (arith, long, now, room, c.self.invariant.for_awake, c.relist.ensures.awake_capacity);
       for_marks = let long = length-with_body bodies c.args.slot c.args.body next in let now = ap length c.put_item.ensures.items in let marks = ap length c.mark.ensures ∙ length-set c.self.inside.marks c.args.slot true in omega (arith, long, now, room, marks, c.self.invariant.for_marks);
-      stands = stands_eq _ _ _ _ c.put_item.ensures.items (c.insert.ensures.stands ∙ ap (λ (s : Stand). slice_set c.self.inside.stands.stands c.args.slot (Some s)) c.stand_of.ensures) (stands_put bodies c.self.inside.stands.stands c.args.slot c.args.body next (omega (arith, next, room, c.self.invariant.for_items)) c.self.invariant.stands);
-      for_items = let long = length-with_body bodies c.args.slot c.args.body next in let now = ap length c.put_item.ensures.items in let sets = ap length c.insert.ensures.stands ∙ length-set c.self.inside.stands.stands c.args.slot (Some c.stand_of.result) in omega (arith, long, now, room, sets, c.self.invariant.for_items);
-      for_names = let long = length-with_body bodies c.args.slot c.args.body next in let now = ap length c.put_item.ensures.items in omega (arith, long, now, room, c.insert.ensures.names, c.self.invariant.for_names);
       for_carried = let long = length-with_body bodies c.args.slot c.args.body next in let now = ap length c.put_item.ensures.items in omega (arith, long, now, room, c.self.invariant.for_carried, c.relist.ensures.carried_capacity);
     }
 

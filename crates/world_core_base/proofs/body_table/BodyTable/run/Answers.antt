@@ -2,14 +2,13 @@ use Rattle.std.proofs.Common.{◌≡◌, ◌+◌, length, ap, sym, ◌∙◌, ar
 use Rattle.fixed_geom.specs.Vectors.{plus}
 use Rattle.fixed_geom.specs.declared.vectors.Vec2.{Vec2}
 use Rattle.colour_solver.specs.States.{is_carried, moves, total}
-use Rattle.colour_solver.specs.ColourRows.{all_rows}
 use Rattle.colour_solver.specs.Ticks.{added}
 use Rattle.colour_solver.proofs.CourseLaws.{carried_beside, movers_beside}
 use Rattle.colour_solver.proofs.TickLaws.{rows_as_long}
 use Rattle.plain_world.specs.Bodies.{AreBodies}
 use Rattle.world_core_base.proofs.ListingLaws.{listed_exactly}
 use Rattle.world_core_base.proofs.GatherLaws.{courses-all, length-states, states-all, total-gathered}
-use Rattle.world_core_base.proofs.StandLaws.{alike_moved, stands_alike}
+use Rattle.world_core_base.proofs.StandLaws.{alike_moved}
 use Rattle.world_core_base.proofs.body_table.BodyTable.run.Goals as goal
 
 pub run_step-sums-requires-clause-awake : goal.run_step-sums-requires-clause-awake
@@ -76,9 +75,6 @@ invariant_of-self g c =
       for_awake = omega (arith, same, c.self.invariant.for_awake);
       for_carried = omega (arith, same, c.self.invariant.for_carried);
       for_marks = omega (arith, same, c.move_bodies.ensures.len, c.self.invariant.for_marks);
-      stands = stands_alike c.self.inside.bodies.items _ c.self.inside.stands.stands (rw c.move_bodies.ensures.value (alike_moved c.self.inside.bodies.items c.run_step-sums.new.states.items)) c.self.invariant.stands;
-      for_items = omega (arith, same, c.self.invariant.for_items);
-      for_names = omega (arith, same, c.self.invariant.for_names);
       covered = c.move_bodies.ensures.covered;
       for_boxes = omega (arith, same, c.move_bodies.ensures.boxes, c.self.invariant.for_boxes);
     }

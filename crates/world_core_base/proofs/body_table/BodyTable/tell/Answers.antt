@@ -15,9 +15,6 @@ use Rattle.world_core_base.proofs.ListingLaws.{listed_alike, listed_exactly}
 use Rattle.world_core_base.proofs.TellLaws.{carried_told, length-told, told_bodies}
 use Rattle.world_core_base.proofs.MarkedLaws.{marked_eq, marked_told, told_all}
 use Rattle.world_core_base.proofs.CoverLaws.{covered_alike, covered_eq}
-use Rattle.world_core_base.proofs.StandLaws.{can_follow_told}
-use Rattle.world_core_base.specs.Telling.{KeepSets}
-use Rattle.packed_sets.specs.Stands.{stand_at}
 use Rattle.world_core_base.proofs.body_table.BodyTable.tell.Goals as goal
 
 pub tell_bodies-gain-requires-clause-bodies : goal.tell_bodies-gain-requires-clause-bodies
@@ -37,16 +34,6 @@ list_anew-requires-clause-room c =
     let long = ap length c.deref.ensures.value ∙ same_long c.args.islands.now.labels c.self.inside.bodies.items c.tell_bodies-gain.new.bodies.items c.tell_bodies-gain.new.states.items c.tell_bodies-gain.ensures.bodies c.tell_bodies-gain.ensures.states in
     omega (arith, long, c.self.invariant.for_awake)
 
-pub follow_all-requires-clause-few : goal.follow_all-requires-clause-few
-follow_all-requires-clause-few c =
-    let long = ap length c.deref-2.ensures.value ∙ ap length c.tell_bodies-gain.ensures.bodies ∙ length-told c.args.islands.now.labels c.self.inside.bodies.items in
-    omega (arith, long, c.self.invariant.few)
-
-pub follow_all-requires-clause-can : goal.follow_all-requires-clause-can
-follow_all-requires-clause-can c =
-    let keep : KeepSets c.args.islands.now.labels c.self.inside.bodies.items = rw (← c.self.view_is) at c.requires.sets in
-    rw (c.deref-2.ensures.value, c.tell_bodies-gain.ensures.bodies) (can_follow_told c.args.islands.now.labels c.self.inside.bodies.items (stand_at c.self.inside.stands.stands) c.self.inside.stands.names c.self.invariant.stands (omega (arith, c.self.invariant.for_names)) keep)
-
 pub invariant_of-self : goal.invariant_of-self
 invariant_of-self c =
     let bodies = c.self.inside.bodies.items in
@@ -64,9 +51,6 @@ invariant_of-self c =
       for_states = omega arith;
       for_awake = omega (arith, same, c.self.invariant.for_awake, c.list_anew.ensures.capacity);
       for_marks = omega (arith, same, c.self.invariant.for_marks);
-      stands = rw c.deref-2.ensures.value at c.follow_all.ensures.stands;
-      for_items = omega (arith, same, c.follow_all.ensures.items, c.self.invariant.for_items);
-      for_names = omega (arith, same, c.follow_all.ensures.names, c.self.invariant.for_names);
       for_carried = omega (arith, same, c.self.invariant.for_carried);
     }
 

@@ -11,9 +11,6 @@ use Rattle.world_core_base.proofs.ListingLaws.{listed_alike}
 use Rattle.world_core_base.proofs.TellLaws.{carried_told, length-told, told_bodies}
 use Rattle.world_core_base.proofs.MarkedLaws.{marked_eq, marked_told, told_all}
 use Rattle.world_core_base.proofs.CoverLaws.{covered_alike, covered_eq}
-use Rattle.world_core_base.proofs.StandLaws.{can_follow_told, told_beside}
-use Rattle.world_core_base.specs.Telling.{AreToldBeside, KeepSets}
-use Rattle.packed_sets.specs.Stands.{stand_at}
 use Rattle.world_core_base.proofs.body_table.BodyTable.tell_listed.Goals as goal
 
 pub tell_listed-gain-requires-clause-fewer : goal.tell_listed-gain-requires-clause-fewer
@@ -27,16 +24,6 @@ tell_listed-gain-requires-clause-others c = rw (← c.self.view_is) at c.require
 
 pub tell_listed-gain-requires-clause-room : goal.tell_listed-gain-requires-clause-room
 tell_listed-gain-requires-clause-room c = omega (arith, c.self.invariant.for_awake)
-
-pub follow_bodies-requires-clause-can : goal.follow_bodies-requires-clause-can
-follow_bodies-requires-clause-can c =
-    let keep : KeepSets c.args.islands.now.labels c.self.inside.bodies.items = rw (← c.self.view_is) at c.requires.sets in
-    rw (c.deref.ensures.value, c.tell_listed-gain.ensures.bodies) (can_follow_told c.args.islands.now.labels c.self.inside.bodies.items (stand_at c.self.inside.stands.stands) c.self.inside.stands.names c.self.invariant.stands (omega (arith, c.self.invariant.for_names)) keep)
-
-pub follow_bodies-requires-clause-others : goal.follow_bodies-requires-clause-others
-follow_bodies-requires-clause-others c =
-    let others : AreToldBeside c.args.slots.now c.args.islands.now.labels c.self.inside.bodies.items = rw (← c.self.view_is) at c.requires.others in
-    rw (c.deref.ensures.value, c.tell_listed-gain.ensures.bodies) (told_beside c.args.islands.now.labels c.self.inside.bodies.items c.args.slots.now (stand_at c.self.inside.stands.stands) c.self.invariant.stands others)
 
 pub invariant_of-self : goal.invariant_of-self
 invariant_of-self c =
@@ -55,9 +42,6 @@ invariant_of-self c =
       for_states = omega arith;
       for_awake = omega (arith, same, c.self.invariant.for_awake, c.tell_listed-gain.ensures.capacity);
       for_marks = omega (arith, same, c.self.invariant.for_marks);
-      stands = rw c.deref.ensures.value at c.follow_bodies.ensures.stands;
-      for_items = omega (arith, same, c.follow_bodies.ensures.items, c.self.invariant.for_items);
-      for_names = omega (arith, same, c.follow_bodies.ensures.names, c.self.invariant.for_names);
       for_carried = omega (arith, same, c.self.invariant.for_carried);
     }
 

@@ -8,7 +8,7 @@ use Rattle.world_core_base.proofs.TimeLaws.{awake_places, length-timed, states_t
 use Rattle.world_core_base.proofs.MarkedLaws.{marked_eq, marked_timed, timed_each}
 use Rattle.world_core_base.proofs.CoverLaws.{covered_alike, covered_eq}
 use Rattle.plain_world.specs.Sleep.{timed_bodies}
-use Rattle.world_core_base.proofs.StandLaws.{alike_timed, stands_alike}
+use Rattle.world_core_base.proofs.StandLaws.{alike_timed}
 use Rattle.world_core_base.proofs.body_table.BodyTable.time.Goals as goal
 
 pub time_bodies-requires-clause-bodies : goal.time_bodies-requires-clause-bodies
@@ -34,9 +34,6 @@ invariant_of-self c =
       for_states = omega arith;
       for_awake = omega (arith, same, c.self.invariant.for_awake);
       for_marks = omega (arith, same, c.self.invariant.for_marks);
-      stands = rw c.time_bodies.ensures (stands_alike bodies (timed_bodies c.args.ticks bodies) c.self.inside.stands.stands (alike_timed c.args.ticks bodies) c.self.invariant.stands);
-      for_items = omega (arith, same, c.self.invariant.for_items);
-      for_names = omega (arith, same, c.self.invariant.for_names);
       for_carried = omega (arith, same, c.self.invariant.for_carried);
     }
 
