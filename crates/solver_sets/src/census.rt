@@ -1,6 +1,6 @@
 //! The census: for each solver set the bodies, joints and contacts that stand in it.
 
-ghost use Rattle.std.specs.Prelude.{◌≡◌, ◌<◌, ◌≤◌, ◌||◌, ◌++◌, ◌∷◌, [], IfOk, OnOk, length};
+ghost use Rattle.std.specs.Prelude.{◌≡◌, ◌<◌, ◌≤◌, ◌||◌, ◌++◌, ◌∷◌, [], IfOk, OnOk, cond, length};
 ghost use Rattle.std.specs.List.{AllWithin};
 ghost use Rattle.std.specs.Result.{IsOkUnless};
 ghost use Rattle.plain_world.specs.Changes.{is_awake_in};
@@ -241,17 +241,24 @@ fn standing_apart(bodies: &[Option<Body>], a: u32, b: u32) -> SetName
     }
 }
 
-/// The set in which a contact stands: that of its movers where it touches; else the awake one beside an awake mover,
-/// and the disabled one without.
-pub fn standing_of_contact(bodies: &[Option<Body>], entry: &ContactEntry) -> SetName
-    ensures { result ≡ standing_of_contact bodies.now entry.now }
+/// The set in which a contact with this key stands: that of its movers where it touches; else the awake one beside an
+/// awake mover, and the disabled one without.
+pub fn standing_by_key(bodies: &[Option<Body>], key: ContactKey, touching: bool) -> SetName
+    ensures { result ≡ cond touching (standing_between bodies.now key.first.slot key.second.slot) (standing_apart bodies.now key.first.slot key.second.slot) }
 {
-    let (a, b) = (entry.key.first.slot, entry.key.second.slot);
-    if entry.contact.is_touching() {
+    let (a, b) = (key.first.slot, key.second.slot);
+    if touching {
         standing_between(bodies, a, b)
     } else {
         standing_apart(bodies, a, b)
     }
+}
+
+/// The set in which a contact stands.
+pub fn standing_of_contact(bodies: &[Option<Body>], entry: &ContactEntry) -> SetName
+    ensures { result ≡ standing_of_contact bodies.now entry.now }
+{
+    standing_by_key(bodies, entry.key, entry.contact.is_touching())
 }
 
 /// Lists the bodies, by slot.

@@ -19,7 +19,9 @@ mod timers;
 
 pub use begin_and_end::{begin_with, end_with};
 pub use beside::list_joined;
-pub use census::{Census, Item, SleepingSet, standing_of_contact, standing_of_joint, take_census};
+pub use census::{
+    Census, Item, SleepingSet, standing_by_key, standing_of_contact, standing_of_joint, take_census,
+};
 pub use changes::list_changes;
 pub use given::{count_members, list_all_ties, list_members};
 pub use slept::{fill_newly_asleep, fill_newly_awake};

@@ -1,30 +1,28 @@
--- The sets of joints where a body leaves, is disabled or is enabled, and where a joint comes or goes.
-use Rattle.std.proofs.Common.{◌≡◌, ◌≢◌, ◌⊎◌, ℕ, zero, suc, ◌<◌, ◌≤◌, Bool, true, false, cond, List, [], ◌∷◌, length, slice_set, pos, Option, Some, None, inl, inr, refl, sym, ap, ◌∙◌, arith}
+-- The sets of joints where a body leaves, comes, is disabled or is enabled, and where a joint goes: they stay as they
+-- are, since whoever sleeps does so as before.
+use Rattle.std.proofs.Common.{◌≡◌, ◌≢◌, ◌⊎◌, ℕ, zero, suc, ◌<◌, ◌≤◌, Bool, true, false, cond, List, [], ◌∷◌, length, slice_set, pos, Option, Some, None, is_some, inl, inr, refl, sym, ap, ◌∙◌, subst, arith}
 use Rattle.std.specs.Prelude.{Contains, option_map}
 use Rattle.std.proofs.lemmas.Bool.{cases_eq, false≢true}
 use Rattle.std.proofs.lemmas.List.{length-set}
-use Rattle.std.proofs.lemmas.Grind.{common_steps}
-use Rattle.packed_sets.specs.declared.stands.Stand.{Stand}
-use Rattle.packed_sets.specs.declared.stands.Stand.TheVariants as standing
-use Rattle.packed_sets.specs.Stands.{Standings, is_named, stand_at}
 use Rattle.plain_world.specs.declared.body.Body.{Body}
 use Rattle.plain_world.specs.declared.joint.BodyJoint.{BodyJoint}
-use Rattle.plain_world.specs.declared.kind.Kind.{Kind}
-use Rattle.plain_world.specs.declared.kind.Kind.TheVariants.{Static, Kinematic, Dynamic}
+use Rattle.plain_world.specs.Bodies.{is_mover_in}
 use Rattle.plain_world.specs.Changes.{changed_at, disabled_body, enabled_body}
-use Rattle.plain_world.specs.Joints.{idle_if, idle_joints, is_end_in, is_joint_of, joint_at}
-use Rattle.plain_world.specs.Slots.{body_at}
+use Rattle.plain_world.specs.Joints.{AreJoints, idle_if, idle_joints, is_end_in, is_joint_of, joint_at}
+use Rattle.plain_world.specs.Slots.{body_at, with_body}
 use Rattle.solver_sets.proofs.SlotLemmas.{item_at-set_none, item_at-set_other}
 use Rattle.solver_sets.specs.Joining.{handle_at, unjoined, unjoined_all, unjoined_up}
-use Rattle.solver_sets.specs.Ties.{JointSlots}
-use Rattle.world_core_base.proofs.FollowLaws.{stand_beside}
+use Rattle.solver_sets.specs.Ties.{JointSlots, is_enabled, is_enabled_in}
+use Rattle.islands.proofs.JoinLemmas.{contains_head}
+use Rattle.world_core_base.proofs.AsleepLaws.{alike_own, with_item_other}
+use Rattle.world_core_base.proofs.JointAsleepLaws.{joint_alike, joint_named, joints_as, joints_by_ends, own_first, own_second}
 use Rattle.world_core_base.proofs.JointEndLaws.{item_at-same}
-use Rattle.world_core_base.proofs.JointStandLaws.{between_sleeps, joints_beside, joints_gone, own_first, own_second}
-use Rattle.world_core_base.proofs.OwnJointLaws.{below_if, end_listed, listed_end}
+use Rattle.world_core_base.proofs.OwnJointLaws.{below_if}
+use Rattle.world_core_base.specs.Following.{CanFollow}
 use Rattle.world_core_base.proofs.SolvingJoints.{bare_entry, bare_joints, joint_bare}
 use Rattle.world_core_base.specs.JointEnds.{KeepEnds, ends_of}
-use Rattle.world_core_base.specs.JointTables.{own_slots}
-use Rattle.world_core_base.specs.Stands.{AreJointSets, AreNamedAsleep, body_stand, stand_by, stand_in, stand_of_joint}
+use Rattle.world_core_base.specs.Asleep.{AreJointSets, AreNamedAsleep, IsOfNone, IsSleepAlike, asleep_in, joint_sleep, movers_of_joint, sleep_with}
+use Rattle.world_core_base.specs.Sleeping.{Sleeping, sleep_at}
 
 -- ---- joints of a body that leaves
 
@@ -69,15 +67,6 @@ without_up body (suc n) s k = by (unjoined_up body n s) (without_up body n s k) 
 without_all : (body : ℕ) (s : JointSlots) (k : ℕ) → IsWithout body (length s.joints) k s.joints (unjoined_all body s).joints
 without_all body s k = without_up body (length s.joints) s k
 
--- its joints are taken out of the sets
-pub joints_leave : (bodies : List (Option Body)) (body : ℕ) (s : JointSlots) (own : List ℕ) (old new : Standings) → own ≡ own_slots body s.joints → ((k : ℕ) → Contains own k → stand_at new.stands k ≡ None) → ((k : ℕ) → (Contains own k → ⊥) → stand_at new.stands k ≡ stand_at old.stands k) → new.names ≡ old.names
-    → AreJointSets bodies s.joints old → AreJointSets bodies (unjoined_all body s).joints new
-joints_leave bodies body s own old new is gone others names are = joints_gone bodies s.joints (unjoined_all body s).joints old new (λ k. by k (is_end_in body (joint_at s.joints k)) refl) names are
-  where
-    by : (k : ℕ) (t : Bool) → is_end_in body (joint_at s.joints k) ≡ t → (joint_at (unjoined_all body s).joints k ≡ None) × (stand_at new.stands k ≡ None) ⊎ (joint_at (unjoined_all body s).joints k ≡ joint_at s.joints k) × (stand_at new.stands k ≡ stand_at old.stands k)
-    by k true e = inl ((without_all body s k).gone (below_if body s.joints k e) e, gone k (end_listed body k s.joints own is e))
-    by k false e = inr ((without_all body s k).left e, others k (λ h. absurd (false≢true (sym e ∙ listed_end body k s.joints own is h))))
-
 -- no joint that is left has an end at the body
 left_apart : (body : ℕ) (s : JointSlots) (k : ℕ) (j : BodyJoint) → joint_at (unjoined_all body s).joints k ≡ Some j → is_joint_of body j ≡ false
 left_apart body s k j at = by (is_end_in body (joint_at s.joints k)) refl
@@ -86,80 +75,121 @@ left_apart body s k j at = by (is_end_in body (joint_at s.joints k)) refl
     by true e = let none : None ≡ Some j = sym ((without_all body s k).gone (below_if body s.joints k e) e) ∙ at in cc
     by false e = ap (is_end_in body) (sym at ∙ (without_all body s k).left e) ∙ e
 
--- then the body leaves its slot
-pub body_leaves : (bodies : List (Option Body)) (body : ℕ) (s : JointSlots) (sets : Standings) → AreJointSets bodies (unjoined_all body s).joints sets → AreJointSets (slice_set bodies body None) (unjoined_all body s).joints sets
-body_leaves bodies body s sets are =
-    joints_beside bodies (slice_set bodies body None) (unjoined_all body s).joints sets sets (λ k j at. (first k j at, second k j at)) (λ id. refl) (let long = length-set bodies body None in let names = are.names in omega (arith, long, names)) are
+-- ---- joints of other bodies
+
+-- a joint that has no end at the slot in which the body is another
+pub joint_far : (old new : List (Option Body)) (slot : ℕ) (o : Option BodyJoint) → ((other : ℕ) → other ≢ slot → IsSleepAlike (body_at old other) (body_at new other)) → is_end_in slot o ≡ false → sleep_with new (movers_of_joint new o) ≡ sleep_with old (movers_of_joint old o)
+joint_far old new slot o others off = joint_alike old new o (λ j at.
+    let off_own : is_joint_of slot j ≡ false = ap (is_end_in slot) (sym at) ∙ off in
+    (others j.a (λ e. false≢true (sym off_own ∙ ap (λ (b : ℕ). is_joint_of b j) (sym e) ∙ own_first j)), others j.b (λ e. false≢true (sym off_own ∙ ap (λ (b : ℕ). is_joint_of b j) (sym e) ∙ own_second j))))
+
+-- whoever is in another slot than one that is set is as before
+pub set_beside : (bodies : List (Option Body)) (slot : ℕ) (o : Option Body) (other : ℕ) → other ≢ slot → IsSleepAlike (body_at bodies other) (body_at (slice_set bodies slot o) other)
+set_beside bodies slot o other far = subst (IsSleepAlike (body_at bodies other)) (sym (item_at-set_other bodies slot o other far)) (alike_own (body_at bodies other))
+
+-- a body leaves its slot with its joints, of which none sleeps
+pub body_leaves : (bodies : List (Option Body)) (body : ℕ) (s : JointSlots) (sets : Sleeping) → ((k : ℕ) → is_end_in body (joint_at s.joints k) ≡ true → joint_sleep bodies s.joints k ≡ None) → AreJointSets bodies s.joints sets → AreJointSets (slice_set bodies body None) (unjoined_all body s).joints sets
+body_leaves bodies body s sets up are = joints_as bodies now s.joints next sets sets (λ k. each k (is_end_in body (joint_at s.joints k)) refl) (λ k. refl) (λ k. items k (is_end_in body (joint_at s.joints k)) refl) (let long = length-set bodies body None in let room = are.named in omega (arith, long, room)) are
   where
-    first : (k : ℕ) (j : BodyJoint) → joint_at (unjoined_all body s).joints k ≡ Some j → body_stand (slice_set bodies body None) j.a ≡ body_stand bodies j.a
-    first k j at = ap stand_in (item_at-set_other bodies body None j.a (λ e. false≢true (sym (left_apart body s k j at) ∙ ap (λ (b : ℕ). is_joint_of b j) (sym e) ∙ own_first j)))
+    now : List (Option Body)
+    now = slice_set bodies body None
 
-    second : (k : ℕ) (j : BodyJoint) → joint_at (unjoined_all body s).joints k ≡ Some j → body_stand (slice_set bodies body None) j.b ≡ body_stand bodies j.b
-    second k j at = ap stand_in (item_at-set_other bodies body None j.b (λ e. false≢true (sym (left_apart body s k j at) ∙ ap (λ (b : ℕ). is_joint_of b j) (sym e) ∙ own_second j)))
+    next : List (Option BodyJoint)
+    next = (unjoined_all body s).joints
 
--- ---- one joint that goes
+    each : (k : ℕ) (t : Bool) → is_end_in body (joint_at s.joints k) ≡ t → joint_sleep now next k ≡ joint_sleep bodies s.joints k
+    each k true e = ap (λ (o : Option BodyJoint). sleep_with now (movers_of_joint now o)) ((without_all body s k).gone (below_if body s.joints k e) e) ∙ sym (up k e)
+    each k false e = ap (λ (o : Option BodyJoint). sleep_with now (movers_of_joint now o)) ((without_all body s k).left e) ∙ joint_far bodies now body (joint_at s.joints k) (set_beside bodies body None) e
 
-stand_none : (stands : List (Option Stand)) (slot : ℕ) → stand_at (slice_set stands slot None) slot ≡ None
-stand_none [] slot = refl
-stand_none (o ∷ stands) zero = refl
-stand_none (o ∷ stands) (suc slot) = stand_none stands slot
+    items : (k : ℕ) (t : Bool) → is_end_in body (joint_at s.joints k) ≡ t → is_some (joint_at next k) ≡ true → k < length sets.names
+    items k true e on = absurd (false≢true (sym (ap (λ (o : Option BodyJoint). is_some o) ((without_all body s k).gone (below_if body s.joints k e) e)) ∙ on))
+    items k false e on = are.items k (sym (ap (λ (o : Option BodyJoint). is_some o) ((without_all body s k).left e)) ∙ on)
 
-pub joint_leaves : (bodies : List (Option Body)) (joints : List (Option BodyJoint)) (slot : ℕ) (old new : Standings) → new.stands ≡ slice_set old.stands slot None → new.names ≡ old.names → AreJointSets bodies joints old → AreJointSets bodies (slice_set joints slot None) new
-joint_leaves bodies joints slot old new is names are = joints_gone bodies joints (slice_set joints slot None) old new each names are
+-- a body comes into a free slot, at which no joint has an end
+pub body_comes : (bodies : List (Option Body)) (joints : List (Option BodyJoint)) (slot : ℕ) (b : Body) (before after : Sleeping) → AreJoints bodies joints → body_at bodies slot ≡ None → slot ≤ length bodies → ((k : ℕ) → sleep_at after.names k ≡ sleep_at before.names k) → length before.names ≤ length after.names → length (with_body bodies slot b) ≤ length after.sets
+    → AreJointSets bodies joints before → AreJointSets (with_body bodies slot b) joints after
+body_comes bodies joints slot b before after there free le same more room are = joints_as bodies (with_body bodies slot b) joints joints before after (λ k. joint_alike bodies (with_body bodies slot b) (joint_at joints k) (λ j e. (beside j.a (there k j e).first, beside j.b (there k j e).second))) same
+    (λ k on. let lt = are.items k on in omega (arith, lt, more)) room are
   where
-    each : (k : ℕ) → (joint_at (slice_set joints slot None) k ≡ None) × (stand_at new.stands k ≡ None) ⊎ (joint_at (slice_set joints slot None) k ≡ joint_at joints k) × (stand_at new.stands k ≡ stand_at old.stands k)
+    beside : (k : ℕ) → is_some (body_at bodies k) ≡ true → IsSleepAlike (body_at bodies k) (body_at (with_body bodies slot b) k)
+    beside k on = subst (IsSleepAlike (body_at bodies k)) (sym (with_item_other bodies slot b k le (λ e. false≢true (sym (ap (λ (i : ℕ). is_some (body_at bodies i)) e ∙ ap (λ (o : Option Body). is_some o) free) ∙ on)))) (alike_own (body_at bodies k))
+
+-- ---- one joint that goes, and doesn't sleep
+
+pub joint_leaves : (bodies : List (Option Body)) (joints : List (Option BodyJoint)) (slot : ℕ) (sets : Sleeping) → joint_sleep bodies joints slot ≡ None → AreJointSets bodies joints sets → AreJointSets bodies (slice_set joints slot None) sets
+joint_leaves bodies joints slot sets up are = joints_as bodies bodies joints (slice_set joints slot None) sets sets each (λ k. refl) items are.named are
+  where
+    each : (k : ℕ) → joint_sleep bodies (slice_set joints slot None) k ≡ joint_sleep bodies joints k
     each k = elim (cases_eq k slot) [
-      | inl same ↦ inl (ap (joint_at (slice_set joints slot None)) same ∙ item_at-set_none joints slot, ap (λ (l : List (Option Stand)). stand_at l k) is ∙ ap (stand_at (slice_set old.stands slot None)) same ∙ stand_none old.stands slot)
-      | inr far ↦ inr (item_at-set_other joints slot None k far, ap (λ (l : List (Option Stand)). stand_at l k) is ∙ stand_beside old.stands slot k None far)
+      | inl same ↦ subst (λ (i : ℕ). joint_sleep bodies (slice_set joints slot None) i ≡ joint_sleep bodies joints i) (sym same) (ap (λ (o : Option BodyJoint). sleep_with bodies (movers_of_joint bodies o)) (item_at-set_none joints slot) ∙ sym up)
+      | inr far ↦ ap (λ (o : Option BodyJoint). sleep_with bodies (movers_of_joint bodies o)) (item_at-set_other joints slot None k far)
     ]
 
--- ---- names
-
-named_if : (names : ℕ) (stand : Stand) → ((name : ℕ) → stand ≡ standing.Sleeping name → name < names) → is_named names stand ≡ true
-named_if names standing.Static h = refl
-named_if names standing.Disabled h = refl
-named_if names standing.Awake h = refl
-named_if names standing.Carried h = refl
-named_if names (standing.Sleeping name) h = let lt : name < names = h name refl in grind (arith, common_steps)
-
--- a joint sleeps under a name for which there is room
-pub joint_is_named : (bodies : List (Option Body)) (j : BodyJoint) (names : ℕ) → AreNamedAsleep bodies → length bodies ≤ names → is_named names (stand_of_joint bodies j) ≡ true
-joint_is_named bodies j names named room = named_if names (stand_of_joint bodies j) (λ name e. below name (between_sleeps (body_stand bodies j.a) (body_stand bodies j.b) name e))
-  where
-    below : (name : ℕ) → (body_stand bodies j.a ≡ Some (standing.Sleeping name)) ⊎ (body_stand bodies j.b ≡ Some (standing.Sleeping name)) → name < names
-    below name h = elim h [ inl a ↦ (let lt = named j.a name a in omega (arith, lt, room)) | inr b ↦ (let lt = named j.b name b in omega (arith, lt, room)) ]
+    items : (k : ℕ) → is_some (joint_at (slice_set joints slot None) k) ≡ true → k < length sets.names
+    items k on = elim (cases_eq k slot) [
+      | inl same ↦ absurd (false≢true (sym (ap (λ (i : ℕ). is_some (joint_at (slice_set joints slot None) i)) same ∙ ap (λ (o : Option BodyJoint). is_some o) (item_at-set_none joints slot)) ∙ on))
+      | inr far ↦ are.items k (sym (ap (λ (o : Option BodyJoint). is_some o) (item_at-set_other joints slot None k far)) ∙ on)
+    ]
 
 -- ---- a body that is changed in its slot
 
-pub others_stand : (f : Body → Body) (bodies : List (Option Body)) (slot other : ℕ) → other ≢ slot → body_stand (changed_at f bodies slot) other ≡ body_stand bodies other
-others_stand f bodies slot other far = ap stand_in (item_at-set_other bodies slot (option_map f (body_at bodies slot)) other far)
-
--- where the body sleeps under no name then
-changed_named : (f : Body → Body) (bodies : List (Option Body)) (slot names : ℕ) → AreNamedAsleep bodies → length bodies ≤ names → slot < length bodies → ((o : Option Body) (name : ℕ) → stand_in (option_map f o) ≡ Some (standing.Sleeping name) → ⊥)
-    → (body name : ℕ) → body_stand (changed_at f bodies slot) body ≡ Some (standing.Sleeping name) → name < names
-changed_named f bodies slot names named room lt up body name h = elim (cases_eq body slot) [
-  | inl same ↦ absurd (up (body_at bodies slot) name (sym (ap stand_in (ap (body_at (changed_at f bodies slot)) same ∙ item_at-same bodies slot (option_map f (body_at bodies slot)) lt)) ∙ h))
-  | inr far ↦ (let below = named body name (sym (others_stand f bodies slot body far) ∙ h) in omega (arith, below, room))
-]
-
-disabled_up : (o : Option Body) (name : ℕ) → stand_in (option_map disabled_body o) ≡ Some (standing.Sleeping name) → ⊥
-disabled_up None name h = cc
-disabled_up (Some b) name h = cc
-
-pub disabled_named : (bodies : List (Option Body)) (slot names : ℕ) → AreNamedAsleep bodies → length bodies ≤ names → slot < length bodies → (body name : ℕ) → body_stand (changed_at disabled_body bodies slot) body ≡ Some (standing.Sleeping name) → name < names
-disabled_named bodies slot names named room lt = changed_named disabled_body bodies slot names named room lt disabled_up
-
-enabled_up : (o : Option Body) (name : ℕ) → stand_in (option_map enabled_body o) ≡ Some (standing.Sleeping name) → ⊥
-enabled_up None name h = cc
-enabled_up (Some b) name h = by b.kind h
+-- with joints that keep their ends, of which those of the body didn't sleep and don't
+pub body_changed : (old new : List (Option Body)) (joints next : List (Option BodyJoint)) (slot : ℕ) (sets : Sleeping) → length new ≤ length old → KeepEnds joints next → ((other : ℕ) → other ≢ slot → IsSleepAlike (body_at old other) (body_at new other))
+    → ((k : ℕ) → is_end_in slot (joint_at joints k) ≡ true → joint_sleep old joints k ≡ None) → ((k : ℕ) → is_end_in slot (joint_at joints k) ≡ true → joint_sleep new joints k ≡ None) → AreJointSets old joints sets → AreJointSets new next sets
+body_changed old new joints next slot sets long keep others was is are = joints_by_ends new joints next sets keep (joints_as old new joints joints sets sets (λ k. each k (is_end_in slot (joint_at joints k)) refl) (λ k. refl) are.items (let room = are.named in omega (arith, long, room)) are)
   where
-    by : (k : Kind) → Some (stand_by k None) ≡ Some (standing.Sleeping name) → ⊥
-    by Static e = cc
-    by (Kinematic course) e = cc
-    by Dynamic e = cc
+    each : (k : ℕ) (t : Bool) → is_end_in slot (joint_at joints k) ≡ t → joint_sleep new joints k ≡ joint_sleep old joints k
+    each k true e = is k e ∙ sym (was k e)
+    each k false e = joint_far old new slot (joint_at joints k) others e
 
-pub enabled_named : (bodies : List (Option Body)) (slot names : ℕ) → AreNamedAsleep bodies → length bodies ≤ names → slot < length bodies → (body name : ℕ) → body_stand (changed_at enabled_body bodies slot) body ≡ Some (standing.Sleeping name) → name < names
-enabled_named bodies slot names named room lt = changed_named enabled_body bodies slot names named room lt enabled_up
+-- ---- a body that is disabled or enabled
+
+pub disabled_off : (bodies : List (Option Body)) (slot : ℕ) → slot < length bodies → is_enabled (changed_at disabled_body bodies slot) slot ≡ false
+disabled_off bodies slot lt = ap is_enabled_in (item_at-same bodies slot (option_map disabled_body (body_at bodies slot)) lt) ∙ by (body_at bodies slot)
+  where
+    by : (o : Option Body) → is_enabled_in (option_map disabled_body o) ≡ false
+    by None = refl
+    by (Some b) = refl
+
+-- nobody that was just enabled sleeps
+pub enabled_named : (bodies : List (Option Body)) (slot : ℕ) → slot < length bodies → AreNamedAsleep bodies → AreNamedAsleep (changed_at enabled_body bodies slot)
+enabled_named bodies slot lt named k name mover h = elim (cases_eq k slot) [
+  | inl same ↦ absurd (up (body_at bodies slot) (sym (ap asleep_in (ap (body_at (changed_at enabled_body bodies slot)) same ∙ item_at-same bodies slot (option_map enabled_body (body_at bodies slot)) lt)) ∙ h))
+  | inr far ↦ (let here : body_at (changed_at enabled_body bodies slot) k ≡ body_at bodies k = item_at-set_other bodies slot (option_map enabled_body (body_at bodies slot)) k far in
+      let below = named k name (sym (ap is_mover_in here) ∙ mover) (sym (ap asleep_in here) ∙ h) in
+      let long = length-set bodies slot (option_map enabled_body (body_at bodies slot)) in
+      omega (arith, below, long))
+]
+  where
+    up : (o : Option Body) → asleep_in (option_map enabled_body o) ≡ Some name → ⊥
+    up None e = cc
+    up (Some b) e = cc
+
+joint_slept : (bodies : List (Option Body)) (o : Option BodyJoint) (name : ℕ) → sleep_with bodies (movers_of_joint bodies o) ≡ Some name → is_some o ≡ true
+joint_slept bodies None name h = cc
+joint_slept bodies (Some j) name h = refl
+
+-- the joints can follow, where those of the body didn't sleep
+pub changed_can_follow : (old new : List (Option Body)) (joints : List (Option BodyJoint)) (slot : ℕ) (sets : Sleeping) → length new ≤ length old → ((other : ℕ) → other ≢ slot → IsSleepAlike (body_at old other) (body_at new other)) → ((k : ℕ) → is_end_in slot (joint_at joints k) ≡ true → joint_sleep old joints k ≡ None) → AreNamedAsleep new
+    → AreJointSets old joints sets → CanFollow (sleep_at sets.names) (joint_sleep new joints) (length sets.names) (length sets.sets)
+changed_can_follow old new joints slot sets long others up named are = record {
+  keeps = λ k name h. inl (still k name h);
+  whole = λ k other name h now. still k name h;
+  named = λ k name h. let below = joint_named new (joint_at joints k) name named h in let room = are.named in omega (arith, below, room, long);
+  below = λ k name h. are.items k (joint_slept new (joint_at joints k) name h);
+}
+  where
+    by_end : (k name : ℕ) → sleep_at sets.names k ≡ Some name → (t : Bool) → is_end_in slot (joint_at joints k) ≡ t → joint_sleep new joints k ≡ Some name
+    by_end k name h true t = let both : None ≡ Some name = sym (are.asleep k ∙ up k t) ∙ h in cc
+    by_end k name h false t = joint_far old new slot (joint_at joints k) others t ∙ sym (are.asleep k) ∙ h
+
+    still : (k name : ℕ) → sleep_at sets.names k ≡ Some name → joint_sleep new joints k ≡ Some name
+    still k name h = by_end k name h (is_end_in slot (joint_at joints k)) refl
+
+-- those with no end at the slot
+pub changed_beside : (old new : List (Option Body)) (joints : List (Option BodyJoint)) (slot : ℕ) (sets : Sleeping) → ((other : ℕ) → other ≢ slot → IsSleepAlike (body_at old other) (body_at new other)) → AreJointSets old joints sets
+    → (k : ℕ) → IsOfNone (slot ∷ []) (joint_at joints k) → joint_sleep new joints k ≡ sleep_at sets.names k
+changed_beside old new joints slot sets others are k off = joint_far old new slot (joint_at joints k) others (off slot (contains_head slot [])) ∙ sym (are.asleep k)
 
 -- ---- joints without their impulses
 

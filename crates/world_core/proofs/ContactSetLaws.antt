@@ -1,4 +1,4 @@
--- Where a contact stands by its number is the set that the census has it in.
+-- The contact with a number stands in the set that the census has the one with its key in.
 use Rattle.std.proofs.Common.{◌≡◌, ◌∙◌, ◌==◌, ◌&&◌, ◌||◌, ℕ, Bool, true, false, cond, List, [], ◌∷◌, Option, Some, None, is_none, inl, inr, refl, sym, ap, ap₂, subst}
 use Rattle.std.specs.Prelude.{Contains, option_map}
 use Rattle.std.proofs.lemmas.Bool.{false≢true}
@@ -13,51 +13,15 @@ use Rattle.contacts_base.specs.Evaluate.{touches}
 use Rattle.graph_colours.proofs.PlaceLemmas.{is_same, same_from}
 use Rattle.islands.proofs.JoinLemmas.{contains_cases, contains_head, contains_tail}
 use Rattle.packed_sets.proofs.ItemLaws.{none_in}
-use Rattle.packed_sets.specs.declared.stands.Stand.{Stand}
-use Rattle.packed_sets.specs.declared.stands.Stand.TheVariants as standing
 use Rattle.plain_world.specs.declared.body.Body.{Body}
-use Rattle.plain_world.specs.declared.body.SetName.TheVariants as sets
+use Rattle.plain_world.specs.declared.body.SetName.{SetName}
 use Rattle.plain_world.specs.declared.kind.Kind.{Kind}
 use Rattle.plain_world.specs.declared.kind.Kind.TheVariants.{Static, Kinematic, Dynamic}
 use Rattle.plain_world.specs.Changes.{is_awake_in}
 use Rattle.plain_world.specs.Kinds.{is_dynamic}
 use Rattle.plain_world.specs.Slots.{body_at}
-use Rattle.solver_sets.specs.Census.{standing_apart, standing_of_contact}
+use Rattle.solver_sets.specs.Census.{standing_apart, standing_between, standing_of_contact}
 use Rattle.solver_sets.specs.EachOnce.{has_key, is_same_shape}
-use Rattle.world_core_base.specs.Stands.{body_stand, contact_stand, is_awake_stand, set_of, stand_apart, stand_between, stand_by, stand_in, stand_of_contact}
-use Rattle.world_core.proofs.KeepLaws.{two_set}
-
--- ---- one contact
-
-awake_in : (o : Option Body) → is_awake_stand (stand_in o) ≡ is_awake_in o
-awake_in None = refl
-awake_in (Some b) = by_parts b.enabled b.kind b.asleep
-  where
-    by_parts : (e : Bool) (k : Kind) (n : Option ℕ) → is_awake_stand (Some (cond e (stand_by k n) standing.Disabled)) ≡ cond (cond e (is_dynamic k) false) (is_none n) false
-    by_parts false k n = refl
-    by_parts true Static n = refl
-    by_parts true (Kinematic course) n = refl
-    by_parts true Dynamic None = refl
-    by_parts true Dynamic (Some name) = refl
-
-listed_set : (t : Bool) → set_of (cond t standing.Awake standing.Disabled) ≡ cond t sets.Awake sets.Disabled
-listed_set true = refl
-listed_set false = refl
-
-apart_set : (bodies : List (Option Body)) (a b : ℕ) → set_of (stand_apart (body_stand bodies a) (body_stand bodies b)) ≡ standing_apart bodies a b
-apart_set bodies a b =
-    listed_set (is_awake_stand (body_stand bodies a) || is_awake_stand (body_stand bodies b)) ∙ (λ i. cond (awake_in (body_at bodies a) i || awake_in (body_at bodies b) i) sets.Awake sets.Disabled)
-
-either_set : (t : Bool) (s u : Stand) → set_of (cond t s u) ≡ cond t (set_of s) (set_of u)
-either_set true s u = refl
-either_set false s u = refl
-
-pub contact_set : (bodies : List (Option Body)) (e : ContactEntry) → set_of (stand_of_contact bodies (numbered_of e)) ≡ standing_of_contact bodies e
-contact_set bodies e =
-    let a = e.key.first.slot in
-    let b = e.key.second.slot in
-    either_set (touches e.contact) (stand_between (body_stand bodies a) (body_stand bodies b)) (stand_apart (body_stand bodies a) (body_stand bodies b))
-    ∙ (λ i. cond (touches e.contact) (two_set (body_at bodies a) (body_at bodies b) i) (apart_set bodies a b i))
 
 -- ---- the contact of a key
 
@@ -109,22 +73,32 @@ key_with : (o : Option NumberedContact) (key : ContactKey) → key_of o ≡ Some
 key_with None key h = cc
 key_with (Some c) key h = let q : Some c.key ≡ Some key = h in let own : c.key ≡ key = cc in (c, refl, own)
 
+-- who has a key is there
+pub keyed : (o : Option NumberedContact) (key : ContactKey) → key_of o ≡ Some key → None ≡ o → ⊥
+keyed None key h e = cc
+keyed (Some c) key h e = cc
+
+-- where a contact with a number stands
+abbrev pub set_of_numbered : List (Option Body) → NumberedContact → SetName
+set_of_numbered bodies c = cond c.touching (standing_between bodies c.key.first.slot c.key.second.slot) (standing_apart bodies c.key.first.slot c.key.second.slot)
+
 -- the contact with a number stands where the census has the one with its key
-pub numbered_set : (bodies : List (Option Body)) (contacts : List ContactEntry) (numbered : List (Option NumberedContact)) (number : ℕ) (key : ContactKey) → AreNumbered contacts numbered → number_key_at numbered number ≡ Some key
-    → option_map set_of (contact_stand bodies numbered number) ≡ option_map (standing_of_contact bodies) (find (has_key key) contacts)
-numbered_set bodies contacts numbered number key are at = by (find (has_key key) contacts) refl
+pub numbered_set : (bodies : List (Option Body)) (contacts : List ContactEntry) (numbered : List (Option NumberedContact)) (number : ℕ) (key : ContactKey) (c : NumberedContact) → AreNumbered contacts numbered → number_key_at numbered number ≡ Some key → contact_at numbered number ≡ Some c
+    → Some (set_of_numbered bodies c) ≡ option_map (standing_of_contact bodies) (find (has_key key) contacts)
+numbered_set bodies contacts numbered number key c are at here = by (find (has_key key) contacts) refl
   where
-    by : (o : Option ContactEntry) → find (has_key key) contacts ≡ o → option_map set_of (contact_stand bodies numbered number) ≡ option_map (standing_of_contact bodies) (find (has_key key) contacts)
+    own : c.key ≡ key
+    own = let o = key_with (contact_at numbered number) key at in let same : Some o.0 ≡ Some c = sym o.1 ∙ here in let is : o.0 ≡ c = cc in ap (λ (x : NumberedContact). x.key) (sym is) ∙ o.2
+
+    by : (o : Option ContactEntry) → find (has_key key) contacts ≡ o → Some (set_of_numbered bodies c) ≡ option_map (standing_of_contact bodies) (find (has_key key) contacts)
     by None e =
-        let own = key_with (contact_at numbered number) key at in
-        let entry = entry_at contacts numbered number own.0 are own.1 in
-        absurd (not_of_key contacts key entry.entry e entry.there (ap (λ (c : NumberedContact). c.key) entry.is ∙ own.2))
+        let entry = entry_at contacts numbered number c are here in
+        absurd (not_of_key contacts key entry.entry e entry.there (ap (λ (c : NumberedContact). c.key) entry.is ∙ own))
     by (Some f) e =
-        let own = key_with (contact_at numbered number) key at in
         let found = of_key contacts key f e in
         let other = number_for contacts numbered f are found.there in
-        let same : numbered_of f ≡ own.0 = one_contact contacts numbered other.number number (numbered_of f) own.0 are other.at own.1 (found.has ∙ sym own.2) in
-        ap (λ (o : Option NumberedContact). option_map set_of (option_map (stand_of_contact bodies) o)) (own.1 ∙ ap Some (sym same)) ∙ ap Some (contact_set bodies f) ∙ ap (option_map (standing_of_contact bodies)) (sym e)
+        let same : numbered_of f ≡ c = one_contact contacts numbered other.number number (numbered_of f) c are other.at here (found.has ∙ sym own) in
+        ap (λ (x : NumberedContact). Some (set_of_numbered bodies x)) (sym same) ∙ ap (option_map (standing_of_contact bodies)) (sym e)
 
 -- a key that no number has is that of no contact
 pub unnumbered_set : (contacts : List ContactEntry) (numbered : List (Option NumberedContact)) (key : ContactKey) → AreNumbered contacts numbered → ((number : ℕ) → number_key_at numbered number ≡ Some key → ⊥) → find (has_key key) contacts ≡ None

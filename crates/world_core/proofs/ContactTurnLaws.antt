@@ -1,5 +1,5 @@
 -- What begins or ends to touch has movers that are awake once all constraints that change had their turn: so its
--- contact stands where it stood.
+-- contact sleeps with nobody.
 use Rattle.std.proofs.Common.{◌≡◌, ◌∙◌, ◌==◌, ◌&&◌, ◌⊎◌, ℕ, ◌<◌, All, Bool, true, false, cond, List, [], ◌∷◌, length, map, Option, Some, None, nat_lt, inl, inr, refl, sym, ap, subst, arith}
 use Rattle.std.specs.Prelude.{Contains, filter_map, option_map}
 use Rattle.std.specs.List.{cons_option}
@@ -22,9 +22,6 @@ use Rattle.graph_colours.specs.declared.member.Movers.{Movers}
 use Rattle.islands.proofs.JoinLemmas.{contains_cases, contains_head, contains_tail}
 use Rattle.islands.specs.Labels.{Labels, label_at, sleeping_name}
 use Rattle.packed_sets.proofs.ItemLaws.{none_in}
-use Rattle.packed_sets.specs.declared.stands.Stand.{Stand}
-use Rattle.packed_sets.specs.declared.stands.Stand.TheVariants as standing
-use Rattle.packed_sets.specs.Stands.{is_listed}
 use Rattle.plain_world.specs.declared.body.Body.{Body}
 use Rattle.plain_world.specs.declared.kind.Kind.{Kind}
 use Rattle.plain_world.specs.declared.kind.Kind.TheVariants.{Static, Kinematic, Dynamic}
@@ -42,20 +39,19 @@ use Rattle.sleep_wake.specs.declared.change.Change.TheVariants.{Begin, End}
 use Rattle.sleep_wake.specs.Waking.{movers_woken}
 use Rattle.solver_sets.proofs.CollideLaws.{same_key}
 use Rattle.solver_sets.specs.Alike.{AreAlike}
-use Rattle.solver_sets.specs.Ties.{IsKeyWithin, contact_bond, is_enabled, is_enabled_in, key_changes, key_ties, movers_if, movers_with, tie_of}
+use Rattle.solver_sets.specs.Ties.{IsKeyWithin, contact_bond, contact_movers, is_enabled, is_enabled_in, key_changes, key_ties, movers_if, movers_with, tie_of}
 use Rattle.world_core.proofs.ContactSetLaws.{and_first, and_second}
-use Rattle.world_core.proofs.KeepLaws.{named_low}
+use Rattle.world_core.proofs.KeepLaws.{named_low, tie_up}
 use Rattle.world_core.proofs.PartLaws.{kept_of}
 use Rattle.world_core.proofs.RisingLaws.{contacts_after_rise}
 use Rattle.world_core.proofs.StepLaws.{AreFound, HasChanged, has_changed}
 use Rattle.world_core.proofs.TellingLaws.{HaveSlept, after_changes_slept}
 use Rattle.world_core.specs.Inside.{IsWhole}
-use Rattle.world_core_base.proofs.ContactStandLaws.{IsUp, awake_stands}
-use Rattle.world_core_base.proofs.StandLaws.{body_below, sleeper_of, told_at, told_other, told_stands}
+use Rattle.world_core_base.proofs.AsleepLaws.{mover_below, told_moves, told_under}
 use Rattle.world_core_base.proofs.TellLaws.{length-told}
-use Rattle.world_core_base.specs.Turned.{AreAwakeStands, AreTurned, AreUpAt}
+use Rattle.world_core_base.specs.Turned.{AreTurned}
 use Rattle.world_core_base.specs.ContactBodies.{AreContactsOf, IsContactOf}
-use Rattle.world_core_base.specs.Stands.{AreNamedAsleep, body_stand, mover_stand, stand_by, stand_in, stand_of}
+use Rattle.world_core_base.specs.Asleep.{AreNamedAsleep, sleep_with}
 use Rattle.world_rules.proofs.ActingLaws.{awake_name}
 use Rattle.world_rules.proofs.KeptStep.{changed_in, collide_kept, collided_in, collided_world}
 use Rattle.world_rules.proofs.PairLaws.{contacts_of_after, has_bodies_after}
@@ -233,55 +229,6 @@ key_found others contacts key all own only =
 
 -- ---- the bodies of a contact
 
-awake_stand_in : (o : Option Body) → is_mover_in o ≡ true → ((b : Body) → o ≡ Some b → b.asleep ≡ None) → stand_in o ≡ Some standing.Awake
-awake_stand_in None moves up = absurd (false≢true moves)
-awake_stand_in (Some b) moves up = by_parts b.enabled b.kind b.asleep moves (up b refl)
-  where
-    by_parts : (e : Bool) (k : Kind) (n : Option ℕ) → cond e (is_dynamic k) false ≡ true → n ≡ None → Some (cond e (stand_by k n) standing.Disabled) ≡ Some standing.Awake
-    by_parts false k n m none = absurd (false≢true m)
-    by_parts true Static n m none = absurd (false≢true m)
-    by_parts true (Kinematic course) n m none = absurd (false≢true m)
-    by_parts true Dynamic None m none = refl
-    by_parts true Dynamic (Some name) m none = cc
-
-still_stand_in : (o : Option Body) → is_enabled_in o ≡ true → is_mover_in o ≡ false → IsUp (stand_in o)
-still_stand_in None on still = absurd (false≢true on)
-still_stand_in (Some b) on still = by_parts b.enabled b.kind b.asleep on still
-  where
-    by_parts : (e : Bool) (k : Kind) (n : Option ℕ) → e ≡ true → cond e (is_dynamic k) false ≡ false → IsUp (Some (cond e (stand_by k n) standing.Disabled))
-    by_parts false k n on m = absurd (false≢true on)
-    by_parts true Static n on m = (standing.Static, refl, inl refl)
-    by_parts true (Kinematic course) n on m = (standing.Carried, refl, inr (inr refl))
-    by_parts true Dynamic n on m = absurd (false≢true (sym m))
-
-awake_is_up : (o : Option Body) → stand_in o ≡ Some standing.Awake → IsUp (stand_in o)
-awake_is_up o e = (standing.Awake, e, inr (inl refl))
-
--- two enabled bodies, one of them a mover, and those that are movers awake
-pub both_up : (labels : Labels) (bodies : List (Option Body)) (a b : ℕ) → AreTold bodies labels → is_enabled bodies a ≡ true → is_enabled bodies b ≡ true → (moves bodies a ≡ true) ⊎ (moves bodies b ≡ true) → ((m : Movers) → movers_with bodies a b ≡ Some m → AreUp labels m)
-    → AreAwakeStands (body_stand bodies a) (body_stand bodies b)
-both_up labels bodies a b told on_a on_b one up = by (moves bodies a) (moves bodies b) refl refl
-  where
-    awake_at : (slot : ℕ) → moves bodies slot ≡ true → sleeping_name (label_at labels slot) ≡ None → body_stand bodies slot ≡ Some standing.Awake
-    awake_at slot mover none = awake_stand_in (body_at bodies slot) mover (λ c at. told slot c at ∙ none)
-
-    movers_are : (t u : Bool) → moves bodies a ≡ t → moves bodies b ≡ u → movers_with bodies a b ≡ movers_if t u a b
-    movers_are t u e f = λ i. cond (on_a i && on_b i) (movers_if (e i) (f i) a b) None
-
-    by : (t u : Bool) → moves bodies a ≡ t → moves bodies b ≡ u → AreAwakeStands (body_stand bodies a) (body_stand bodies b)
-    by true true e f =
-        let m = up (record { first = a; second = Some b }) (movers_are true true e f) in
-        let first = awake_at a e m.first in
-        let second = awake_at b f (m.second b refl) in
-        awake_stands (body_stand bodies a) (body_stand bodies b) (awake_is_up (body_at bodies a) first) (awake_is_up (body_at bodies b) second) (inl first)
-    by true false e f =
-        let first = awake_at a e (up (record { first = a; second = None }) (movers_are true false e f)).first in
-        awake_stands (body_stand bodies a) (body_stand bodies b) (awake_is_up (body_at bodies a) first) (still_stand_in (body_at bodies b) on_b f) (inl first)
-    by false true e f =
-        let second = awake_at b f (up (record { first = b; second = None }) (movers_are false true e f)).first in
-        awake_stands (body_stand bodies a) (body_stand bodies b) (still_stand_in (body_at bodies a) on_a e) (awake_is_up (body_at bodies b) second) (inr second)
-    by false false e f = elim one [ inl x ↦ absurd (false≢true (sym e ∙ x)) | inr x ↦ absurd (false≢true (sym f ∙ x)) ]
-
 -- a body with shapes that take part is enabled
 pub shapes_on : (o : Option Body) (index : ℕ) → index < shapes_in o → is_enabled_in o ≡ true
 shapes_on None index lt = absurd (omega (arith, lt))
@@ -297,12 +244,11 @@ shapes_on (Some b) index lt = by b.enabled refl lt
 abbrev changes_in : World → List (Change Constraint)
 changes_in w = key_changes w.plain.bodies (collided_in w).begin (collided_in w).end
 
--- where a contact begins or ends to touch, of bodies that are there
-entry_up : (w : World) (e : ContactEntry) → IsKept w → AreKeysRising (collided_in w).now → HasBodies w.plain.bodies e → IsContactOf w.plain.bodies e
-    → ((m : Movers) → movers_with w.plain.bodies e.key.first.slot e.key.second.slot ≡ Some m → Contains (changes_in w) (Begin (tie_for e.key m)) ⊎ Contains (changes_in w) (End (tie_for e.key m))) → AreUpAt (collided_world w).plain.bodies e.key
-entry_up w e k rises has is due =
-    both_up (changed_in w).labels (collided_world w).plain.bodies a b (collide_kept w k rises).kept.told (alike.enabled a ∙ shapes_on (body_at w.plain.bodies a) e.key.first.index has.first_shape) (alike.enabled b ∙ shapes_on (body_at w.plain.bodies b) e.key.second.index has.second_shape)
-    (elim is.mover [ inl x ↦ inl (alike.movers a ∙ x) | inr x ↦ inr (alike.movers b ∙ x) ]) (λ m at. elim (due m (sym same ∙ at)) [ inl begins ↦ up (Begin (tie_for e.key m)) begins | inr ends ↦ up (End (tie_for e.key m)) ends ])
+-- a contact that begins or ends to touch
+entry_up : (w : World) (e : ContactEntry) → IsKept w → AreKeysRising (collided_in w).now
+    → ((m : Movers) → movers_with w.plain.bodies e.key.first.slot e.key.second.slot ≡ Some m → Contains (changes_in w) (Begin (tie_for e.key m)) ⊎ Contains (changes_in w) (End (tie_for e.key m))) → sleep_with (collided_world w).plain.bodies (contact_movers (collided_world w).plain.bodies e.key) ≡ None
+entry_up w e k rises due = tie_up (collided_world w).plain.bodies (changed_in w).labels a b (collide_kept w k rises).kept.told
+    (λ m at. elim (due m (sym same ∙ at)) [ inl begins ↦ (up (Begin (tie_for e.key m)) begins).first | inr ends ↦ (up (End (tie_for e.key m)) ends).first ])
   where
     a : ℕ
     a = e.key.first.slot
@@ -322,18 +268,12 @@ entry_up w e k rises has is due =
 within_all : (bodies : List (Option Body)) (contacts : List ContactEntry) → All (HasBodies bodies) contacts → AreWithin contacts
 within_all bodies contacts there = All-weaker (HasBodies bodies) (λ e. IsKeyWithin e.key) (λ e h. h.named) contacts there
 
--- what the collide of a world finds leaves each contact where it stood, or ends it where it stands in a list
+-- what the collide of a world finds to begin or to end to touch sleeps with nobody
 pub world_turned : (w : World) → IsKept w → AreKeysRising (collided_in w).now → AreTurned (collided_world w).plain.bodies w.plain.contacts (collided_in w).now
-world_turned w k rises = record {
-  ended = λ key only. ap (λ (s : Stand). is_listed (Some s)) (up_end key only).between;
-  turned = λ e there only. elim only [ inl ends ↦ up_end e.key ends | inr begins ↦ up_begin e.key begins ];
-}
+world_turned w k rises key only = elim only [ inl ends ↦ up_end ends | inr begins ↦ up_begin begins ]
   where
     after : All (HasBodies w.plain.bodies) (collided_in w).now
     after = has_bodies_after w.plain.bodies w.plain.joints w.plain.contacts k.bodies k.matched.few k.there
-
-    of_after : AreContactsOf w.plain.bodies (collided_in w).now
-    of_after = contacts_of_after w.plain.bodies w.plain.joints w.plain.contacts k.bodies k.pairs
 
     old_within : AreWithin w.plain.contacts
     old_within = within_all w.plain.bodies w.plain.contacts k.there
@@ -341,19 +281,19 @@ world_turned w k rises = record {
     new_within : AreWithin (collided_in w).now
     new_within = within_all w.plain.bodies (collided_in w).now after
 
-    up_end : (key : ContactKey) → TouchesOnlyIn (collided_in w).now w.plain.contacts key → AreUpAt (collided_world w).plain.bodies key
-    up_end key only =
+    up_end : TouchesOnlyIn (collided_in w).now w.plain.contacts key → sleep_with (collided_world w).plain.bodies (contact_movers (collided_world w).plain.bodies key) ≡ None
+    up_end only =
         let e = only.entry in
         let found : Contains (collided_in w).end e.key = subst (Contains (collided_in w).end) (sym only.has) (key_found (collided_in w).now w.plain.contacts key new_within old_within only) in
-        subst (AreUpAt (collided_world w).plain.bodies) only.has
-        (entry_up w e k rises (All-contains (HasBodies w.plain.bodies) w.plain.contacts e k.there only.there) (All-contains (IsContactOf w.plain.bodies) w.plain.contacts e k.pairs only.there) (λ m at. inr (key_ends w.plain.bodies (collided_in w).begin (collided_in w).end e.key m found at)))
+        subst (λ (at : ContactKey). sleep_with (collided_world w).plain.bodies (contact_movers (collided_world w).plain.bodies at) ≡ None) only.has
+        (entry_up w e k rises (λ m at. inr (key_ends w.plain.bodies (collided_in w).begin (collided_in w).end e.key m found at)))
 
-    up_begin : (key : ContactKey) → TouchesOnlyIn w.plain.contacts (collided_in w).now key → AreUpAt (collided_world w).plain.bodies key
-    up_begin key only =
+    up_begin : TouchesOnlyIn w.plain.contacts (collided_in w).now key → sleep_with (collided_world w).plain.bodies (contact_movers (collided_world w).plain.bodies key) ≡ None
+    up_begin only =
         let e = only.entry in
         let found : Contains (collided_in w).begin e.key = subst (Contains (collided_in w).begin) (sym only.has) (key_found w.plain.contacts (collided_in w).now key old_within new_within only) in
-        subst (AreUpAt (collided_world w).plain.bodies) only.has
-        (entry_up w e k rises (All-contains (HasBodies w.plain.bodies) (collided_in w).now e after only.there) (All-contains (IsContactOf w.plain.bodies) (collided_in w).now e of_after only.there) (λ m at. inl (key_begins w.plain.bodies (collided_in w).begin (collided_in w).end e.key m found at)))
+        subst (λ (at : ContactKey). sleep_with (collided_world w).plain.bodies (contact_movers (collided_world w).plain.bodies at) ≡ None) only.has
+        (entry_up w e k rises (λ m at. inl (key_begins w.plain.bodies (collided_in w).begin (collided_in w).end e.key m found at)))
 
 -- ---- the same of what a step has found
 
@@ -369,27 +309,10 @@ turned_found w s t changes pending is same found collided =
 
 -- ---- bodies that were told
 
-sleeps_as : (o : Option ℕ) (name : ℕ) → mover_stand o ≡ standing.Sleeping name → o ≡ Some name
-sleeps_as None name h = cc
-sleeps_as (Some n) name h = cc
-
 -- whoever sleeps then does so under the name of a body's slot
 pub told_named : (bodies : List (Option Body)) (s : Acting Constraint) → IsConsistent constraint_number s → AreNamedAsleep (told s.labels bodies)
-told_named bodies s consistent slot name h = by (body_at bodies slot) refl
-  where
-    low : (b : Body) → body_at bodies slot ≡ Some b → sleeping_name (label_at s.labels slot) ≡ Some name → name < length (told s.labels bodies)
-    low b at e =
-        let below = named_low s (length bodies) slot name consistent (body_below bodies slot b at) e in
-        let long = length-told s.labels bodies in
-        omega (arith, below, long)
-
-    by_mover : (b : Body) → body_at bodies slot ≡ Some b → stand_of (told_body (label_at s.labels slot) b) ≡ standing.Sleeping name → (t : Bool) → is_mover b ≡ t → name < length (told s.labels bodies)
-    by_mover b at e true m = low b at (sleeps_as (sleeping_name (label_at s.labels slot)) name (sym (told_stands (label_at s.labels slot) b m) ∙ e))
-    by_mover b at e false m = absurd (false≢true (sym m ∙ (sleeper_of b name (sym (told_other (label_at s.labels slot) b m) ∙ e)).mover))
-
-    by : (o : Option Body) → body_at bodies slot ≡ o → name < length (told s.labels bodies)
-    by None e = let none : None ≡ Some (standing.Sleeping name) = sym (ap stand_in (told_at s.labels bodies slot ∙ ap (option_map (told_body (label_at s.labels slot))) e)) ∙ h in cc
-    by (Some b) e =
-        let own : Some (stand_of (told_body (label_at s.labels slot) b)) ≡ Some (standing.Sleeping name) = sym (ap stand_in (told_at s.labels bodies slot ∙ ap (option_map (told_body (label_at s.labels slot))) e)) ∙ h in
-        let sleeps : stand_of (told_body (label_at s.labels slot) b) ≡ standing.Sleeping name = cc in
-        by_mover b e sleeps (is_mover b) refl
+told_named bodies s consistent slot name mover h =
+    let moved : moves bodies slot ≡ true = sym (told_moves s.labels bodies slot) ∙ mover in
+    let below = named_low s (length bodies) slot name consistent (mover_below bodies slot moved) (sym (told_under s.labels bodies slot moved) ∙ h) in
+    let long = length-told s.labels bodies in
+    omega (arith, below, long)

@@ -6,6 +6,7 @@ use Rattle.std.specs.Option.{option_map_or}
 use Rattle.contacts.specs.Constraints.{constraint_number}
 use Rattle.contacts.specs.declared.constraint.Constraint.{Constraint}
 use Rattle.graph_colours.specs.declared.member.Member.{Member}
+use Rattle.graph_colours.specs.declared.member.Movers.{Movers}
 use Rattle.islands.specs.declared.label.IslandState.{IslandState}
 use Rattle.islands.specs.declared.label.IslandState.TheVariants.{Whole, Loose, Asleep}
 use Rattle.islands.specs.declared.label.Label.{Label}
@@ -25,21 +26,18 @@ use Rattle.sleep_wake.specs.Sleeping.{islands_woken}
 use Rattle.sleep_wake.specs.Waking.{movers_woken, set_woken, woken_at}
 use Rattle.sleep_wake.specs.declared.change.Change.{Change}
 use Rattle.sleep_wake.specs.declared.change.Change.TheVariants.{Begin, End}
-use Rattle.packed_sets.specs.declared.stands.Stand.{Stand}
-use Rattle.packed_sets.specs.declared.stands.Stand.TheVariants as standing
 use Rattle.plain_world.specs.declared.joint.BodyJoint.{BodyJoint}
 use Rattle.plain_world.specs.Kinds.{is_dynamic}
 use Rattle.solver_sets.specs.Census.{mover_set, set_with, standing_of_joint}
-use Rattle.world_core_base.specs.Stands.{AreNamedAsleep, body_stand, of_mover, set_of, stand_between, stand_by, stand_in, stand_of, stand_of_joint, stand_with, takes_part}
-use Rattle.world_core_base.specs.Telling.{KeepTogether, asleep_in}
-use Rattle.world_core_base.proofs.StandLaws.{awake_listed, body_below, stand_asleep}
-use Rattle.packed_sets.specs.Stands.{is_listed}
+use Rattle.world_core_base.specs.Asleep.{AreNamedAsleep, asleep_in, sleep_with}
+use Rattle.world_core_base.specs.Telling.{KeepTogether}
+use Rattle.world_core_base.proofs.AsleepLaws.{body_below}
 use Rattle.plain_world.specs.Plain.{Plain}
 use Rattle.world_core.specs.Inside.{IsWhole}
 use Rattle.world_rules.specs.Sets.{acting_of}
 use Rattle.world_rules.specs.Sound.{AreTold}
 use Rattle.world_rules.specs.World.{World}
-use Rattle.solver_sets.specs.Ties.{is_enabled_in}
+use Rattle.solver_sets.specs.Ties.{movers_with}
 use Rattle.world_rules.specs.Sets.{stirred}
 use Rattle.world_rules.proofs.ActingLaws.{IsWoken, awake_name, waking_kept}
 use Rattle.world_rules.proofs.KeptBodies.{IsSeen, seen, stirred_can_go}
@@ -211,101 +209,31 @@ named_low s n slot name consistent lt h =
     let low : name ≤ slot = consistent.islands.partition.low slot (record { name = name; state = Asleep }) (asleep_label (label_at s.labels slot) name h) in
     omega (arith, low, lt)
 
--- ---- sets of bodies and joints that are sound
+-- ---- names
 
 -- in a sound world whoever sleeps does so under the name of a slot no greater than its own
 pub named_asleep : (bodies : List (Option Body)) (s : Acting Constraint) → IsConsistent constraint_number s → AreTold bodies s.labels → AreNamedAsleep bodies
-named_asleep bodies s consistent told slot name h = by (body_at bodies slot) refl
+named_asleep bodies s consistent told slot name mover h = by (body_at bodies slot) refl h
   where
-    by : (o : Option Body) → body_at bodies slot ≡ o → name < length bodies
-    by None e = let none : None ≡ Some (standing.Sleeping name) = sym (ap stand_in e) ∙ h in cc
-    by (Some b) e =
-        let own : Some (stand_of b) ≡ Some (standing.Sleeping name) = sym (ap stand_in e) ∙ h in
-        let asleep : b.asleep ≡ Some name = stand_asleep b name (cc) in
-        named_low s (length bodies) slot name consistent (body_below bodies slot b e) (sym (told slot b e) ∙ asleep)
+    by : (o : Option Body) → body_at bodies slot ≡ o → asleep_in o ≡ Some name → name < length bodies
+    by None e k = cc
+    by (Some b) e k = named_low s (length bodies) slot name consistent (body_below bodies slot b e) (sym (told slot b e) ∙ k)
 
 -- the labels that act are the islands of the lists
 pub told_acting : (p : Plain) → AreTold p.bodies p.islands → AreTold p.bodies (acting_of p).labels
 unfolding acting_of
 told_acting p told = told
 
--- a body that is changed, once those are awake whom that wakes, stands in a list
-pub stirred_listed : (w : World) (s : Acting Constraint) (slot : ℕ) (b : Body) → IsWhole w s → body_at w.plain.bodies slot ≡ Some b → is_listed (body_stand (woken_bodies w.plain s (stirred_slots w.plain slot)) slot) ≡ true
-stirred_listed w s slot b is at = subst (λ (a : Acting Constraint). is_listed (body_stand (woken_bodies w.plain a (stirred_slots w.plain slot)) slot) ≡ true) (sym is.same) (ap (λ (o : Option Body). is_listed (stand_in o)) now.at ∙ awake_listed now.body up)
+-- ---- what ties bodies that are awake
+
+-- what ties two bodies sleeps with nobody, where the first of those that are movers is awake
+pub tie_up : (bodies : List (Option Body)) (labels : Labels) (a b : ℕ) → AreTold bodies labels → ((m : Movers) → movers_with bodies a b ≡ Some m → sleeping_name (label_at labels m.first) ≡ None) → sleep_with bodies (movers_with bodies a b) ≡ None
+tie_up bodies labels a b told up = by (movers_with bodies a b) refl
   where
-    k : IsKept w
-    k = kept_of w s is
+    here : (m : Movers) → movers_with bodies a b ≡ Some m → (o : Option Body) → body_at bodies m.first ≡ o → asleep_in o ≡ None
+    here m e None at = refl
+    here m e (Some body) at = told m.first body at ∙ up m e
 
-    v : World
-    v = record w { plain = stirred w.plain slot }
-
-    now : IsSeen w (stirred_slots w.plain slot) slot b
-    now = seen w (stirred_slots w.plain slot) slot b k at
-
-    up : is_mover now.body ≡ true → now.body.asleep ≡ None
-    up mover =
-        let wk : IsWoken w (stirred_slots w.plain slot) = waking_kept w (stirred_slots w.plain slot) k in
-        let awake : is_mover_awake v.plain.islands slot ≡ true = (stirred_can_go w slot k).up (ap is_mover_in now.at ∙ mover) in
-        wk.kept.told slot now.body now.at ∙ awake_name (label_at v.plain.islands slot) awake
-
--- ---- the sets, and the census
-
--- where a body stands is in the set that the census has it in
-pub body_set : (b : Body) → set_of (stand_of b) ≡ standing_of b
-body_set b = by_parts b.enabled b.kind b.asleep
-  where
-    by_parts : (e : Bool) (k : Kind) (n : Option ℕ) → set_of (cond e (stand_by k n) standing.Disabled) ≡ cond e (kind_set k n) sets.Disabled
-    by_parts false k n = refl
-    by_parts true Static n = refl
-    by_parts true (Kinematic course) n = refl
-    by_parts true Dynamic None = refl
-    by_parts true Dynamic (Some name) = refl
-
-pub body_set_in : (o : Option Body) → option_map set_of (stand_in o) ≡ option_map standing_of o
-body_set_in None = refl
-body_set_in (Some b) = ap Some (body_set b)
-
--- the same of joints
-pub part_in : (o : Option Body) → takes_part (stand_in o) ≡ is_enabled_in o
-part_in None = refl
-part_in (Some b) = by_parts b.enabled b.kind b.asleep
-  where
-    by_parts : (e : Bool) (k : Kind) (n : Option ℕ) → takes_part (Some (cond e (stand_by k n) standing.Disabled)) ≡ e
-    by_parts false k n = refl
-    by_parts true Static n = refl
-    by_parts true (Kinematic course) n = refl
-    by_parts true Dynamic None = refl
-    by_parts true Dynamic (Some name) = refl
-
-mover_in : (o : Option Body) → option_map set_of (of_mover (stand_in o)) ≡ mover_set o
-mover_in None = refl
-mover_in (Some b) = by_parts b.enabled b.kind b.asleep
-  where
-    by_parts : (e : Bool) (k : Kind) (n : Option ℕ) → option_map set_of (of_mover (Some (cond e (stand_by k n) standing.Disabled))) ≡ cond (cond e (is_dynamic k) false) (Some (cond e (kind_set k n) sets.Disabled)) None
-    by_parts false k n = refl
-    by_parts true Static n = refl
-    by_parts true (Kinematic course) n = refl
-    by_parts true Dynamic None = refl
-    by_parts true Dynamic (Some name) = refl
-
-with_sets : (a b : Option Stand) → set_of (stand_with a b) ≡ set_with (option_map set_of a) (option_map set_of b)
-with_sets None None = refl
-with_sets None (Some b) = refl
-with_sets (Some a) b = refl
-
-between_sets : (t : Bool) (s : Stand) → set_of (cond t s standing.Disabled) ≡ cond t (set_of s) sets.Disabled
-between_sets true s = refl
-between_sets false s = refl
-
--- what ties two bodies
-pub two_set : (a b : Option Body) → set_of (stand_between (stand_in a) (stand_in b)) ≡ cond (is_enabled_in a && is_enabled_in b) (set_with (mover_set a) (mover_set b)) sets.Disabled
-two_set a b =
-    between_sets (takes_part (stand_in a) && takes_part (stand_in b)) (stand_with (of_mover (stand_in a)) (of_mover (stand_in b)))
-    ∙ (λ i. cond (part_in a i && part_in b i) ((with_sets (of_mover (stand_in a)) (of_mover (stand_in b)) ∙ (λ k. set_with (mover_in a k) (mover_in b k))) i) sets.Disabled)
-
-pub joint_set : (bodies : List (Option Body)) (j : BodyJoint) → set_of (stand_of_joint bodies j) ≡ standing_of_joint bodies j
-joint_set bodies j = two_set (body_at bodies j.a) (body_at bodies j.b)
-
-pub joint_set_in : (bodies : List (Option Body)) (o : Option BodyJoint) → option_map set_of (option_map (stand_of_joint bodies) o) ≡ option_map (standing_of_joint bodies) o
-joint_set_in bodies None = refl
-joint_set_in bodies (Some j) = ap Some (joint_set bodies j)
+    by : (o : Option Movers) → movers_with bodies a b ≡ o → sleep_with bodies o ≡ None
+    by None e = refl
+    by (Some m) e = here m e (body_at bodies m.first) refl

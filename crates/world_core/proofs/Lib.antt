@@ -25,11 +25,11 @@ pub mod StirredLaws
 pub mod GoingLaws
 pub mod TellingLaws
 pub mod KeepLaws
-pub mod ListedJointLaws
+pub mod UpJointLaws
 pub mod ChangedJointLaws
 pub mod ContactSetLaws
 pub mod ContactTurnLaws
-pub mod ListedContactLaws
+pub mod UpContactLaws
 pub mod SleeperLaws
 pub mod ClearedLaws
 pub mod OwnJointLaws

@@ -39,8 +39,8 @@ use Rattle.world_rules.specs.Settled.{settled_world}
 use Rattle.world_rules.specs.Sets.{acting_of}
 use Rattle.world_rules.specs.Sound.{HasBodies, IsSound}
 use Rattle.world_rules.specs.World.{World, joints_in_slots}
-use Rattle.packed_sets.specs.Stands.{Standings}
-use Rattle.world_core_base.specs.Stands.{AreContactSets, AreJointSets}
+use Rattle.world_core_base.specs.Sleeping.{Sleeping}
+use Rattle.world_core_base.specs.Asleep.{AreContactSets, AreJointSets}
 use Rattle.world_core.specs.Inside.{IsWhole, IsWorldCore}
 use Rattle.world_core.proofs.CoreLaws.{core_all}
 
@@ -183,6 +183,6 @@ made_whole p t x sound e =
     subst (λ (w : World). IsWhole w x.acts) (sym (made_same p t x sound e)) acts
 
 -- with all its bodies marked
-pub made_core : (p : Plain) (t : Totals) (x : Parts) (marks : List Bool) → IsSound (settled_world p t) → ArePartsOf p t x → ((slot : ℕ) → slice_index_or marks slot true ≡ true) → (js : Standings) → AreJointSets x.bodies x.joints js → (numbered : List (Option NumberedContact)) (cs : Standings) → AreContactSets x.bodies numbered cs
+pub made_core : (p : Plain) (t : Totals) (x : Parts) (marks : List Bool) → IsSound (settled_world p t) → ArePartsOf p t x → ((slot : ℕ) → slice_index_or marks slot true ≡ true) → (js : Sleeping) → AreJointSets x.bodies x.joints js → (numbered : List (Option NumberedContact)) (cs : Sleeping) → AreContactSets x.bodies numbered cs
     → IsWorldCore (world_by x) x.acts marks js numbered cs
 made_core p t x marks sound e all js stand numbered cs hold = core_all (world_by x) x.acts marks (made_whole p t x sound e) all js stand numbered cs hold

@@ -16,8 +16,7 @@ use Rattle.plain_world.specs.Slots.{body_at}
 use Rattle.sleep_wake.specs.Sleeping.{name_at}
 use Rattle.solver_sets.specs.Ties.{JointSlots, ties_of}
 use Rattle.solver_sets.proofs.TieLaws.{has_movers, in_ties, movers_move, tie_is}
-use Rattle.world_core_base.specs.Telling.{asleep_in}
-use Rattle.world_core.specs.WorldTies.{asleep_under}
+use Rattle.world_core_base.specs.Asleep.{asleep_in, asleep_under}
 
 -- the first mover of a tie is one
 first_moves : (bodies : List (Option Body)) (s : JointSlots) (contacts : List ContactEntry) (m : Member Constraint) → Contains (ties_of bodies s contacts) m → moves bodies m.movers.first ≡ true

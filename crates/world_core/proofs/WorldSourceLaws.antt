@@ -1,5 +1,5 @@
 -- What a whole world has for its source to tell.
-use Rattle.std.proofs.Common.{◌≡◌, ◌≤◌, ◌∙◌, ℕ, List, Option, sym, ap, arith}
+use Rattle.std.proofs.Common.{◌≡◌, ◌≤◌, ◌∙◌, ℕ, List, Option, length, sym, ap, arith}
 use Rattle.std.proofs.lemmas.List.Elements.{All-contains}
 use Rattle.contacts.specs.declared.constraint.Constraint.{Constraint}
 use Rattle.contacts_base.specs.declared.contact.ContactEntry.{ContactEntry}
@@ -11,10 +11,8 @@ use Rattle.solver_sets.proofs.TieLaws.{alike_ties}
 use Rattle.solver_sets.specs.Ties.{JointSlots, ties_of}
 use Rattle.world_core_base.specs.ContactBodies.{IsContactOf}
 use Rattle.contacts.specs.declared.number_book.NumberedContact.{NumberedContact}
-use Rattle.packed_sets.specs.declared.stands.Stand.{Stand}
-use Rattle.packed_sets.specs.Stands.{Standings, stand_at, with_items}
-use Rattle.world_core_base.proofs.StandLaws.{same_more}
-use Rattle.world_core_base.specs.Stands.{AreContactSets, AreJointSets, AreNamedAsleep}
+use Rattle.world_core_base.specs.Asleep.{AreContactSets, AreJointSets, AreNamedAsleep}
+use Rattle.world_core_base.specs.Sleeping.{Sleeping, sleep_at}
 use Rattle.world_rules.proofs.TickedLaws.{timed_alike}
 use Rattle.world_rules.specs.Sets.{acting_of}
 use Rattle.world_rules.specs.World.{World, joints_in_slots}
@@ -44,8 +42,16 @@ pub whole_named : (w : World) (s : Acting Constraint) → IsWhole w s → AreNam
 whole_named w s is = named_asleep w.plain.bodies (acting_of w.plain) is.sound.promises.consistent (told_acting w.plain is.sound.promises.told)
 
 -- sets with room for more stand as they did
-pub contacts_more : (items : ℕ) (bodies : List (Option Body)) (numbered : List (Option NumberedContact)) (before after : Standings) → after.stands ≡ with_items items before.stands → before.names ≤ after.names → AreContactSets bodies numbered before → AreContactSets bodies numbered after
-contacts_more items bodies numbered before after is more are = record {
-  stands = λ number. ap (λ (l : List (Option Stand)). stand_at l number) is ∙ same_more items before.stands number ∙ are.stands number;
-  names = let room = are.names in omega (arith, room, more);
+pub contacts_more : (bodies : List (Option Body)) (numbered : List (Option NumberedContact)) (before after : Sleeping) → ((number : ℕ) → sleep_at after.names number ≡ sleep_at before.names number) → length before.names ≤ length after.names → length before.sets ≤ length after.sets → AreContactSets bodies numbered before → AreContactSets bodies numbered after
+contacts_more bodies numbered before after same items sets are = record {
+  asleep = λ number. same number ∙ are.asleep number;
+  items = λ number on. let lt = are.items number on in omega (arith, lt, items);
+  named = let room = are.named in omega (arith, room, sets);
+}
+
+pub joints_more : (bodies : List (Option Body)) (joints : List (Option BodyJoint)) (before after : Sleeping) → ((slot : ℕ) → sleep_at after.names slot ≡ sleep_at before.names slot) → length before.names ≤ length after.names → length before.sets ≤ length after.sets → AreJointSets bodies joints before → AreJointSets bodies joints after
+joints_more bodies joints before after same items sets are = record {
+  asleep = λ slot. same slot ∙ are.asleep slot;
+  items = λ slot on. let lt = are.items slot on in omega (arith, lt, items);
+  named = let room = are.named in omega (arith, room, sets);
 }

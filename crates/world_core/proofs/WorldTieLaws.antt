@@ -1,7 +1,7 @@
 -- The ties of a sleeping island are those of its sleeping sets, and those of which a mover is the first are those at
 -- it.
 use Rattle.std.proofs.Common.{◌≡◌, ◌≢◌, ◌⊎◌, ℕ, zero, suc, ◌<◌, ◌++◌, ◌==◌, ◌&&◌, ◌||◌, Bool, true, false, cond, List, [], ◌∷◌, length, get_or, Option, Some, None, inl, inr, refl, sym, ap, ap₂, ◌∙◌, subst, arith, eqb-true, eq-eqb}
-use Rattle.std.specs.Prelude.{◌/◌, filter, map, Contains, slice_get, option_map}
+use Rattle.std.specs.Prelude.{◌/◌, ◌↔◌, filter, map, Contains, slice_get, option_map}
 use Rattle.std.specs.List.{filter_map, slice_index_or}
 use Rattle.std.specs.List.Sorted.{IsPermutation}
 use Rattle.std.proofs.lemmas.Bool.{false≢true}
@@ -21,10 +21,8 @@ use Rattle.contacts_base.specs.declared.key.ContactKey.{ContactKey}
 use Rattle.contacts_base.specs.Contacts.{AreKeysRising}
 use Rattle.graph_colours.specs.declared.member.Member.{Member}
 use Rattle.graph_colours.specs.declared.member.Movers.{Movers}
-use Rattle.packed_sets.specs.declared.stands.Stand.{Stand}
-use Rattle.packed_sets.specs.declared.stands.Stand.TheVariants as standing
-use Rattle.packed_sets.specs.Stands.{AreOnce, Standings, items_of, stand_at}
-use Rattle.packed_sets.proofs.ItemLaws.{items_are_once, items_stand_there}
+use Rattle.packed_sets.specs.Packs.{list_at}
+use Rattle.packed_sets.specs.Stands.{AreOnce}
 use Rattle.plain_world.specs.declared.body.Body.{Body}
 use Rattle.plain_world.specs.declared.joint.BodyJoint.{BodyJoint}
 use Rattle.plain_world.specs.declared.kind.Kind.{Kind}
@@ -35,14 +33,14 @@ use Rattle.plain_world.specs.Kinds.{is_dynamic}
 use Rattle.plain_world.specs.Slots.{body_at}
 use Rattle.sleep_wake.specs.Sources.{asleep_ties, first_ties, is_asleep_under, is_first, is_named}
 use Rattle.solver_sets.specs.Alike.{AreJointSlots}
-use Rattle.solver_sets.specs.Ties.{Bond, JointSlots, contact_bond, is_enabled, is_enabled_in, joint_bond, joint_bonds, movers_if, movers_with, tie_of, ties_of, touching_keys}
+use Rattle.solver_sets.specs.Ties.{Bond, JointSlots, contact_bond, contact_movers, is_enabled, is_enabled_in, joint_bond, joint_bonds, movers_if, movers_with, tie_of, ties_of, touching_keys}
 use Rattle.solver_sets.proofs.BondLaws.{IsContactBond, contacts_in, contacts_rise, in_contacts, in_joints, joints_in, joints_rise}
 use Rattle.solver_sets.proofs.ListLaws.{in_map, in_mapped, map_in}
 use Rattle.solver_sets.proofs.TieLaws.{has_movers, tie_is, tie_number, ties_rise_in}
 use Rattle.world_core_base.specs.JointEnds.{halves}
-use Rattle.world_core_base.specs.Stands.{AreContactSets, AreJointSets, body_stand, contact_stand, joint_stand, mover_stand, of_mover, stand_apart, stand_between, stand_by, stand_with, stand_in, stand_of_contact, stand_of_joint, takes_part}
-use Rattle.world_core_base.specs.Telling.{asleep_in}
-use Rattle.world_core.specs.WorldTies.{AreOfTwo, all_contact_ties, all_joint_ties, asleep_under, contact_tie_in, if_first, joint_tie_in, tie_of_contact, tie_of_joint}
+use Rattle.world_core_base.specs.Asleep.{AreContactSets, AreJointSets, asleep_under, contact_sleep, joint_sleep, movers_of_contact, movers_of_joint, sleep_with}
+use Rattle.world_core_base.specs.Sleeping.{Sleeping, sleep_at}
+use Rattle.world_core.specs.WorldTies.{AreOfTwo, all_contact_ties, all_joint_ties, contact_tie_in, if_first, joint_tie_in, tie_of_contact, tie_of_joint}
 use Rattle.world_core.proofs.PushLaws.{of_mapped}
 use Rattle.world_core.proofs.ByNumberLaws.{AreAll, IsOnceEach, all_told, once_both, once_each, once_moved, passing_told, rises_once}
 
@@ -147,97 +145,40 @@ contacts_all bodies contacts numbered rising are = record {
 
 -- ---- where a tie stands: where its first mover does
 
-both_enabled : (t : Bool) (k : Kind) (s : Option ℕ) → t ≡ true → takes_part (Some (cond t (stand_by k s) standing.Disabled)) ≡ true
-both_enabled true Static s e = refl
-both_enabled true (Kinematic course) s e = refl
-both_enabled true Dynamic None e = refl
-both_enabled true Dynamic (Some name) e = refl
-both_enabled false k s e = absurd (false≢true e)
-
-pub enabled_takes_part : (o : Option Body) → is_enabled_in o ≡ true → takes_part (stand_in o) ≡ true
-enabled_takes_part None e = absurd (false≢true e)
-enabled_takes_part (Some b) e = both_enabled b.enabled b.kind b.asleep e
-
-mover_by : (t : Bool) (k : Kind) (s : Option ℕ) → cond t (is_dynamic k) false ≡ true → of_mover (Some (cond t (stand_by k s) standing.Disabled)) ≡ Some (mover_stand s)
-mover_by true Static s e = absurd (false≢true e)
-mover_by true (Kinematic course) s e = absurd (false≢true e)
-mover_by true Dynamic None e = refl
-mover_by true Dynamic (Some name) e = refl
-mover_by false k s e = absurd (false≢true e)
-
-pub mover_stands : (o : Option Body) → is_mover_in o ≡ true → of_mover (stand_in o) ≡ Some (mover_stand (asleep_in o))
-mover_stands None e = absurd (false≢true e)
-mover_stands (Some b) e = mover_by b.enabled b.kind b.asleep e
-
-other_by : (t : Bool) (k : Kind) (s : Option ℕ) → cond t (is_dynamic k) false ≡ false → of_mover (Some (cond t (stand_by k s) standing.Disabled)) ≡ None
-other_by true Static s e = refl
-other_by true (Kinematic course) s e = refl
-other_by true Dynamic s e = absurd (false≢true (sym e))
-other_by false k s e = refl
-
-pub other_stands : (o : Option Body) → is_mover_in o ≡ false → of_mover (stand_in o) ≡ None
-other_stands None e = refl
-other_stands (Some b) e = other_by b.enabled b.kind b.asleep e
-
-abbrev first_stand : List (Option Body) → Movers → Stand
-first_stand bodies v = mover_stand (asleep_in (body_at bodies v.first))
-
-between_by : (bodies : List (Option Body)) (a b : ℕ) (v : Movers) (x y : Bool) → is_enabled bodies a ≡ true → is_enabled bodies b ≡ true → moves bodies a ≡ x → moves bodies b ≡ y → movers_if x y a b ≡ Some v → stand_between (body_stand bodies a) (body_stand bodies b) ≡ first_stand bodies v
-between_by bodies a b v x y e f p q h =
-    let both : stand_between (body_stand bodies a) (body_stand bodies b) ≡ stand_with (of_mover (body_stand bodies a)) (of_mover (body_stand bodies b)) =
-    ap₂ (λ (s t : Bool). cond (s && t) (stand_with (of_mover (body_stand bodies a)) (of_mover (body_stand bodies b))) standing.Disabled) (enabled_takes_part (body_at bodies a) e) (enabled_takes_part (body_at bodies b) f) in
-    both ∙ by x y p q h
-  where
-    first_is : (s t : Bool) (o : Option ℕ) → Some (record { first = a; second = o }) ≡ Some v → stand_with (Some (mover_stand (asleep_in (body_at bodies a)))) (of_mover (body_stand bodies b)) ≡ first_stand bodies v
-    first_is s t o k = ap (first_stand bodies) (same_Some (record { first = a; second = o }) v k)
-
-    by : (s t : Bool) → moves bodies a ≡ s → moves bodies b ≡ t → movers_if s t a b ≡ Some v → stand_with (of_mover (body_stand bodies a)) (of_mover (body_stand bodies b)) ≡ first_stand bodies v
-    by true true g i k = ap (λ (o : Option Stand). stand_with o (of_mover (body_stand bodies b))) (mover_stands (body_at bodies a) g) ∙ first_is true true (Some b) k
-    by true false g i k = ap (λ (o : Option Stand). stand_with o (of_mover (body_stand bodies b))) (mover_stands (body_at bodies a) g) ∙ first_is true false None k
-    by false true g i k = ap₂ (λ (o p : Option Stand). stand_with o p) (other_stands (body_at bodies a) g) (mover_stands (body_at bodies b) i) ∙ ap (first_stand bodies) (same_Some (record { first = b; second = None }) v k)
-    by false false g i k = absurd (none-some v k)
-
-pub between_first : (bodies : List (Option Body)) (a b : ℕ) (v : Movers) → movers_with bodies a b ≡ Some v → stand_between (body_stand bodies a) (body_stand bodies b) ≡ mover_stand (asleep_in (body_at bodies v.first))
-between_first bodies a b v h = let o = has_movers bodies a b v h in between_by bodies a b v (moves bodies a) (moves bodies b) o.enabled_a o.enabled_b refl refl o.movers
-
-pub joint_stands : (bodies : List (Option Body)) (s : JointSlots) (slot : ℕ) (m : Member Constraint) → joint_tie_in bodies s slot ≡ Some m → joint_stand bodies s.joints slot ≡ Some (mover_stand (asleep_under bodies m.movers.first))
-joint_stands bodies s slot m h =
+pub joint_sleeps : (bodies : List (Option Body)) (s : JointSlots) (slot : ℕ) (m : Member Constraint) → joint_tie_in bodies s slot ≡ Some m → joint_sleep bodies s.joints slot ≡ asleep_under bodies m.movers.first
+joint_sleeps bodies s slot m h =
     let t = joint_tie bodies s slot m h in
     let own : movers_with bodies t.joint.a t.joint.b ≡ Some m.movers = (tie_is bodies (joint_bond (record { slot = slot; generation = t.place.generation }) t.joint) m t.tie).movers in
-    ap (option_map (stand_of_joint bodies)) t.at_joint ∙ ap Some (between_first bodies t.joint.a t.joint.b m.movers own)
+    ap (λ (o : Option BodyJoint). sleep_with bodies (movers_of_joint bodies o)) t.at_joint ∙ ap (sleep_with bodies) own
 
-pub contact_stands : (bodies : List (Option Body)) (numbered : List (Option NumberedContact)) (number : ℕ) (m : Member Constraint) → contact_tie_in bodies numbered number ≡ Some m → contact_stand bodies numbered number ≡ Some (mover_stand (asleep_under bodies m.movers.first))
-contact_stands bodies numbered number m h =
+pub contact_sleeps : (bodies : List (Option Body)) (numbered : List (Option NumberedContact)) (number : ℕ) (m : Member Constraint) → contact_tie_in bodies numbered number ≡ Some m → contact_sleep bodies numbered number ≡ asleep_under bodies m.movers.first
+contact_sleeps bodies numbered number m h =
     let t = contact_tie bodies numbered number m h in
-    let a = t.contact.key.first.slot in
-    let b = t.contact.key.second.slot in
-    let own : movers_with bodies a b ≡ Some m.movers = (tie_is bodies (contact_bond t.contact.key) m t.tie).movers in
-    ap (option_map (stand_of_contact bodies)) t.at
-    ∙ ap (λ (u : Bool). Some (cond u (stand_between (body_stand bodies a) (body_stand bodies b)) (stand_apart (body_stand bodies a) (body_stand bodies b)))) t.touching
-    ∙ ap Some (between_first bodies a b m.movers own)
+    let own : contact_movers bodies t.contact.key ≡ Some m.movers = (tie_is bodies (contact_bond t.contact.key) m t.tie).movers in
+    ap (λ (o : Option NumberedContact). sleep_with bodies (movers_of_contact bodies o)) t.at ∙ ap (λ (u : Bool). sleep_with bodies (cond u (contact_movers bodies t.contact.key) None)) t.touching ∙ ap (sleep_with bodies) own
 
 -- ---- by sleeping set
 
-sleeps_named : (o : Option ℕ) (name : ℕ) → is_named name o ≡ true → mover_stand o ≡ standing.Sleeping name
-sleeps_named None name h = absurd (false≢true h)
-sleeps_named (Some other) name h = ap standing.Sleeping (eqb-true other name h)
+named_is : (o : Option ℕ) (name : ℕ) → is_named name o ≡ true → o ≡ Some name
+named_is None name h = absurd (false≢true h)
+named_is (Some other) name h = ap (λ (n : ℕ). Some n) (eqb-true other name h)
 
-named_sleeps : (o : Option ℕ) (name : ℕ) → mover_stand o ≡ standing.Sleeping name → is_named name o ≡ true
-named_sleeps None name h = cc
-named_sleeps (Some other) name h = let same : other ≡ name = cc in eq-eqb other name same
+is_named_from : (o : Option ℕ) (name : ℕ) → o ≡ Some name → is_named name o ≡ true
+is_named_from None name h = cc
+is_named_from (Some other) name h = eq-eqb other name (same_Some other name h)
 
-pub asleep_told : (at : ℕ → Option (Member Constraint)) (all : List (Member Constraint)) (bodies : List (Option Body)) (name : ℕ) (stands : List (Option Stand)) (thread : List ℕ) → AreAll at all → ((n : ℕ) (m : Member Constraint) → at n ≡ Some m → stand_at stands n ≡ Some (mover_stand (asleep_under bodies m.movers.first)))
-    → IsPermutation (items_of (standing.Sleeping name) stands) thread → IsPermutation (asleep_ties (asleep_under bodies) name all) (filter_map at thread)
-asleep_told at all bodies name stands thread are stand moved =
+-- the items of a name's set are those that sleep under it
+abbrev pub AreThose : Sleeping → ℕ → Type 0
+AreThose sets name = (id : ℕ) → Contains (list_at sets.sets name) id ↔ (sleep_at sets.names id ≡ Some name)
+
+pub asleep_told : (at : ℕ → Option (Member Constraint)) (all : List (Member Constraint)) (bodies : List (Option Body)) (name : ℕ) (sets : Sleeping) → AreAll at all → ((n : ℕ) (m : Member Constraint) → at n ≡ Some m → sleep_at sets.names n ≡ asleep_under bodies m.movers.first)
+    → AreThose sets name → AreOnce (list_at sets.sets name) → IsPermutation (asleep_ties (asleep_under bodies) name all) (filter_map at (list_at sets.sets name))
+asleep_told at all bodies name sets are sleep those once =
     let p : Member Constraint → Bool = is_asleep_under (asleep_under bodies) name in
-    let items : List ℕ = items_of (standing.Sleeping name) stands in
-    let once_thread : IsOnceEach thread = once_moved items thread moved (once_each items (items_are_once (standing.Sleeping name) stands)) in
-    let into : (n : ℕ) (m : Member Constraint) → at n ≡ Some m → p m ≡ true → IsIn n thread = λ n m e q.
-    in_from_contains thread n (Contains-permutation items thread n moved ((items_stand_there (standing.Sleeping name) stands n).1 (stand n m e ∙ ap Some (sleeps_named (asleep_under bodies m.movers.first) name q)))) in
-    let passes : (n : ℕ) (m : Member Constraint) → IsIn n thread → at n ≡ Some m → p m ≡ true = λ n m k e.
-    let there : stand_at stands n ≡ Some (standing.Sleeping name) = (items_stand_there (standing.Sleeping name) stands n).0 (Contains-permutation thread items n (IsPermutation-sym items thread moved) (contains_from_in thread n k)) in
-    named_sleeps (asleep_under bodies m.movers.first) name (same_Some (mover_stand (asleep_under bodies m.movers.first)) (standing.Sleeping name) (sym (stand n m e) ∙ there)) in
-    all_told at all p thread are once_thread into passes
+    let thread : List ℕ = list_at sets.sets name in
+    let into : (n : ℕ) (m : Member Constraint) → at n ≡ Some m → p m ≡ true → IsIn n thread = λ n m e q. in_from_contains thread n ((those n).1 (sleep n m e ∙ named_is (asleep_under bodies m.movers.first) name q)) in
+    let passes : (n : ℕ) (m : Member Constraint) → IsIn n thread → at n ≡ Some m → p m ≡ true = λ n m k e. is_named_from (asleep_under bodies m.movers.first) name (sym (sleep n m e) ∙ (those n).0 (contains_from_in thread n k)) in
+    all_told at all p thread are (once_each thread once) into passes
 
 front_kept : {X : Type 0} (x : X) (t : Bool) (all xs ys : List X) → all ≡ xs ++ ys → cond t (x ∷ all) all ≡ cond t (x ∷ xs) xs ++ ys
 front_kept x true all xs ys e = ap (λ l. x ∷ l) e
@@ -255,14 +196,14 @@ pub ties_that : (p : Member Constraint → Bool) (bodies : List (Option Body)) (
 ties_that p bodies s contacts = ap (λ (l : List (Member Constraint)). filter p l) (ties_are bodies s contacts) ∙ filter_append p (all_joint_ties bodies s) (all_contact_ties bodies contacts)
 
 -- those of the joints that sleep under a name
-pub asleep_joints : (bodies : List (Option Body)) (s : JointSlots) (sets : Standings) (name : ℕ) (thread : List ℕ) → AreJointSlots s → AreJointSets bodies s.joints sets → IsPermutation (items_of (standing.Sleeping name) sets.stands) thread
-    → IsPermutation (asleep_ties (asleep_under bodies) name (all_joint_ties bodies s)) (filter_map (joint_tie_in bodies s) thread)
-asleep_joints bodies s sets name thread are stand moved = asleep_told (joint_tie_in bodies s) (all_joint_ties bodies s) bodies name sets.stands thread (joints_all bodies s are) (λ n m e. stand.stands n ∙ joint_stands bodies s n m e) moved
+pub asleep_joints : (bodies : List (Option Body)) (s : JointSlots) (sets : Sleeping) (name : ℕ) → AreJointSlots s → AreJointSets bodies s.joints sets → AreThose sets name → AreOnce (list_at sets.sets name)
+    → IsPermutation (asleep_ties (asleep_under bodies) name (all_joint_ties bodies s)) (filter_map (joint_tie_in bodies s) (list_at sets.sets name))
+asleep_joints bodies s sets name are sleep those once = asleep_told (joint_tie_in bodies s) (all_joint_ties bodies s) bodies name sets (joints_all bodies s are) (λ n m e. sleep.asleep n ∙ joint_sleeps bodies s n m e) those once
 
 -- those of the contacts that do
-pub asleep_contacts : (bodies : List (Option Body)) (contacts : List ContactEntry) (numbered : List (Option NumberedContact)) (sets : Standings) (name : ℕ) (thread : List ℕ) → AreKeysRising contacts → AreNumbered contacts numbered → AreContactSets bodies numbered sets → IsPermutation (items_of (standing.Sleeping name) sets.stands) thread
-    → IsPermutation (asleep_ties (asleep_under bodies) name (all_contact_ties bodies contacts)) (filter_map (contact_tie_in bodies numbered) thread)
-asleep_contacts bodies contacts numbered sets name thread rising are stand moved = asleep_told (contact_tie_in bodies numbered) (all_contact_ties bodies contacts) bodies name sets.stands thread (contacts_all bodies contacts numbered rising are) (λ n m e. stand.stands n ∙ contact_stands bodies numbered n m e) moved
+pub asleep_contacts : (bodies : List (Option Body)) (contacts : List ContactEntry) (numbered : List (Option NumberedContact)) (sets : Sleeping) (name : ℕ) → AreKeysRising contacts → AreNumbered contacts numbered → AreContactSets bodies numbered sets → AreThose sets name → AreOnce (list_at sets.sets name)
+    → IsPermutation (asleep_ties (asleep_under bodies) name (all_contact_ties bodies contacts)) (filter_map (contact_tie_in bodies numbered) (list_at sets.sets name))
+asleep_contacts bodies contacts numbered sets name rising are sleep those once = asleep_told (contact_tie_in bodies numbered) (all_contact_ties bodies contacts) bodies name sets (contacts_all bodies contacts numbered rising are) (λ n m e. sleep.asleep n ∙ contact_sleeps bodies numbered n m e) those once
 
 -- ---- by first mover
 

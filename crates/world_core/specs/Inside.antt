@@ -11,8 +11,8 @@ use Rattle.plain_world.specs.declared.joint.BodyJoint.{BodyJoint}
 use Rattle.plain_world.specs.Joints.{forbidden_pairs}
 use Rattle.sleep_wake.specs.Acting.{Acting}
 use Rattle.world_core.specs.declared.world.WorldCore.TheInside.{Inside}
-use Rattle.packed_sets.specs.Stands.{Standings}
-use Rattle.world_core_base.specs.Stands.{AreContactSets, AreJointSets}
+use Rattle.world_core_base.specs.Sleeping.{Sleeping}
+use Rattle.world_core_base.specs.Asleep.{AreContactSets, AreJointSets}
 use Rattle.world_rules.specs.Collide.{proxies_of}
 use Rattle.world_rules.specs.Sets.{acting_of}
 use Rattle.world_rules.specs.Sound.{IsSound}
@@ -36,10 +36,10 @@ pub record IsWhole (w : World) (acting : Acting Constraint) : Type 0 where
 abbrev pub AreKnown : List Bool → List (Option Body) → List (Option BodyJoint) → List ContactEntry → Type 0
 AreKnown marks bodies joints contacts = IsKnown (moved_by marks) (forbidden_pairs joints) (proxies_of bodies) contacts
 
--- what the fields of a `WorldCore` hold: the world is whole, and its contacts tell all that isn't marked; the sets of
--- the joints have each where it stands by its bodies, by slot, and those of the contacts each by its number
-pub record IsWorldCore (w : World) (acting : Acting Constraint) (marks : List Bool) (stands : Standings) (numbered : List (Option NumberedContact)) (contact_stands : Standings) : Type 0 where
+-- what the fields of a `WorldCore` hold: the world is whole, and its contacts tell all that isn't marked; the sets have
+-- the joints that sleep, by slot, and the contacts that do, by number
+pub record IsWorldCore (w : World) (acting : Acting Constraint) (marks : List Bool) (joint_sets : Sleeping) (numbered : List (Option NumberedContact)) (contact_sets : Sleeping) : Type 0 where
   pub whole : IsWhole w acting
   pub known : AreKnown marks w.plain.bodies w.plain.joints w.plain.contacts
-  pub standing : AreJointSets w.plain.bodies w.plain.joints stands
-  pub contacts_standing : AreContactSets w.plain.bodies numbered contact_stands
+  pub standing : AreJointSets w.plain.bodies w.plain.joints joint_sets
+  pub contacts_standing : AreContactSets w.plain.bodies numbered contact_sets

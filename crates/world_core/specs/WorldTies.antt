@@ -8,26 +8,20 @@ use Rattle.contacts.specs.Numbered.{contact_at}
 use Rattle.contacts_base.specs.declared.contact.ContactEntry.{ContactEntry}
 use Rattle.contacts_base.specs.Contacts.{AreKeysRising}
 use Rattle.graph_colours.specs.declared.member.Member.{Member}
-use Rattle.packed_sets.specs.Stands.{Standings}
+use Rattle.world_core_base.specs.Sleeping.{Sleeping}
 use Rattle.plain_world.specs.declared.body.Body.{Body}
 use Rattle.plain_world.specs.declared.joint.BodyJoint.{BodyJoint}
 use Rattle.plain_world.specs.Joints.{joint_at}
-use Rattle.plain_world.specs.Slots.{body_at}
 use Rattle.sleep_wake.specs.Sources.{is_first}
 use Rattle.solver_sets.specs.Alike.{AreJointSlots}
 use Rattle.solver_sets.specs.Ties.{JointSlots, contact_bond, contact_movers, is_bond_of, joint_bonds, joint_movers, tie_with, ties_in, touching_keys}
-use Rattle.world_core_base.specs.Stands.{AreContactSets, AreJointSets}
-use Rattle.world_core_base.specs.Telling.{asleep_in}
+use Rattle.world_core_base.specs.Asleep.{AreContactSets, AreJointSets}
 
 -- what a source reads
 pub record Told : Type 0 where
   pub bodies : List (Option Body)
   pub slots : JointSlots
   pub contacts : List ContactEntry
-
--- the name of the island with which the mover in a slot sleeps
-abbrev pub asleep_under : List (Option Body) → ℕ → Option ℕ
-asleep_under bodies slot = asleep_in (body_at bodies slot)
 
 -- ---- one constraint
 
@@ -87,8 +81,8 @@ pub record CanTell (s : JointSlots) (contacts : List ContactEntry) : Type 0 wher
   pub rising : AreKeysRising contacts
   pub two : AreOfTwo contacts
 
--- and joints and contacts stand where they stand by their bodies
-pub record IsTelling (bodies : List (Option Body)) (s : JointSlots) (joint_sets : Standings) (contacts : List ContactEntry) (numbered : List (Option NumberedContact)) (contact_sets : Standings) : Type 0 where
+-- and the sets have the joints and the contacts that sleep
+pub record IsTelling (bodies : List (Option Body)) (s : JointSlots) (joint_sets : Sleeping) (contacts : List ContactEntry) (numbered : List (Option NumberedContact)) (contact_sets : Sleeping) : Type 0 where
   pub can : CanTell s contacts
   pub joints_standing : AreJointSets bodies s.joints joint_sets
   pub contacts_standing : AreContactSets bodies numbered contact_sets

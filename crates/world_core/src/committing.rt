@@ -12,7 +12,7 @@ ghost use Rattle.sleep_wake.specs.ChangeLists.{AreChanges, begin_count};
 ghost use Rattle.solver_sets.specs.SinceTold.{newly_awake};
 ghost use Rattle.world_core.specs.Waking.{HasSleepers, OfAll};
 ghost use Rattle.world_core_base.specs.Marked.{AreMarked, AreMarkedIn};
-ghost use Rattle.world_core_base.specs.Stands.{AreContactSets, AreJointSets};
+ghost use Rattle.world_core_base.specs.Asleep.{AreContactSets, AreJointSets};
 ghost use Rattle.world_core_base.specs.Turned.{AreTurned};
 ghost use Rattle.world_rules.specs.Sound.{AreTold};
 ghost use Rattle.solver_sets.specs.Ties.{slots_of, ties_of};
@@ -23,10 +23,9 @@ use crate::telling_movers::tell_movers;
 use crate::world_ties::WorldTies;
 use body_handles::{Handle, MAX_SLOTS, SlotEntry};
 use contacts::{Constraint, ContactTable};
-use packed_sets::SolverSets;
 use sleep_wake::{Change, Sets};
 use solver_sets::fill_newly_awake;
-use world_core_base::{BodyTable, JointTable, renew_contact_stands};
+use world_core_base::{BodyTable, JointTable, SleepingSets};
 
 /// Lets constraints begin and end, one after another, flushes the colours, lists who has woken by that, tells those,
 /// whose joints and contacts follow, and flushes the bodies. All bodies had been told before. Those who wake are among
@@ -36,9 +35,9 @@ fn apply_all_changes(
     bodies: &mut BodyTable,
     joint_entries: &[SlotEntry],
     joints: &JointTable,
-    stands: &mut SolverSets,
+    joint_sets: &mut SleepingSets,
     contacts: &ContactTable,
-    contact_stands: &mut SolverSets,
+    contact_sets: &mut SleepingSets,
     woke: &mut Vec<Handle>,
     slot_entries: &[SlotEntry],
     changes: &[Change<Constraint>],
@@ -50,8 +49,8 @@ fn apply_all_changes(
     requires few_bodies { length bodies.old.bodies ≤ MAX_SLOTS }
     requires bodies { AreBodies bodies.old.bodies }
     requires told { AreTold bodies.old.bodies sets.old.acting.labels }
-    requires standing { AreJointSets bodies.old.bodies joints.now.joints stands.old }
-    requires contacts_standing { AreContactSets bodies.old.bodies contacts.now.numbered contact_stands.old }
+    requires standing { AreJointSets bodies.old.bodies joints.now.joints joint_sets.old }
+    requires contacts_standing { AreContactSets bodies.old.bodies contacts.now.numbered contact_sets.old }
     requires can_tell { CanTell (slots_of joint_entries.now joints.now.joints) contacts.now.contacts }
     requires ties { ties_of bodies.old.bodies (slots_of joint_entries.now joints.now.joints) contacts.now.contacts ≡ sets.old.acting.ties }
     requires sleepers { OfAll (HasSleepers sets.old.acting.labels asleep.now) changes.now }
@@ -63,17 +62,17 @@ fn apply_all_changes(
     ensures colours_flushed { sets.new.pending ≡ 0 }
     ensures bodies_flushed { bodies.new.pending ≡ 0 }
     ensures marked { AreMarked bodies.old bodies.new }
-    ensures standing { AreJointSets bodies.new.bodies joints.now.joints stands.new }
-    ensures contacts_standing { AreContactSets bodies.new.bodies contacts.now.numbered contact_stands.new }
-    ensures contact_items { length contact_stands.new.stands ≡ length contact_stands.old.stands }
+    ensures standing { AreJointSets bodies.new.bodies joints.now.joints joint_sets.new }
+    ensures contacts_standing { AreContactSets bodies.new.bodies contacts.now.numbered contact_sets.new }
+    ensures contact_items { length contact_sets.new.names ≡ length contact_sets.old.names }
 {
     let ties = WorldTies {
         bodies: bodies.bodies(),
         joint_entries,
         joints,
-        joint_sets: stands,
+        joint_sets,
         contacts,
-        contact_sets: contact_stands,
+        contact_sets,
     };
     sets.know_told(&ties);
     sets.apply_changes(changes, &ties);
@@ -82,9 +81,9 @@ fn apply_all_changes(
     let _ = tell_movers(
         bodies,
         joints,
-        stands,
+        joint_sets,
         contacts,
-        contact_stands,
+        contact_sets,
         asleep,
         sets,
     );
@@ -99,8 +98,8 @@ pub(crate) fn commit_collide(
     bodies: &mut BodyTable,
     joint_entries: &[SlotEntry],
     joints: &JointTable,
-    stands: &mut SolverSets,
-    contact_stands: &mut SolverSets,
+    joint_sets: &mut SleepingSets,
+    contact_sets: &mut SleepingSets,
     sets: &mut Sets<Constraint>,
     woke: &mut Vec<Handle>,
     slot_entries: &[SlotEntry],
@@ -112,12 +111,12 @@ pub(crate) fn commit_collide(
     requires few_bodies { length bodies.old.bodies ≤ MAX_SLOTS }
     requires bodies { AreBodies bodies.old.bodies }
     requires told { AreTold bodies.old.bodies sets.old.acting.labels }
-    requires standing { AreJointSets bodies.old.bodies joints.now.joints stands.old }
-    requires contacts_standing { AreContactSets bodies.old.bodies contacts.old.numbered contact_stands.old }
+    requires standing { AreJointSets bodies.old.bodies joints.now.joints joint_sets.old }
+    requires contacts_standing { AreContactSets bodies.old.bodies contacts.old.numbered contact_sets.old }
     requires can_tell { CanTell (slots_of joint_entries.now joints.now.joints) contacts.old.contacts }
     requires ties { ties_of bodies.old.bodies (slots_of joint_entries.now joints.now.joints) contacts.old.contacts ≡ sets.old.acting.ties }
     requires turned { AreTurned (told (after_changes constraint_number prepared.now.changes.items sets.old.acting).labels bodies.old.bodies) contacts.old.contacts contacts.old.pending }
-    requires numbers { contacts.old.bound ≤ length contact_stands.old.stands }
+    requires numbers { contacts.old.bound ≤ length contact_sets.old.names }
     requires sleepers { OfAll (HasSleepers sets.old.acting.labels prepared.now.asleep.items) prepared.now.changes.items }
     requires rising { IsStrictlyIncreasing prepared.now.asleep.items }
     requires woke { length prepared.now.asleep.items ≤ vec_capacity woke.old }
@@ -128,8 +127,8 @@ pub(crate) fn commit_collide(
     ensures colours_flushed { sets.new.pending ≡ 0 }
     ensures bodies_flushed { bodies.new.pending ≡ 0 }
     ensures marked { AreMarkedIn bodies.old.bodies (replicate (length bodies.old.marks) false) bodies.new.bodies bodies.new.marks }
-    ensures standing { AreJointSets bodies.new.bodies joints.now.joints stands.new }
-    ensures contacts_standing { AreContactSets bodies.new.bodies contacts.new.numbered contact_stands.new }
+    ensures standing { AreJointSets bodies.new.bodies joints.now.joints joint_sets.new }
+    ensures contacts_standing { AreContactSets bodies.new.bodies contacts.new.numbered contact_sets.new }
 {
     bodies.clear_marks();
     apply_all_changes(
@@ -137,9 +136,9 @@ pub(crate) fn commit_collide(
         bodies,
         joint_entries,
         joints,
-        stands,
+        joint_sets,
         contacts,
-        contact_stands,
+        contact_sets,
         woke,
         slot_entries,
         &prepared.changes,
@@ -149,5 +148,4 @@ pub(crate) fn commit_collide(
     contacts.know_numbered();
     contacts.commit_pending();
     contacts.know_numbered();
-    renew_contact_stands(contact_stands, bodies, contacts);
 }

@@ -1,6 +1,7 @@
 //! Parts of a world, few at a time, so that few of them have to be let go where memory is wanting. And copies of them.
 
 ghost use Rattle.std.specs.Prelude.{◌≡◌, IfOk};
+ghost use Rattle.world_core_base.specs.Asleep.{AreJointSets, AreNamedAsleep};
 ghost use Rattle.std.specs.Result.{IsOkUnless};
 
 use body_handles::Handles;
@@ -8,10 +9,9 @@ use contacts::{Constraint, ContactTable};
 use event_feed::Events;
 use fixed_geom::Refusal;
 use impulse_ledger::Ledger;
-use packed_sets::SolverSets;
 use sleep_wake::Sets;
 use std::alloc::Global;
-use world_core_base::{BodyTable, JointTable};
+use world_core_base::{BodyTable, JointTable, SleepingSets};
 
 /// The bodies and their handles.
 #[derive(Drop)]
@@ -25,7 +25,7 @@ pub(crate) struct BodyParts {
 pub(crate) struct JointParts {
     pub handles: Handles,
     pub table: JointTable,
-    pub sets: SolverSets,
+    pub sets: SleepingSets,
 }
 
 /// The contacts, and the sets of the constraints.
@@ -55,21 +55,22 @@ pub(crate) fn copy_body_parts(handles: &Handles, bodies: &BodyTable) -> Result<B
     })
 }
 
-/// A copy of the joints, their sets and their handles.
+/// A copy of the joints and their handles, with the sets of those that sleep by these bodies.
 pub(crate) fn copy_joint_parts(
     handles: &Handles,
     joints: &JointTable,
-    sets: &SolverSets,
+    bodies: &BodyTable,
 ) -> Result<JointParts, Refusal>
+    requires { AreNamedAsleep bodies.now.bodies }
     ensures slot_entries { IfOk result (λ copied. copied.handles.slot_entries ≡ handles.now.slot_entries) }
     ensures joints { IfOk result (λ copied. copied.table.joints ≡ joints.now.joints) }
-    ensures sets { IfOk result (λ copied. copied.sets ≡ sets.now) }
+    ensures sets { IfOk result (λ copied. AreJointSets bodies.now.bodies joints.now.joints copied.sets) }
     ensures memory_only { IsOkUnless result Refusal.NoMemory }
 {
     Ok(JointParts {
         handles: handles.try_copy()?,
         table: joints.try_copy()?,
-        sets: sets.try_copy()?,
+        sets: joints.list_asleep(bodies.bodies())?,
     })
 }
 

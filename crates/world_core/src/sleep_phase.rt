@@ -12,7 +12,7 @@ ghost use Rattle.solver_sets.specs.BesideByTies.{ShowMoving};
 ghost use Rattle.solver_sets.specs.SinceTold.{newly_asleep};
 ghost use Rattle.solver_sets.specs.Tied.{AreTied};
 ghost use Rattle.world_core_base.specs.Marked.{AreMarked};
-ghost use Rattle.world_core_base.specs.Stands.{AreContactSets, AreJointSets};
+ghost use Rattle.world_core_base.specs.Asleep.{AreContactSets, AreJointSets};
 ghost use Rattle.world_rules.specs.Apply.{gained, rested_acting};
 ghost use Rattle.world_rules.specs.Sound.{AreTold};
 ghost use Rattle.solver_sets.specs.Ties.{slots_of, ties_of};
@@ -25,10 +25,9 @@ use crate::world_ties::WorldTies;
 use body_handles::{MAX_SLOTS, SlotEntry};
 use contacts::{Constraint, ContactTable};
 use momenta::{Gain, NOTHING};
-use packed_sets::SolverSets;
 use sleep_wake::Sets;
 use solver_sets::{fill_awake_timers, fill_newly_asleep};
-use world_core_base::{BodyTable, JointTable};
+use world_core_base::{BodyTable, JointTable, SleepingSets};
 
 /// Lets so many ticks pass for the timers, puts the islands to rest that are ready, lists who has fallen asleep by
 /// that, and tells those. Their joints and contacts follow. All bodies had been told before. Answers what the movers'
@@ -38,8 +37,8 @@ pub(crate) fn rest_after_ticks(
     bodies: &mut BodyTable,
     joint_entries: &[SlotEntry],
     joints: &JointTable,
-    stands: &mut SolverSets,
-    contact_stands: &mut SolverSets,
+    joint_sets: &mut SleepingSets,
+    contact_sets: &mut SleepingSets,
     sets: &mut Sets<Constraint>,
     scratch: &mut Scratch,
     slot_entries: &[SlotEntry],
@@ -51,8 +50,8 @@ pub(crate) fn rest_after_ticks(
     requires within { AreTimersWithin (2 ^ 44) bodies.old.bodies }
     requires tied { AreTied bodies.old.bodies sets.old.acting.labels }
     requires told { AreTold bodies.old.bodies sets.old.acting.labels }
-    requires standing { AreJointSets bodies.old.bodies joints.now.joints stands.old }
-    requires contacts_standing { AreContactSets bodies.old.bodies contacts.now.numbered contact_stands.old }
+    requires standing { AreJointSets bodies.old.bodies joints.now.joints joint_sets.old }
+    requires contacts_standing { AreContactSets bodies.old.bodies contacts.now.numbered contact_sets.old }
     requires can_tell { CanTell (slots_of joint_entries.now joints.now.joints) contacts.now.contacts }
     requires ties { ties_of bodies.old.bodies (slots_of joint_entries.now joints.now.joints) contacts.now.contacts ≡ sets.old.acting.ties }
     requires consistent { IsConsistent constraint_number sets.old.acting }
@@ -72,8 +71,8 @@ pub(crate) fn rest_after_ticks(
     ensures gain { as_vector result ≡ gained (timed_bodies ticks bodies.old.bodies) bodies.new.bodies }
     ensures small { IsGain (2 ^ 78) result }
     ensures marked { AreMarked bodies.old bodies.new }
-    ensures standing { AreJointSets bodies.new.bodies joints.now.joints stands.new }
-    ensures contacts_standing { AreContactSets bodies.new.bodies contacts.now.numbered contact_stands.new }
+    ensures standing { AreJointSets bodies.new.bodies joints.now.joints joint_sets.new }
+    ensures contacts_standing { AreContactSets bodies.new.bodies contacts.now.numbered contact_sets.new }
 {
     bodies.time(ticks);
     let quiet = are_kept_up(
@@ -103,9 +102,9 @@ pub(crate) fn rest_after_ticks(
             bodies: bodies.bodies(),
             joint_entries,
             joints,
-            joint_sets: stands,
+            joint_sets,
             contacts,
-            contact_sets: contact_stands,
+            contact_sets,
         },
     );
     fill_newly_asleep(
@@ -119,9 +118,9 @@ pub(crate) fn rest_after_ticks(
     tell_movers(
         bodies,
         joints,
-        stands,
+        joint_sets,
         contacts,
-        contact_stands,
+        contact_sets,
         &scratch.slots,
         sets,
     )

@@ -18,7 +18,7 @@ ghost use Rattle.world_core_base.specs.Marked.{AreMarked};
 ghost use Rattle.world_core_base.specs.Renewal.{renewed_bodies};
 ghost use Rattle.world_core_base.specs.RowColours.{HasItsMovers};
 ghost use Rattle.world_core_base.specs.Solving.{bodies_of, solve_order, solved};
-ghost use Rattle.world_core_base.specs.Stands.{StandAlike};
+ghost use Rattle.world_core_base.specs.Asleep.{SleepAlike};
 ghost use Rattle.world_rules.specs.Gathering.{CanGather};
 
 use body_handles::MAX_SLOTS;
@@ -91,7 +91,7 @@ pub(crate) fn solve<S: StepSolver>(
     ensures forbidden { forbidden_pairs joints.new.joints ≡ forbidden_pairs joints.old.joints }
     ensures bodies_flushed { bodies.new.pending ≡ 0 }
     ensures numbers { map number_of contacts.new.contacts ≡ map number_of contacts.old.contacts }
-    ensures stands { StandAlike bodies.old.bodies bodies.new.bodies }
+    ensures asleep { SleepAlike bodies.old.bodies bodies.new.bodies }
     ensures ends { KeepEnds joints.old.joints joints.new.joints }
 {
     let kept = contacts.split();

@@ -13,7 +13,7 @@ ghost use Rattle.sleep_wake.specs.Acting.{IsConsistent, is_mover_awake};
 ghost use Rattle.sleep_wake.specs.Sleeping.{islands_woken, sleeping_names, slept_at};
 ghost use Rattle.world_core.specs.Waking.{HasIsland, HasIslands, IsExtended};
 ghost use Rattle.world_core_base.specs.Marked.{AreMarked};
-ghost use Rattle.world_core_base.specs.Stands.{AreContactSets, AreJointSets};
+ghost use Rattle.world_core_base.specs.Asleep.{AreContactSets, AreJointSets};
 ghost use Rattle.solver_sets.specs.Ties.{slots_of, ties_of};
 ghost use Rattle.world_core.specs.WorldTies.{CanTell};
 
@@ -23,10 +23,9 @@ use body_handles::{MAX_SLOTS, SlotEntry};
 use contacts::{Constraint, ContactTable};
 use fixed_geom::Refusal;
 use momenta::Gain;
-use packed_sets::SolverSets;
 use sleep_wake::Sets;
 use std::alloc::Global;
-use world_core_base::{BodyTable, JointTable};
+use world_core_base::{BodyTable, JointTable, SleepingSets};
 
 /// The sleeping islands that are to wake: their names, and the movers in them.
 #[derive(Drop)]
@@ -105,17 +104,17 @@ pub(crate) fn wake_planned(
     bodies: &mut BodyTable,
     joint_entries: &[SlotEntry],
     joints: &JointTable,
-    stands: &mut SolverSets,
+    joint_sets: &mut SleepingSets,
     contacts: &ContactTable,
-    contact_stands: &mut SolverSets,
+    contact_sets: &mut SleepingSets,
     waking: &Waking,
 )
     requires movers { HasIslands sets.old.acting.labels waking.now.names.items waking.now.movers.items }
     requires few { length bodies.old.bodies ≤ MAX_SLOTS }
     requires bodies { AreBodies bodies.old.bodies }
     requires told { told sets.old.acting.labels bodies.old.bodies ≡ bodies.old.bodies }
-    requires standing { AreJointSets bodies.old.bodies joints.now.joints stands.old }
-    requires contacts_standing { AreContactSets bodies.old.bodies contacts.now.numbered contact_stands.old }
+    requires standing { AreJointSets bodies.old.bodies joints.now.joints joint_sets.old }
+    requires contacts_standing { AreContactSets bodies.old.bodies contacts.now.numbered contact_sets.old }
     requires can_tell { CanTell (slots_of joint_entries.now joints.now.joints) contacts.now.contacts }
     requires ties { ties_of bodies.old.bodies (slots_of joint_entries.now joints.now.joints) contacts.now.contacts ≡ sets.old.acting.ties }
     ensures acting { sets.new.acting ≡ islands_woken constraint_number waking.now.names.items sets.old.acting }
@@ -125,9 +124,9 @@ pub(crate) fn wake_planned(
     ensures room { sets.new.room ≡ sets.old.room }
     ensures slots { sets.new.slots ≡ sets.old.slots }
     ensures marked { AreMarked bodies.old bodies.new }
-    ensures standing { AreJointSets bodies.new.bodies joints.now.joints stands.new }
-    ensures contacts_standing { AreContactSets bodies.new.bodies contacts.now.numbered contact_stands.new }
-    ensures items { length stands.new.stands ≡ length stands.old.stands }
+    ensures standing { AreJointSets bodies.new.bodies joints.now.joints joint_sets.new }
+    ensures contacts_standing { AreContactSets bodies.new.bodies contacts.now.numbered contact_sets.new }
+    ensures items { length joint_sets.new.names ≡ length joint_sets.old.names }
 {
     if waking.names.is_empty() {
         return;
@@ -137,18 +136,18 @@ pub(crate) fn wake_planned(
         bodies: bodies.bodies(),
         joint_entries,
         joints,
-        joint_sets: stands,
+        joint_sets,
         contacts,
-        contact_sets: contact_stands,
+        contact_sets,
     };
     sets.know_told(&ties);
     sets.wake_named(&waking.names, &ties);
     let _ = tell_movers(
         bodies,
         joints,
-        stands,
+        joint_sets,
         contacts,
-        contact_stands,
+        contact_sets,
         &waking.movers,
         sets,
     );
@@ -162,9 +161,9 @@ pub(crate) fn put_to_sleep(
     bodies: &mut BodyTable,
     joint_entries: &[SlotEntry],
     joints: &JointTable,
-    stands: &mut SolverSets,
+    joint_sets: &mut SleepingSets,
     contacts: &ContactTable,
-    contact_stands: &mut SolverSets,
+    contact_sets: &mut SleepingSets,
     slot: u32,
     movers: &[u32],
 ) -> Gain
@@ -173,8 +172,8 @@ pub(crate) fn put_to_sleep(
     requires few { length bodies.old.bodies ≤ MAX_SLOTS }
     requires bodies { AreBodies bodies.old.bodies }
     requires told { told sets.old.acting.labels bodies.old.bodies ≡ bodies.old.bodies }
-    requires standing { AreJointSets bodies.old.bodies joints.now.joints stands.old }
-    requires contacts_standing { AreContactSets bodies.old.bodies contacts.now.numbered contact_stands.old }
+    requires standing { AreJointSets bodies.old.bodies joints.now.joints joint_sets.old }
+    requires contacts_standing { AreContactSets bodies.old.bodies contacts.now.numbered contact_sets.old }
     requires can_tell { CanTell (slots_of joint_entries.now joints.now.joints) contacts.now.contacts }
     requires ties { ties_of bodies.old.bodies (slots_of joint_entries.now joints.now.joints) contacts.now.contacts ≡ sets.old.acting.ties }
     ensures acting { sets.new.acting ≡ slept_at constraint_number slot sets.old.acting }
@@ -186,8 +185,8 @@ pub(crate) fn put_to_sleep(
     ensures room { sets.new.room ≡ sets.old.room }
     ensures slots { sets.new.slots ≡ sets.old.slots }
     ensures marked { AreMarked bodies.old bodies.new }
-    ensures standing { AreJointSets bodies.new.bodies joints.now.joints stands.new }
-    ensures contacts_standing { AreContactSets bodies.new.bodies contacts.now.numbered contact_stands.new }
+    ensures standing { AreJointSets bodies.new.bodies joints.now.joints joint_sets.new }
+    ensures contacts_standing { AreContactSets bodies.new.bodies contacts.now.numbered contact_sets.new }
 {
     if !sets.is_awake(slot) {
         return Gain { x: 0, y: 0 };
@@ -198,17 +197,17 @@ pub(crate) fn put_to_sleep(
             bodies: bodies.bodies(),
             joint_entries,
             joints,
-            joint_sets: stands,
+            joint_sets,
             contacts,
-            contact_sets: contact_stands,
+            contact_sets,
         },
     );
     tell_movers(
         bodies,
         joints,
-        stands,
+        joint_sets,
         contacts,
-        contact_stands,
+        contact_sets,
         movers,
         sets,
     )

@@ -38,14 +38,13 @@ use crew::PieceMap;
 use event_feed::Events;
 use fixed_geom::{Refusal, Vec2, ZERO_VECTOR, is_within};
 use impulse_ledger::Ledger;
-use packed_sets::SolverSets;
 use plain_world::{Body, BodyView, Plain, body_of, copy_bodies};
 use sleep_wake::Sets;
 use solver_sets::{Census, take_census};
 use std::alloc::Global;
 use std::marker::Model;
 pub use steps::is_tick_count;
-use world_core_base::{BodyTable, GatheredRows, JointTable, list_contact_stands};
+use world_core_base::{BodyTable, GatheredRows, JointTable, SleepingSets, list_contacts_asleep};
 use world_rules::{Command, MAX_CALLS, Reply};
 
 /// The greatest size of a component of gravity, in u/tick².
@@ -71,10 +70,10 @@ pub struct WorldCore {
     calls: u64,
     ledger: Ledger,
     events: Events,
-    // Each joint where it stands by its bodies, by slot. The table of bodies has those of the bodies.
-    joint_sets: SolverSets,
-    // Each contact where it stands by its bodies, by number.
-    contact_sets: SolverSets,
+    // The joints that sleep, by slot.
+    joint_sets: SleepingSets,
+    // The contacts that sleep, by number.
+    contact_sets: SleepingSets,
 }
 
 impl Model for WorldCore {
@@ -113,8 +112,8 @@ impl WorldCore {
             calls: 0,
             ledger: Ledger::new(alloc),
             events: Events::new(alloc),
-            joint_sets: SolverSets::new(alloc),
-            contact_sets: SolverSets::new(alloc),
+            joint_sets: SleepingSets::new(alloc),
+            contact_sets: SleepingSets::new(alloc),
         })
     }
 
@@ -125,11 +124,15 @@ impl WorldCore {
     {
         let alloc = self.bodies.allocator();
         let records = copy_records(&self.ledger, &self.events)?;
-        let joints = copy_joint_parts(&self.joint_handles, &self.joints, &self.joint_sets)?;
+        let joints = copy_joint_parts(&self.joint_handles, &self.joints, &self.bodies)?;
         let bodies = copy_body_parts(&self.handles, &self.bodies)?;
         let constraints = copy_constraint_parts(&self.contacts, &self.sets, alloc)?;
         // The copy numbers its contacts anew, so that their sets are listed and not copied.
-        let contact_sets = list_contact_stands(alloc, &self.bodies, &constraints.contacts)?;
+        let contact_sets = list_contacts_asleep(
+            alloc,
+            self.bodies.bodies(),
+            &constraints.contacts,
+        )?;
         Ok(WorldCore {
             handles: bodies.handles,
             bodies: bodies.table,

@@ -1,5 +1,5 @@
-//! The constraints of a world as its islands ask for them: a sleeping island's from its solver sets, and a mover's from
-//! the ends and the contacts at it.
+//! The constraints of a world as its islands ask for them: a sleeping island's from its sets, and a mover's from the ends
+//! and the contacts at it.
 
 ghost use Rattle.std.specs.Prelude.{◌≡◌, ◌+◌, ◌++◌, ◌≤◌, length, slice_get, vec_capacity};
 ghost use Rattle.std.specs.List.{filter_map};
@@ -11,29 +11,28 @@ ghost use Rattle.packed_sets.specs.Stands.{AreOnce};
 ghost use Rattle.sleep_wake.specs.Sources.{asleep_ties, first_ties};
 ghost use Rattle.solver_sets.specs.Alike.{AreJointSlots};
 ghost use Rattle.solver_sets.specs.Ties.{slots_of, ties_of};
-ghost use Rattle.world_core.specs.WorldTies.{AreOfTwo, JoinTwo, all_contact_ties, all_joint_ties, asleep_under, contact_tie_in, if_first, joint_tie_in};
-ghost use Rattle.world_core_base.specs.Stands.{AreContactSets, AreJointSets};
+ghost use Rattle.world_core.specs.WorldTies.{AreOfTwo, JoinTwo, all_contact_ties, all_joint_ties, contact_tie_in, if_first, joint_tie_in};
+ghost use Rattle.world_core_base.specs.Asleep.{AreContactSets, AreJointSets, asleep_under};
 
 use crate::own_contacts::contact_tie;
 use body_handles::{Handle, SlotEntry};
 use contacts::{Constraint, ContactTable, Side};
 use graph_colours::Member;
-use packed_sets::SolverSets;
 use plain_world::{Body, BodyJoint, item_at};
 use sleep_wake::{TieSource, put_some};
 use solver_sets::joint_tie;
 use std::marker::Model;
-use world_core_base::JointTable;
+use world_core_base::{JointTable, SleepingSets};
 
-/// The joints and the contacts, and the sets in which they stand.
+/// The joints and the contacts, and the sets of those that sleep.
 #[derive(Drop)]
 pub(crate) struct WorldTies<'a> {
     pub bodies: &'a [Option<Body>],
     pub joint_entries: &'a [SlotEntry],
     pub joints: &'a JointTable,
-    pub joint_sets: &'a SolverSets,
+    pub joint_sets: &'a SleepingSets,
     pub contacts: &'a ContactTable,
-    pub contact_sets: &'a SolverSets,
+    pub contact_sets: &'a SleepingSets,
 }
 
 impl<'a> Model for WorldTies<'a> {
@@ -98,7 +97,7 @@ fn push_joints_asleep(
     bodies: &[Option<Body>],
     joint_entries: &[SlotEntry],
     joints: &[Option<BodyJoint>],
-    sets: &SolverSets,
+    sets: &SleepingSets,
     name: u32,
 )
     requires slots { AreJointSlots (slots_of joint_entries.now joints.now) }
@@ -107,10 +106,11 @@ fn push_joints_asleep(
     ensures pushed { IsPermutation (list.old.items ++ asleep_ties (asleep_under bodies.now) name (all_joint_ties bodies.now (slots_of joint_entries.now joints.now))) list.new.items }
     ensures capacity { vec_capacity list.old ≤ vec_capacity list.new }
 {
-    let mut next = sets.first_asleep(name);
+    sets.know_sets();
+    let mut next = sets.first(name);
     while let Some(slot) = next {
         put_some(list, joint_tie_in(bodies, joint_entries, joints, slot));
-        next = sets.asleep_behind(slot);
+        next = sets.behind(slot);
     }
 }
 
@@ -119,7 +119,7 @@ fn push_contacts_asleep(
     list: &mut Vec<Member<Constraint>>,
     bodies: &[Option<Body>],
     contacts: &ContactTable,
-    sets: &SolverSets,
+    sets: &SleepingSets,
     name: u32,
 )
     requires rising { AreKeysRising contacts.now.contacts }
@@ -129,10 +129,11 @@ fn push_contacts_asleep(
     ensures capacity { vec_capacity list.old ≤ vec_capacity list.new }
 {
     contacts.know_numbered();
-    let mut next = sets.first_asleep(name);
+    sets.know_sets();
+    let mut next = sets.first(name);
     while let Some(number) = next {
         put_some(list, contact_tie(bodies, contacts.contact(number)));
-        next = sets.asleep_behind(number);
+        next = sets.behind(number);
     }
 }
 

@@ -12,11 +12,11 @@ pub mod TellLaws
 pub mod TellSomeLaws
 pub mod TimeLaws
 pub mod FollowLaws
-pub mod TurnLaws
+pub mod SleepingLaws
 pub mod SideLaws
-pub mod StandLaws
-pub mod JointStandLaws
-pub mod ContactStandLaws
+pub mod AsleepLaws
+pub mod JointAsleepLaws
+pub mod ContactAsleepLaws
 pub mod StandingLaws
 pub mod ColourLists
 pub mod RowOrderLaws

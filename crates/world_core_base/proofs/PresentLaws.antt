@@ -1,10 +1,8 @@
 -- A constraint that is there has a row, of two bodies that are there.
 use Rattle.std.proofs.Common.{◌≡◌, ◌≢◌, ℕ, ◌<◌, true, is_some, List, Option, Some, None, length, refl, ap, ◌∙◌, subst}
-use Rattle.std.specs.Prelude.{option_map, slice_index_or}
+use Rattle.std.specs.Prelude.{option_map}
 use Rattle.momenta.specs.declared.state.BodyState.{BodyState}
 use Rattle.momenta.specs.declared.state.Ends.{Ends}
-use Rattle.contacts_base.specs.Contacts.{lookup}
-use Rattle.contacts_base.specs.Evaluate.{touches}
 use Rattle.contacts_base.specs.declared.contact.ContactPoint.{ContactPoint}
 use Rattle.contacts_base.specs.declared.contact.ContactEntry.{ContactEntry}
 use Rattle.contacts_base.specs.declared.key.ContactKey.{ContactKey}
@@ -12,13 +10,12 @@ use Rattle.contacts.specs.declared.constraint.Constraint.{Constraint}
 use Rattle.contacts.specs.declared.constraint.Constraint.TheVariants as constraints
 use Rattle.colour_solver_base.specs.declared.row.Bodies as pairs
 use Rattle.colour_solver_base.specs.declared.row.ContactRow.{ContactRow}
-use Rattle.colour_solver_base.specs.Rows.{contact_row, row_from}
+use Rattle.colour_solver_base.specs.Rows.{row_from}
 use Rattle.colour_solver.specs.declared.constraint_row.ConstraintRow.{ConstraintRow}
 use Rattle.colour_solver.specs.declared.constraint_row.ConstraintRow.TheVariants as rows
-use Rattle.plain_world.specs.Joints.{joint_at}
 use Rattle.plain_world.specs.declared.joint.BodyJoint.{BodyJoint}
-use Rattle.world_core_base.specs.ConstraintRows.{HasJointOn, constraint_row, joint_row_in}
-use Rattle.world_core_base.specs.Gather.{AreContactsOn, IsContactOn, bodies_of, ends_at, row_in, row_of}
+use Rattle.world_core_base.specs.ConstraintRows.{constraint_row, joint_row_in}
+use Rattle.world_core_base.specs.Gather.{AreContactsOn, IsContactOn, bodies_of, ends_at, row_in}
 use Rattle.world_core_base.specs.StepRuns.{HasContact, IsPresent}
 use Rattle.world_core_base.proofs.ContactLaws.{found_is, row_is}
 

@@ -6,18 +6,10 @@ use Rattle.std.proofs.lemmas.Bool.Decides.{nat_tests}
 use Rattle.momenta.specs.declared.state.BodyState.{BodyState}
 use Rattle.colour_solver.specs.States as step
 use Rattle.colour_solver.specs.States.{carried_of, moves, movers_of, places_from}
-use Rattle.std.specs.Option.{is_none}
-use Rattle.momenta.specs.declared.mass.MassData.{MassData}
-use Rattle.shapes.specs.Shapes.{shapes_refusal}
-use Rattle.shapes.specs.declared.shape.ShapeDef.{ShapeDef}
-use Rattle.plain_world.specs.declared.kind.Kind.{Kind}
-use Rattle.plain_world.specs.declared.kind.Kind.TheVariants.{Static, Kinematic, Dynamic}
-use Rattle.plain_world.specs.Kinds.{IsCourseOf, carried_by, halted, is_dynamic, is_moving, is_static}
-use Rattle.plain_world.specs.Bodies.{IsBody, IsMassOf}
 use Rattle.plain_world.specs.declared.body.Body.{Body}
 use Rattle.world_core_base.specs.Awake.{with_state}
 use Rattle.world_core_base.specs.Gather.{state_of, states_of}
-use Rattle.plain_world.specs.Changes.{disabled_body, enabled_body, is_awake_in}
+use Rattle.plain_world.specs.Changes.{is_awake_in}
 use Rattle.plain_world.specs.InSlots.{is_carried_in}
 use Rattle.plain_world.specs.Slots.{body_at, with_body}
 use Rattle.world_core_base.proofs.GatherLaws.{carried_state, length-states}

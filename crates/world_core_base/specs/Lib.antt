@@ -6,7 +6,8 @@ pub mod ConstraintRows
 pub mod Moved
 pub mod Listing
 pub mod Merging
-pub mod Stands
+pub mod Sleeping
+pub mod Asleep
 pub mod Turned
 pub mod Following
 pub mod Awake

@@ -1,18 +1,14 @@
 -- Bodies that are told in some slots alone.
-use Rattle.std.specs.Prelude.{◌≡◌, ◌⊎◌, ◌<◌, ℕ, List, Contains, length, Option, None, Some, option_map}
+use Rattle.std.specs.Prelude.{◌≡◌, ◌⊎◌, ◌<◌, ℕ, List, Contains, length, Option, Some, None, option_map}
 use Rattle.islands.specs.Labels.{Labels, label_at, sleeping_name}
 use Rattle.plain_world.specs.declared.body.Body.{Body}
 use Rattle.plain_world.specs.Sleep.{told_body}
 use Rattle.plain_world.specs.Slots.{body_at}
+use Rattle.world_core_base.specs.Asleep.{asleep_in}
 
 -- in each slot beside these the body, if there is one, stays as it is when it is told
 abbrev pub AreToldBeside : List ℕ → Labels → List (Option Body) → Type 0
 AreToldBeside slots labels bodies = (slot : ℕ) → (Contains slots slot → ⊥) → option_map (told_body (label_at labels slot)) (body_at bodies slot) ≡ body_at bodies slot
-
--- the name under which the body in the slot sleeps, if it does
-abbrev pub asleep_in : Option Body → Option ℕ
-asleep_in None = None
-asleep_in (Some b) = b.asleep
 
 -- labels by which whoever sleeps sleeps on or is awake, those that sleep under one name do so together, and nobody
 -- falls asleep under the name of who wakes

@@ -21,7 +21,7 @@ ghost use Rattle.world_core_base.specs.Covers.{AreCovered, IsCover};
 ghost use Rattle.world_core_base.specs.Marked.{AreMarked, AreMoreMarks};
 ghost use Rattle.world_core_base.specs.Renewal.{renewed_bodies};
 ghost use Rattle.world_core_base.specs.Standing.{HaveSameStanding};
-ghost use Rattle.world_core_base.specs.Stands.{StandAlike, body_stand};
+ghost use Rattle.world_core_base.specs.Asleep.{SleepAlike};
 ghost use Rattle.world_core_base.specs.StepRuns.{CanStep, HaveImpulses, run_over};
 ghost use Rattle.world_core_base.specs.Telling.{AreToldBeside};
 ghost use Rattle.momenta.specs.Gains.{IsGain};
@@ -35,7 +35,6 @@ use crate::gather::body_state;
 use crate::gathered_rows::GatheredRows;
 use crate::moving::move_bodies;
 use crate::slot_list::{Group, SlotList};
-use crate::stands::body_stand;
 use crate::step_solver::{Constraints, MovingSlots, Pace, StepSolver};
 use crate::telling_bodies::{tell_bodies, tell_listed};
 use crate::timing::time_bodies;
@@ -47,7 +46,7 @@ use fixed_geom::Refusal;
 use graph_colours::{COLOURS, Colours};
 use islands::Islands;
 use momenta::{BodyState, Gain, NOBODY};
-use packed_sets::{Marks, Stand};
+use packed_sets::Marks;
 use plain_world::{
     Body, BodyChange, change_slot, clear_slot, copy_bodies, disable_slot, enable_slot, put_item,
 };
@@ -194,13 +193,6 @@ impl BodyTable {
         self.carried.as_slice()
     }
 
-    /// Where the body in a slot stands; `None` where there is none. Takes constant time.
-    pub fn stand(&self, slot: u32) -> Option<Stand>
-        ensures { result ≡ body_stand self.now.bodies slot }
-    {
-        body_stand(&self.bodies, slot)
-    }
-
     /// For each slot whether it is marked. One that has no mark here counts as marked, and has no body.
     pub fn marks(&self) -> &Marks
         ensures value { result.now ≡ self.now.marks }
@@ -308,7 +300,7 @@ impl BodyTable {
         requires slot { slot < length self.old.bodies }
         requires fits { ForSome (body_at self.old.bodies slot) (C.fits change.now) }
         ensures bodies { self.new.bodies ≡ changed_at (C.after change.now) self.old.bodies slot }
-        ensures stands { StandAlike self.old.bodies self.new.bodies }
+        ensures asleep { SleepAlike self.old.bodies self.new.bodies }
         ensures marked { AreMarked self.old self.new }
     {
         self.room = 0;
@@ -425,7 +417,7 @@ impl BodyTable {
         ensures all_bodies { AreBodies self.new.bodies }
         ensures slots { HaveSameSlots self.old.bodies self.new.bodies }
         ensures standing { HaveSameStanding self.old.bodies self.new.bodies }
-        ensures stands { StandAlike self.old.bodies self.new.bodies }
+        ensures asleep { SleepAlike self.old.bodies self.new.bodies }
         ensures marked { AreMarked self.old self.new }
         ensures flushed { self.new.pending ≡ 0 }
     {
@@ -461,7 +453,7 @@ impl BodyTable {
         ensures all_bodies { AreBodies self.new.bodies }
         ensures slots { HaveSameSlots self.old.bodies self.new.bodies }
         ensures standing { HaveSameStanding self.old.bodies self.new.bodies }
-        ensures stands { StandAlike self.old.bodies self.new.bodies }
+        ensures asleep { SleepAlike self.old.bodies self.new.bodies }
         ensures small { AreSums (2 ^ 83) result }
         ensures momentum { momentum self.new.bodies ≡ plus (momentum self.old.bodies) (added result) }
         ensures marked { AreMarked self.old self.new }

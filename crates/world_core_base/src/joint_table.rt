@@ -7,20 +7,22 @@ ghost use Rattle.std.specs.Result.{IsOkUnless};
 ghost use Rattle.body_handles.specs.declared.slot_table.TheConstants.{MAX_SLOTS};
 ghost use Rattle.plain_world.specs.Joints.{forbidden_pairs, idle_if, idle_joints, is_end_in, joint_at};
 ghost use Rattle.plain_world.specs.InSlots.{impulse_set, with_impulse};
-ghost use Rattle.packed_sets.specs.Stands.{AreOnce, stand_at};
+ghost use Rattle.packed_sets.specs.Stands.{AreOnce};
 ghost use Rattle.plain_world.specs.declared.joint.BodyJoint.{BodyJoint as TheBodyJoint};
 ghost use Rattle.world_core_base.specs.Following.{CanFollow};
 ghost use Rattle.world_core_base.specs.JointTables.{own_slots};
 ghost use Rattle.world_core_base.specs.JointEnds.{ends_of, halves};
-ghost use Rattle.world_core_base.specs.Stands.{IsOfNone, joint_stand};
+ghost use Rattle.world_core_base.specs.Asleep.{AreJointSets, AreNamedAsleep, IsOfNone, joint_sleep};
+ghost use Rattle.world_core_base.specs.Sleeping.{sleep_at};
 ghost use Rattle.plain_world.specs.Slots.{with_item};
 
+use crate::SleepingSets;
 use crate::forbidden_pairs::either_keeps_apart;
 use crate::joint_ends::{Ends, drop_ends, ends_of, list_slots, note_ends, reserve_ends};
-use crate::stands::follow_joints;
+use crate::joints_asleep::{follow_joints, list_joints_asleep};
 use contacts::ForbiddenPairs;
 use fixed_geom::Refusal;
-use packed_sets::{PackedSets, SolverSets};
+use packed_sets::PackedSets;
 use plain_world::{Body, BodyJoint, clear_slot, put_item};
 use std::alloc::Global;
 use std::marker::Model;
@@ -141,14 +143,23 @@ impl JointTable {
         self.ends.members(body)
     }
 
-    /// Moves the joints of the bodies in these slots to where they stand now, in the sets of the joints. All others
-    /// stand where they stood. Costs by how many they are. Takes no memory.
-    pub fn follow(&self, sets: &mut SolverSets, bodies: &[Option<Body>], slots: &[u32])
-        requires can { CanFollow (stand_at sets.old.stands) (joint_stand bodies.now self.now.joints) sets.old.names }
-        requires others { (slot : ℕ) → IsOfNone slots.now (joint_at self.now.joints slot) → joint_stand bodies.now self.now.joints slot ≡ stand_at sets.old.stands slot }
-        ensures stands { (slot : ℕ) → stand_at sets.new.stands slot ≡ joint_stand bodies.now self.now.joints slot }
-        ensures names { sets.new.names ≡ sets.old.names }
-        ensures items { length sets.new.stands ≡ length sets.old.stands }
+    /// The sets of those of the joints that sleep by these bodies.
+    pub fn list_asleep(&self, bodies: &[Option<Body>]) -> Result<SleepingSets, Refusal>
+        requires { AreNamedAsleep bodies.now }
+        ensures asleep { IfOk result (λ sets. AreJointSets bodies.now self.now.joints sets) }
+        ensures memory_only { IsOkUnless result Refusal.NoMemory }
+    {
+        list_joints_asleep(*self.joints.allocator(), bodies, &self.joints)
+    }
+
+    /// Lets the joints of the bodies in these slots wake or fall asleep as these have, in the sets of the joints. All
+    /// others are where they are to be. Costs by how many they are. Takes no memory.
+    pub fn follow(&self, sets: &mut SleepingSets, bodies: &[Option<Body>], slots: &[u32])
+        requires can { CanFollow (sleep_at sets.old.names) (joint_sleep bodies.now self.now.joints) (length sets.old.names) (length sets.old.sets) }
+        requires others { (slot : ℕ) → IsOfNone slots.now (joint_at self.now.joints slot) → joint_sleep bodies.now self.now.joints slot ≡ sleep_at sets.old.names slot }
+        ensures asleep { (slot : ℕ) → sleep_at sets.new.names slot ≡ joint_sleep bodies.now self.now.joints slot }
+        ensures items { length sets.new.names ≡ length sets.old.names }
+        ensures sets { length sets.new.sets ≡ length sets.old.sets }
     {
         follow_joints(sets, &self.ends, &self.joints, bodies, slots);
     }

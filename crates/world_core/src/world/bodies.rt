@@ -18,7 +18,6 @@ use fixed_geom::{Refusal, Vec2};
 use impulse_ledger::Cause;
 use plain_world::{BodyChange, BodyDef, Course, body_of, know_filters_fit};
 use shapes::Pose;
-use world_core_base::{drop_contact_stands, drop_joint_stands};
 use world_rules::Reply;
 
 impl WorldCore {
@@ -71,13 +70,11 @@ impl WorldCore {
             &waking,
         );
         leave(&mut self.sets, handle.slot, mover, &ties);
-        drop_joint_stands(&mut self.joint_sets, &own);
         drop_joints(&mut self.joint_handles, &mut self.joints, handle.slot, &own);
         self.bodies.clear(handle.slot);
         self.contacts.know_numbered();
         self.contacts.drop_of_body(handle.slot);
         self.contacts.know_numbered();
-        drop_contact_stands(&mut self.contact_sets, &self.contacts);
         self.handles.remove(handle);
         book(
             &mut self.ledger,

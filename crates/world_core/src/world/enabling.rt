@@ -13,7 +13,6 @@ use body_handles::Handle;
 use fixed_geom::Refusal;
 use impulse_ledger::Cause;
 use plain_world::body_of;
-use world_core_base::drop_contact_stands;
 use world_rules::Reply;
 
 impl WorldCore {
@@ -48,9 +47,6 @@ impl WorldCore {
         self.contacts.know_numbered();
         self.contacts.drop_of_body(handle.slot);
         self.contacts.know_numbered();
-        drop_contact_stands(&mut self.contact_sets, &self.contacts);
-        self.joints
-            .follow(&mut self.joint_sets, self.bodies.bodies(), &[handle.slot]);
         book(
             &mut self.ledger,
             self.calls + 1,

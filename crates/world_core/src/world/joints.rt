@@ -11,7 +11,6 @@ use contacts::Constraint;
 use fixed_geom::Refusal;
 use plain_world::JointDef;
 use solver_sets::{begin_with, end_with, joint_movers};
-use world_core_base::put_joint_stand;
 use world_rules::Reply;
 
 impl WorldCore {
@@ -43,12 +42,6 @@ impl WorldCore {
         let movers = joint_movers(self.bodies.bodies(), &joint);
         begin_with(&mut self.sets, Constraint::Joint(handle), movers);
         self.bodies.mark(joint.a);
-        put_joint_stand(
-            &mut self.joint_sets,
-            self.bodies.bodies(),
-            &joint,
-            handle.slot,
-        );
         self.joints.put(handle.slot, joint);
         self.calls += 1;
         Ok(Reply::Joint(handle))
@@ -77,7 +70,6 @@ impl WorldCore {
         self.bodies.mark(joint.b);
         self.joints.clear(handle.slot);
         self.joint_handles.remove(handle);
-        self.joint_sets.remove(handle.slot);
         self.calls += 1;
         Ok(Reply::Done)
     }

@@ -9,7 +9,7 @@ ghost use Rattle.contacts_base.specs.ContactLists.{AreContacts};
 ghost use Rattle.plain_world.specs.Slots.{AreMatched};
 ghost use Rattle.sleep_wake.specs.Acting.{IsConsistent};
 ghost use Rattle.world_core.specs.SavedAgain.{ComesBack};
-ghost use Rattle.world_core_base.specs.Stands.{AreJointSets, AreNamedAsleep};
+ghost use Rattle.world_core_base.specs.Asleep.{AreJointSets, AreNamedAsleep};
 ghost use Rattle.world_file.specs.Answers.{IsRefusedBy};
 ghost use Rattle.world_file.specs.Files.{read_of};
 ghost use Rattle.world_rules.specs.Sets.{acting_of};
@@ -30,9 +30,7 @@ use serde_json::Value;
 use sleep_wake::Sets;
 use solver_sets::{count_members, list_all_ties, list_members};
 use std::alloc::Global;
-use world_core_base::{
-    BodyTable, GatheredRows, JointTable, list_contact_stands, list_joint_stands,
-};
+use world_core_base::{BodyTable, GatheredRows, JointTable, list_contacts_asleep};
 use world_file::{Broken, read};
 
 /// The contacts of a plain world.
@@ -79,7 +77,7 @@ fn load_bodies(alloc: Global, plain: &Plain) -> Result<BodyParts, Refusal>
     })
 }
 
-/// The joints of a plain world, their handles, and the sets in which they stand.
+/// The joints of a plain world, their handles, and the sets of those that sleep.
 fn load_joints(alloc: Global, plain: &Plain) -> Result<JointParts, Refusal>
     requires each { All IsSlotEntry plain.now.joint_entries }
     requires matched { AreMatched plain.now.joint_entries plain.now.joints }
@@ -89,10 +87,12 @@ fn load_joints(alloc: Global, plain: &Plain) -> Result<JointParts, Refusal>
     ensures sets { IfOk result (λ made. AreJointSets plain.now.bodies plain.now.joints made.sets) }
     ensures memory_only { IsOkUnless result Refusal.NoMemory }
 {
+    let table = JointTable::from_joints(alloc, plain.joints())?;
+    let sets = table.list_asleep(plain.bodies())?;
     Ok(JointParts {
         handles: Handles::from_slot_entries(alloc, plain.joint_entries())?,
-        table: JointTable::from_joints(alloc, plain.joints())?,
-        sets: list_joint_stands(alloc, plain.bodies(), plain.joints())?,
+        table,
+        sets,
     })
 }
 
@@ -123,7 +123,11 @@ impl WorldCore {
         let bodies = load_bodies(alloc, plain)?;
         let joints = load_joints(alloc, plain)?;
         let constraints = load_constraints(alloc, plain)?;
-        let contact_sets = list_contact_stands(alloc, &bodies.table, &constraints.contacts)?;
+        let contact_sets = list_contacts_asleep(
+            alloc,
+            bodies.table.bodies(),
+            &constraints.contacts,
+        )?;
         Ok(WorldCore {
             handles: bodies.handles,
             bodies: bodies.table,

@@ -18,15 +18,15 @@ use Rattle.world_core.proofs.KnownLaws.{marked_after}
 use Rattle.world_core.proofs.QuietSteps.{RestsQuietly, rests_quietly, tied_timed}
 use Rattle.world_core.proofs.RestLaws.{awake_few, awake_rises, awake_slots, newly_asleep_awake, phase_by_awake, tied_rested}
 use Rattle.world_core.proofs.TellingLaws.{fewer_asleep, phase_on, rested_beside}
-use Rattle.world_core_base.proofs.ContactStandLaws.{contacts_alike}
-use Rattle.world_core_base.proofs.JointStandLaws.{joints_alike}
-use Rattle.world_core_base.proofs.StandLaws.{alike_timed}
+use Rattle.world_core_base.proofs.ContactAsleepLaws.{contacts_alike}
+use Rattle.world_core_base.proofs.JointAsleepLaws.{joints_alike}
+use Rattle.world_core_base.proofs.AsleepLaws.{alike_timed}
 use Rattle.sleep_wake.specs.SleepPhase.{sleep_phase}
 use Rattle.contacts.specs.Constraints.{constraint_number}
 use Rattle.plain_world.specs.declared.joint.BodyJoint.{BodyJoint}
-use Rattle.packed_sets.specs.Stands.{Standings}
+use Rattle.world_core_base.specs.Sleeping.{Sleeping}
 use Rattle.plain_world.specs.Bodies.{AreBodies}
-use Rattle.world_core_base.specs.Stands.{AreContactSets, AreJointSets, StandAlike}
+use Rattle.world_core_base.specs.Asleep.{AreContactSets, AreJointSets, SleepAlike}
 use Rattle.world_core_base.proofs.TimeLaws.{length-timed}
 use Rattle.world_rules.proofs.ToldLaws.{told_stays}
 use Rattle.world_core.proofs.KeepLaws.{keep_rested}
@@ -120,31 +120,31 @@ tell_movers-requires-clause-together c =
     let are : AreBodies timed = timed_are_bodies c.args.ticks c.args.bodies.now.bodies c.requires.bodies in
     rw (c.time.ensures.bodies, phased (goal.at.tell_movers-requires-clause-together c).After-sleep_phase) (keep_rested s.labels (sleep_phase constraint_number timers s).labels timed are (told_stays s.labels timed are told) (phase_on timers s c.requires.consistent))
 
-standing_timed : (ticks : ℕ) (bodies now : List (Option Body)) (joints : List (Option BodyJoint)) (sets : Standings) → now ≡ timed_bodies ticks bodies → AreJointSets bodies joints sets → AreJointSets now joints sets
-standing_timed ticks bodies now joints sets e are = joints_alike bodies now joints sets (let long = ap (λ (os : List (Option Body)). length os) e ∙ length-timed ticks bodies in omega (arith, long)) (subst (StandAlike bodies) (sym e) (alike_timed ticks bodies)) are
+standing_timed : (ticks : ℕ) (bodies now : List (Option Body)) (joints : List (Option BodyJoint)) (sets : Sleeping) → now ≡ timed_bodies ticks bodies → AreJointSets bodies joints sets → AreJointSets now joints sets
+standing_timed ticks bodies now joints sets e are = joints_alike bodies now joints sets (let long = ap (λ (os : List (Option Body)). length os) e ∙ length-timed ticks bodies in omega (arith, long)) (subst (SleepAlike bodies) (sym e) (alike_timed ticks bodies)) are
 
-contacts_timed : (ticks : ℕ) (bodies now : List (Option Body)) (numbered : List (Option NumberedContact)) (sets : Standings) → now ≡ timed_bodies ticks bodies → AreContactSets bodies numbered sets → AreContactSets now numbered sets
-contacts_timed ticks bodies now numbered sets e are = contacts_alike bodies now numbered sets (let long = ap (λ (os : List (Option Body)). length os) e ∙ length-timed ticks bodies in omega (arith, long)) (subst (StandAlike bodies) (sym e) (alike_timed ticks bodies)) are
+contacts_timed : (ticks : ℕ) (bodies now : List (Option Body)) (numbered : List (Option NumberedContact)) (sets : Sleeping) → now ≡ timed_bodies ticks bodies → AreContactSets bodies numbered sets → AreContactSets now numbered sets
+contacts_timed ticks bodies now numbered sets e are = contacts_alike bodies now numbered sets (let long = ap (λ (os : List (Option Body)). length os) e ∙ length-timed ticks bodies in omega (arith, long)) (subst (SleepAlike bodies) (sym e) (alike_timed ticks bodies)) are
 
 -- the source reads the bodies as they are timed
 pub invariant_of-sleep_phase : goal.invariant_of-sleep_phase
 invariant_of-sleep_phase c = record {
   can = c.requires.can_tell;
-  joints_standing = standing_timed c.args.ticks c.args.bodies.now.bodies c.bodies-3.result.now c.args.joints.now.joints c.args.stands.now (c.bodies-3.ensures ∙ c.time.ensures.bodies) c.requires.standing;
-  contacts_standing = contacts_timed c.args.ticks c.args.bodies.now.bodies c.bodies-3.result.now c.args.contacts.now.numbered c.args.contact_stands.now (c.bodies-3.ensures ∙ c.time.ensures.bodies) c.requires.contacts_standing;
+  joints_standing = standing_timed c.args.ticks c.args.bodies.now.bodies c.bodies-3.result.now c.args.joints.now.joints c.args.joint_sets.now (c.bodies-3.ensures ∙ c.time.ensures.bodies) c.requires.standing;
+  contacts_standing = contacts_timed c.args.ticks c.args.bodies.now.bodies c.bodies-3.result.now c.args.contacts.now.numbered c.args.contact_sets.now (c.bodies-3.ensures ∙ c.time.ensures.bodies) c.requires.contacts_standing;
 }
 
 pub tell_movers-requires-clause-contacts_standing : goal.tell_movers-requires-clause-contacts_standing
-tell_movers-requires-clause-contacts_standing c = contacts_timed c.args.ticks c.args.bodies.now.bodies c.time.new.self.bodies c.args.contacts.now.numbered c.args.contact_stands.now c.time.ensures.bodies c.requires.contacts_standing
+tell_movers-requires-clause-contacts_standing c = contacts_timed c.args.ticks c.args.bodies.now.bodies c.time.new.self.bodies c.args.contacts.now.numbered c.args.contact_sets.now c.time.ensures.bodies c.requires.contacts_standing
 
 pub returns-then-quiet-clause-contacts_standing : goal.returns-then-quiet-clause-contacts_standing
-returns-then-quiet-clause-contacts_standing c = contacts_timed c.args.ticks c.args.bodies.now.bodies c.time.new.self.bodies c.args.contacts.now.numbered c.args.contact_stands.now c.time.ensures.bodies c.requires.contacts_standing
+returns-then-quiet-clause-contacts_standing c = contacts_timed c.args.ticks c.args.bodies.now.bodies c.time.new.self.bodies c.args.contacts.now.numbered c.args.contact_sets.now c.time.ensures.bodies c.requires.contacts_standing
 
 pub tell_movers-requires-clause-standing : goal.tell_movers-requires-clause-standing
-tell_movers-requires-clause-standing c = standing_timed c.args.ticks c.args.bodies.now.bodies c.time.new.self.bodies c.args.joints.now.joints c.args.stands.now c.time.ensures.bodies c.requires.standing
+tell_movers-requires-clause-standing c = standing_timed c.args.ticks c.args.bodies.now.bodies c.time.new.self.bodies c.args.joints.now.joints c.args.joint_sets.now c.time.ensures.bodies c.requires.standing
 
 pub returns-then-quiet-clause-standing : goal.returns-then-quiet-clause-standing
-returns-then-quiet-clause-standing c = standing_timed c.args.ticks c.args.bodies.now.bodies c.time.new.self.bodies c.args.joints.now.joints c.args.stands.now c.time.ensures.bodies c.requires.standing
+returns-then-quiet-clause-standing c = standing_timed c.args.ticks c.args.bodies.now.bodies c.time.new.self.bodies c.args.joints.now.joints c.args.joint_sets.now c.time.ensures.bodies c.requires.standing
 
 pub returns-then-quiet-clause-gain : goal.returns-then-quiet-clause-gain
 returns-then-quiet-clause-gain c = rw c.time.ensures.bodies (sym (minus_same (momentum (timed_bodies c.args.ticks c.args.bodies.now.bodies))))

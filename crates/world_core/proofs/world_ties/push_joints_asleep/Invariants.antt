@@ -8,9 +8,9 @@ use Rattle.world_core.proofs.world_ties.push_joints_asleep.Given as goal
 
 abbrev pub invariant-loop-next : goal.invariant-loop-next
 invariant-loop-next l = record {
-  pushing : IsPushing (joint_tie_in l.bodies (slots_of l.joint_entries l.joints)) (list_at l.sets.sleepers l.name) l.next l.fn.list.items l.list.items (vec_capacity l.fn.list);
+  pushing : IsPushing (joint_tie_in l.bodies (slots_of l.joint_entries l.joints)) (list_at l.sets.sets l.name) l.next l.fn.list.items l.list.items (vec_capacity l.fn.list);
   capacity : vec_capacity l.fn.list ≤ vec_capacity l.list;
 }
 
 abbrev pub decreases-loop-next : goal.decreases-loop-next
-decreases-loop-next l = count_left (list_at l.sets.sleepers l.name) l.next
+decreases-loop-next l = count_left (list_at l.sets.sets l.name) l.next

@@ -1,11 +1,10 @@
-use Rattle.std.proofs.Common.{◌≡◌, ap, sym, ◌∙◌}
+use Rattle.std.proofs.Common.{◌≡◌, ap, ◌∙◌}
 use Rattle.colour_solver.specs.ColourRows.{all_rows}
 use Rattle.colour_solver.specs.Ticks.{Run, ran, run_of, start}
 use Rattle.world_core_base.specs.ConstraintRows.{rows_of}
 use Rattle.world_core_base.specs.StepRuns.{run_over}
 use Rattle.world_core_base.proofs.RowColourLaws.{gathered_apart}
 use Rattle.world_core_base.proofs.StepRunLaws.{has_left, have_impulses}
-use Rattle.world_core_base.proofs.step_solver.run_alone.Given
 use Rattle.world_core_base.proofs.step_solver.run_alone.Goals as goal
 
 pub gather_rows-requires-clause-all_states : goal.gather_rows-requires-clause-all_states

@@ -3,8 +3,9 @@ use Rattle.solver_sets.specs.Beside.{stirred_by}
 use Rattle.world_rules.specs.World.{World}
 use Rattle.world_core.specs.contracts.world.WorldCore.{the_view}
 use Rattle.world_core.proofs.Whole.{HasWoken, changed_whole, has_woken, told_whole}
-use Rattle.world_core_base.proofs.ContactStandLaws.{contacts_alike}
-use Rattle.world_core_base.proofs.JointStandLaws.{joints_alike, same_long}
+use Rattle.world_core_base.proofs.ContactAsleepLaws.{contacts_alike}
+use Rattle.world_core_base.proofs.AsleepLaws.{same_long}
+use Rattle.world_core_base.proofs.JointAsleepLaws.{joints_alike}
 use Rattle.world_core.proofs.CoreLaws.{core_bodies}
 use Rattle.world_core.proofs.KnownLaws.{marked_after}
 use Rattle.world_core.proofs.WorldSourceLaws.{world_can_tell, world_ties}
@@ -41,5 +42,5 @@ invariant_of-self g c =
     (rw c.change.ensures.bodies (changed_whole w c.args.handle (g.C.BodyChange.after c.args.change.now) c.self.inside.sets.acting _ _ c.self.invariant.whole woke (rw (← c.self.view_is) at c.requires.may)))
     refl refl refl refl
     (marked_after c.self.inside.bodies c.wake_planned.new.bodies c.change.new.self c.wake_planned.ensures.marked c.change.ensures.marked)
-    c.wake_planned.new.stands (joints_alike c.wake_planned.new.bodies.bodies c.change.new.self.bodies c.self.inside.joints.joints c.wake_planned.new.stands (same_long c.wake_planned.new.bodies.bodies c.change.new.self.bodies c.args.handle.slot _ c.change.ensures.bodies) c.change.ensures.stands c.wake_planned.ensures.standing)
-    c.self.inside.contacts.numbered c.wake_planned.new.contact_stands (contacts_alike c.wake_planned.new.bodies.bodies c.change.new.self.bodies c.self.inside.contacts.numbered c.wake_planned.new.contact_stands (same_long c.wake_planned.new.bodies.bodies c.change.new.self.bodies c.args.handle.slot _ c.change.ensures.bodies) c.change.ensures.stands c.wake_planned.ensures.contacts_standing)
+    c.wake_planned.new.joint_sets (joints_alike c.wake_planned.new.bodies.bodies c.change.new.self.bodies c.self.inside.joints.joints c.wake_planned.new.joint_sets (same_long c.wake_planned.new.bodies.bodies c.change.new.self.bodies c.args.handle.slot _ c.change.ensures.bodies) c.change.ensures.asleep c.wake_planned.ensures.standing)
+    c.self.inside.contacts.numbered c.wake_planned.new.contact_sets (contacts_alike c.wake_planned.new.bodies.bodies c.change.new.self.bodies c.self.inside.contacts.numbered c.wake_planned.new.contact_sets (same_long c.wake_planned.new.bodies.bodies c.change.new.self.bodies c.args.handle.slot _ c.change.ensures.bodies) c.change.ensures.asleep c.wake_planned.ensures.contacts_standing)

@@ -10,15 +10,15 @@ use Rattle.world_rules.proofs.KeptMade.{free_slot}
 use Rattle.world_rules.proofs.PartsLeft.{create_left}
 use Rattle.world_core.specs.contracts.world.WorldCore.{the_view}
 use Rattle.world_core.proofs.PartLaws.{create_answers, free_label, kept_of, same_handle, whole}
-use Rattle.world_core_base.proofs.JointStandLaws.{joints_made}
-use Rattle.world_core_base.proofs.StandLaws.{same_more}
+use Rattle.world_core.proofs.ChangedJointLaws.{body_comes}
 use Rattle.world_core_base.proofs.TableLaws.{length-with_body}
 use Rattle.world_core.proofs.CoreLaws.{core_bodies}
 use Rattle.world_core.proofs.KnownLaws.{marked_after}
 use Rattle.plain_world.specs.Slots.{with_body}
 use Rattle.solver_sets.specs.Ties.{is_enabled_in}
 use Rattle.world_core.proofs.ComingLaws.{made_beside}
-use Rattle.world_core.proofs.ListedContactLaws.{contacts_stay}
+use Rattle.world_core.proofs.UpContactLaws.{contacts_stay}
+use Rattle.world_core.proofs.WorldSourceLaws.{contacts_more, joints_more}
 use Rattle.world_core.proofs.world.WorldCore.create_body.Goals as goal
 
 pub come-requires-clause-fresh : goal.come-requires-clause-fresh
@@ -59,6 +59,15 @@ pub put-requires-clause-free : goal.put-requires-clause-free
 put-requires-clause-free c =
     rw (c.in_ok-handle.ensures.slot, c.in_ok-reserve_one.ensures.kept, c.in_ok-reserve_one-2.ensures.bodies) (free_slot (the_view c.self.inside) (kept_of _ _ c.self.invariant.whole))
 
+-- room that was made for no body leaves the world as it was
+pub invariant_of-self-in_err-reserve-3 : goal.invariant_of-self-in_err-reserve-3
+invariant_of-self-in_err-reserve-3 c =
+    core_bodies (the_view c.self.inside) _ _ _ c.self.inside.bodies c.reserve_one-2.new.self c.self.invariant
+    (rw (c.in_ok-reserve_one.ensures.kept, c.in_ok-reserve_one-2.ensures.bodies, c.in_ok-reserve.ensures.acting) c.self.invariant.whole)
+    refl refl refl refl c.in_ok-reserve_one-2.ensures.marked
+    c.reserve-2.new.self (rw c.in_ok-reserve_one-2.ensures.bodies (joints_more c.self.inside.bodies.bodies c.self.inside.joints.joints c.self.inside.joint_sets c.reserve-2.new.self c.reserve-2.ensures.same c.reserve-2.ensures.more_items c.reserve-2.ensures.more_sets c.self.invariant.standing))
+    c.self.inside.contacts.numbered c.reserve-3.new.self (rw c.in_ok-reserve_one-2.ensures.bodies (contacts_more c.self.inside.bodies.bodies c.self.inside.contacts.numbered c.self.inside.contact_sets c.reserve-3.new.self c.reserve-3.ensures.same c.reserve-3.ensures.more_items c.reserve-3.ensures.more_sets c.self.invariant.contacts_standing))
+
 pub invariant_of-self-2 : goal.invariant_of-self-2
 invariant_of-self-2 c =
     let w : World = the_view c.self.inside in
@@ -73,11 +82,11 @@ invariant_of-self-2 c =
     (marked_after c.self.inside.bodies c.reserve_one-2.new.self c.put.new.self c.in_ok-reserve_one-2.ensures.marked c.put.ensures.marked)
     c.reserve-2.new.self
     (rw (c.put.ensures.bodies, c.in_ok-handle.ensures.slot, c.in_ok-reserve_one.ensures.kept, c.in_ok-body.ensures.made, c.in_ok-reserve_one-2.ensures.bodies)
-    (joints_made w.plain.bodies w.plain.joints (lowest w.plain.slot_entries) (made c.args.def.now) c.self.inside.joint_sets c.reserve-2.new.self (kept_of _ _ c.self.invariant.whole).joints (free_slot w (kept_of _ _ c.self.invariant.whole))
+    (body_comes w.plain.bodies w.plain.joints (lowest w.plain.slot_entries) (made c.args.def.now) c.self.inside.joint_sets c.reserve-2.new.self (kept_of _ _ c.self.invariant.whole).joints (free_slot w (kept_of _ _ c.self.invariant.whole))
     (let least : lowest w.plain.slot_entries ≤ length w.plain.slot_entries = lowest-le-length w.plain.slot_entries in let slots : length w.plain.slot_entries ≡ length w.plain.bodies = (kept_of _ _ c.self.invariant.whole).matched.slots in omega (arith, least, slots))
-    (rw c.in_ok-reserve-2.ensures.stands (same_more 0 c.self.inside.joint_sets.stands))
+    c.reserve-2.ensures.same c.reserve-2.ensures.more_items
     (let least : lowest w.plain.slot_entries ≤ length w.plain.slot_entries = lowest-le-length w.plain.slot_entries in let slots : length w.plain.slot_entries ≡ length w.plain.bodies = (kept_of _ _ c.self.invariant.whole).matched.slots in
-    let more = length-with_body w.plain.bodies (lowest w.plain.slot_entries) (made c.args.def.now) (omega (arith, least, slots)) in let room = rw (c.bodies-2.ensures, c.in_ok-reserve_one-2.ensures.bodies) at c.in_ok-reserve-2.ensures.named in omega (arith, more, room))
+    let more = length-with_body w.plain.bodies (lowest w.plain.slot_entries) (made c.args.def.now) (omega (arith, least, slots)) in let room = rw (c.bodies-2.ensures, c.in_ok-reserve_one-2.ensures.bodies) at c.in_ok-reserve-2.ensures.sets in omega (arith, more, room))
     c.self.invariant.standing))
     c.self.inside.contacts.numbered c.reserve-3.new.self
     (rw (c.put.ensures.bodies, c.in_ok-handle.ensures.slot, c.in_ok-reserve_one.ensures.kept, c.in_ok-body.ensures.made, c.in_ok-reserve_one-2.ensures.bodies)
@@ -85,9 +94,9 @@ invariant_of-self-2 c =
     let least : slot ≤ length w.plain.slot_entries = lowest-le-length w.plain.slot_entries in
     let slots : length w.plain.slot_entries ≡ length w.plain.bodies = (kept_of _ _ c.self.invariant.whole).matched.slots in
     let more = length-with_body w.plain.bodies slot (made c.args.def.now) (omega (arith, least, slots)) in
-    let room = rw (c.bodies-3.ensures, c.in_ok-reserve_one-2.ensures.bodies) at c.in_ok-reserve-3.ensures.named in
+    let room = rw (c.bodies-3.ensures, c.in_ok-reserve_one-2.ensures.bodies) at c.in_ok-reserve-3.ensures.sets in
     contacts_stay w.plain.bodies (with_body w.plain.bodies slot (made c.args.def.now)) slot w.plain.contacts c.self.inside.contacts.numbered c.self.inside.contact_sets c.reserve-3.new.self (kept_of _ _ c.self.invariant.whole).there (ap is_enabled_in (free_slot w (kept_of _ _ c.self.invariant.whole))) c.know_numbered.ensures.numbered
-    (λ other ne. made_beside w.plain.bodies slot (made c.args.def.now) other (omega (arith, least, slots)) ne) (rw c.in_ok-reserve-3.ensures.stands (same_more 0 c.self.inside.contact_sets.stands)) (omega (arith, more, room)) c.self.invariant.contacts_standing))
+    (λ other ne. made_beside w.plain.bodies slot (made c.args.def.now) other (omega (arith, least, slots)) ne) c.reserve-3.ensures.same c.reserve-3.ensures.more_items (omega (arith, more, room)) c.self.invariant.contacts_standing))
 
 pub returns : goal.returns
 returns c =

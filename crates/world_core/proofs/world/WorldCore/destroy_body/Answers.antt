@@ -5,24 +5,18 @@ use Rattle.world_rules.proofs.KeptChanges.{named_at}
 use Rattle.world_core.specs.contracts.world.WorldCore.{the_view}
 use Rattle.world_core.proofs.Whole.{told_whole}
 use Rattle.world_core.proofs.GoingLaws.{IsGoing, is_going, there_still}
-use Rattle.world_core.proofs.KeepLaws.{stirred_listed}
-use Rattle.world_core.proofs.ListedJointLaws.{own_stirred_listed}
-use Rattle.world_core.proofs.ChangedJointLaws.{body_leaves, joints_leave}
-use Rattle.world_core_base.proofs.OwnJointLaws.{listed_end}
-use Rattle.world_core_base.specs.Stands.{joint_stand}
-use Rattle.packed_sets.specs.Stands.{is_listed}
-use Rattle.plain_world.specs.Joints.{is_end_in, joint_at}
+use Rattle.world_core.proofs.UpJointLaws.{own_stirred_up}
+use Rattle.world_core.proofs.ChangedJointLaws.{body_leaves, set_beside}
 use Rattle.world_core.proofs.LeavingLaws.{destroyed_quietly}
 use Rattle.world_core.proofs.PartLaws.{destroy_answers, entry_fits, kept_of, whole}
 use Rattle.plain_world.specs.declared.body.Body.{Body}
 use Rattle.plain_world.specs.Slots.{body_at}
-use Rattle.solver_sets.proofs.SlotLemmas.{item_at-set_none, item_at-set_other}
+use Rattle.solver_sets.proofs.SlotLemmas.{item_at-set_none}
 use Rattle.world_core.proofs.CoreLaws.{core_destroyed}
 use Rattle.world_core.proofs.KnownLaws.{marked_after}
 use Rattle.world_core.proofs.WorldSourceLaws.{world_can_tell, world_ties}
 use Rattle.std.proofs.lemmas.List.{length-set}
-use Rattle.world_core_base.specs.Stands.{stand_in}
-use Rattle.world_core.proofs.ListedContactLaws.{contacts_leave, own_contacts_listed}
+use Rattle.world_core.proofs.UpContactLaws.{contacts_leave, own_contact_up}
 use Rattle.world_core.proofs.world.WorldCore.destroy_body.Goals as goal
 use Rattle.world_core.proofs.world.WorldCore.destroy_body.Goals.{After-deref-2}
 
@@ -58,22 +52,6 @@ leave-requires-clause-alone c = (going c).alone
 pub clear-requires : goal.clear-requires
 clear-requires c = record { slot = there_still (the_view c.self.inside) c.args.handle c.in-Some.body.now _ _ (rw (← c.bodies.ensures) (sym c.in-Some.ensures)) c.wake_planned.ensures.told }
 
-pub drop_joint_stands-requires : goal.drop_joint_stands-requires
-drop_joint_stands-requires c k h =
-    let w : World = the_view c.self.inside in
-    let left = (goal.at.drop_joint_stands-requires c).After-deref-2 in
-    let slot = c.args.handle.slot in
-    let own : is_end_in slot (joint_at w.plain.joints k) ≡ true = listed_end slot k w.plain.joints c.deref-3.result.now (c.deref-3.ensures.value ∙ c.in_ok-own.ensures.slots) h in
-    let listed : is_listed (joint_stand c.wake_planned.new.bodies.bodies w.plain.joints k) ≡ true = rw (c.wake_planned.ensures.told, (going left).bodies) (own_stirred_listed w c.self.inside.sets.acting slot k c.self.invariant.whole own) in
-    ap is_listed (c.wake_planned.ensures.standing.stands k) ∙ listed
-
-pub drop_contact_stands-requires : goal.drop_contact_stands-requires
-drop_contact_stands-requires c number went =
-    let w : World = the_view c.self.inside in
-    let left = (goal.at.drop_contact_stands-requires c).After-deref-2 in
-    own_contacts_listed w c.self.inside.sets.acting c.args.handle.slot c.self.inside.contacts.numbered c.drop_of_body.new.self.numbered c.drop_of_body.new.self.made c.drop_of_body.new.self.gone c.wake_planned.new.contact_stands c.self.invariant.whole c.know_numbered.ensures.numbered (rw c.drop_of_body.ensures.contacts at c.know_numbered-2.ensures.numbered) c.drop_of_body.ensures.turnover
-    (rw (c.wake_planned.ensures.told, (going left).bodies) at c.wake_planned.ensures.contacts_standing) number went
-
 pub book-requires-clause-fits : goal.book-requires-clause-fits
 book-requires-clause-fits c =
     entry_fits (the_view c.self.inside) _ c.reserve.new.self _ c.self.invariant.whole c.in_ok-reserve.ensures.entries c.in_ok-reserve.ensures.settled (omega (arith, c.loss_of.ensures.small_x)) (omega (arith, c.loss_of.ensures.small_y))
@@ -93,15 +71,15 @@ invariant_of-self-2 c =
     (whole w _ _ _ (destroyed_quietly w c.self.inside.sets.acting c.args.handle c.in-Some.body.now (kept_of _ _ c.self.invariant.whole) c.self.invariant.whole.same calls is_named)))
     refl refl (named_at w.plain c.args.handle c.in-Some.body.now is_named) none
     (marked_after c.self.inside.bodies c.wake_planned.new.bodies c.clear.new.self c.wake_planned.ensures.marked c.clear.ensures.marked) joints c.drop_of_body.ensures.contacts
-    c.drop_joint_stands.new.sets
+    c.wake_planned.new.joint_sets
     (rw (c.clear.ensures.bodies, joints)
-    (body_leaves c.wake_planned.new.bodies.bodies c.args.handle.slot (joints_in_slots w.plain) c.drop_joint_stands.new.sets
-    (joints_leave c.wake_planned.new.bodies.bodies c.args.handle.slot (joints_in_slots w.plain) c.deref-3.result.now c.wake_planned.new.stands c.drop_joint_stands.new.sets (c.deref-3.ensures.value ∙ c.in_ok-own.ensures.slots) c.drop_joint_stands.ensures.gone c.drop_joint_stands.ensures.others c.drop_joint_stands.ensures.names
-    c.wake_planned.ensures.standing)))
-    c.drop_of_body.new.self.numbered c.drop_contact_stands.new.sets
-    (contacts_leave c.wake_planned.new.bodies.bodies c.clear.new.self.bodies c.args.handle.slot w.plain.contacts c.self.inside.contacts.numbered c.drop_of_body.new.self.numbered c.drop_of_body.new.self.made c.drop_of_body.new.self.gone c.wake_planned.new.contact_stands c.drop_contact_stands.new.sets c.know_numbered.ensures.numbered (rw c.drop_of_body.ensures.contacts at c.know_numbered-2.ensures.numbered)
-    c.drop_of_body.ensures.turnover c.drop_of_body.ensures.none c.drop_contact_stands.ensures.gone c.drop_contact_stands.ensures.others c.drop_contact_stands.ensures.names
-    (λ other ne. rw c.clear.ensures.bodies (ap stand_in (item_at-set_other c.wake_planned.new.bodies.bodies c.args.handle.slot None other ne)))
+    (body_leaves c.wake_planned.new.bodies.bodies c.args.handle.slot (joints_in_slots w.plain) c.wake_planned.new.joint_sets
+    (λ k own. rw (c.wake_planned.ensures.told, leaving.bodies) (own_stirred_up w c.self.inside.sets.acting c.args.handle.slot k c.self.invariant.whole own)) c.wake_planned.ensures.standing))
+    c.drop_of_body.new.self.numbered c.wake_planned.new.contact_sets
+    (contacts_leave c.wake_planned.new.bodies.bodies c.clear.new.self.bodies c.args.handle.slot w.plain.contacts c.self.inside.contacts.numbered c.drop_of_body.new.self.numbered c.drop_of_body.new.self.made c.drop_of_body.new.self.gone c.wake_planned.new.contact_sets c.know_numbered.ensures.numbered (rw c.drop_of_body.ensures.contacts at c.know_numbered-2.ensures.numbered)
+    c.drop_of_body.ensures.turnover c.drop_of_body.ensures.none
+    (λ e there own touch. rw (c.wake_planned.ensures.told, leaving.bodies) (own_contact_up w c.self.inside.sets.acting c.args.handle.slot e c.self.invariant.whole there own touch))
+    (λ other ne. rw c.clear.ensures.bodies (set_beside c.wake_planned.new.bodies.bodies c.args.handle.slot None other ne))
     (let long = ap (λ (os : List (Option Body)). length os) c.clear.ensures.bodies ∙ length-set c.wake_planned.new.bodies.bodies c.args.handle.slot None in omega (arith, long))
     c.wake_planned.ensures.contacts_standing)
 

@@ -1,11 +1,10 @@
-use Rattle.std.proofs.Common.{◌≡◌, ◌<◌, ◌^◌, ◌∙◌, true, Option, Some, ap, sym, refl}
-use Rattle.std.specs.Prelude.{option_map}
-use Rattle.packed_sets.specs.Stands.{is_listed}
+use Rattle.std.proofs.Common.{◌≡◌, ◌<◌, ◌^◌, ◌∙◌, Option, None, Some, ap, sym, refl}
+use Rattle.solver_sets.specs.Ties.{joint_movers}
 use Rattle.plain_world.specs.declared.joint.BodyJoint.{BodyJoint}
 use Rattle.plain_world.specs.Joints.{joint_at}
-use Rattle.world_core_base.specs.Stands.{stand_of_joint}
+use Rattle.world_core_base.specs.Asleep.{movers_of_joint, sleep_with}
 use Rattle.world_core.proofs.ChangedJointLaws.{joint_leaves}
-use Rattle.world_core.proofs.ListedJointLaws.{unjoined_listed}
+use Rattle.world_core.proofs.UpJointLaws.{unjoined_up}
 use Rattle.world_rules.specs.World.{World}
 use Rattle.world_rules.proofs.PartsLeft.{unjoin_left}
 use Rattle.world_core.specs.contracts.world.WorldCore.{the_view}
@@ -42,16 +41,6 @@ end_with-requires-clause-awake c =
 pub clear-requires : goal.clear-requires
 clear-requires c = joint_below (the_view c.self.inside) c.args.handle c.in-Some.joint (kept_of _ _ c.self.invariant.whole) (sym c.in-Some.ensures)
 
-pub remove-requires-2 : goal.remove-requires-2
-remove-requires-2 c =
-    let w : World = the_view c.self.inside in
-    let woke = c.wake_planned.new.bodies.bodies in
-    let at : joint_at w.plain.joints c.args.handle.slot ≡ Some c.in-Some.joint = (live_joint w c.args.handle c.in-Some.joint (sym c.in-Some.ensures)).1 in
-    let listed : is_listed (Some (stand_of_joint woke c.in-Some.joint)) ≡ true =
-    rw (c.wake_planned.ensures.told, c.wake_planned.ensures.acting, (rw (← c.self.view_is) at c.in_ok-waking.ensures.names))
-    (unjoined_listed w c.self.inside.sets.acting c.args.handle c.in-Some.joint c.self.invariant.whole (sym c.in-Some.ensures)) in
-    ap is_listed (c.wake_planned.ensures.standing.stands c.args.handle.slot) ∙ ap (λ (o : Option BodyJoint). is_listed (option_map (stand_of_joint woke) o)) at ∙ listed
-
 pub invariant_of-self : goal.invariant_of-self
 invariant_of-self c =
     let w : World = the_view c.self.inside in
@@ -61,10 +50,15 @@ invariant_of-self c =
     (whole w _ _ _ (unjoin_left w c.self.inside.sets.acting c.args.handle c.in-Some.joint (kept_of _ _ c.self.invariant.whole) c.self.invariant.whole.same calls (sym c.in-Some.ensures))))
     refl refl (live_joint w c.args.handle c.in-Some.joint (sym c.in-Some.ensures)).1
     (marked_after c.self.inside.bodies c.wake_planned.new.bodies c.mark.new.self c.wake_planned.ensures.marked c.mark.ensures.marked) c.mark.ensures.there c.clear.ensures refl
-    c.remove-2.new.self
-    (rw (c.mark.ensures.bodies, c.clear.ensures)
-    (joint_leaves c.wake_planned.new.bodies.bodies w.plain.joints c.args.handle.slot c.wake_planned.new.stands c.remove-2.new.self c.remove-2.ensures.stands c.remove-2.ensures.names c.wake_planned.ensures.standing))
-    c.self.inside.contacts.numbered c.wake_planned.new.contact_stands (rw c.mark.ensures.bodies c.wake_planned.ensures.contacts_standing)
+    c.wake_planned.new.joint_sets
+    (let woke = c.wake_planned.new.bodies.bodies in
+    let at : joint_at w.plain.joints c.args.handle.slot ≡ Some c.in-Some.joint = (live_joint w c.args.handle c.in-Some.joint (sym c.in-Some.ensures)).1 in
+    let up : sleep_with woke (joint_movers woke c.in-Some.joint) ≡ None =
+    rw (c.wake_planned.ensures.told, c.wake_planned.ensures.acting, (rw (← c.self.view_is) at c.in_ok-waking.ensures.names))
+    (unjoined_up w c.self.inside.sets.acting c.args.handle c.in-Some.joint c.self.invariant.whole (sym c.in-Some.ensures)) in
+    rw (c.mark.ensures.bodies, c.clear.ensures)
+    (joint_leaves woke w.plain.joints c.args.handle.slot c.wake_planned.new.joint_sets (ap (λ (o : Option BodyJoint). sleep_with woke (movers_of_joint woke o)) at ∙ up) c.wake_planned.ensures.standing))
+    c.self.inside.contacts.numbered c.wake_planned.new.contact_sets (rw c.mark.ensures.bodies c.wake_planned.ensures.contacts_standing)
 
 pub returns : goal.returns
 returns c =

@@ -2,17 +2,15 @@ use Rattle.std.proofs.Common.{◌≡◌, ◌∙◌, ℕ, ◌<◌, ◌^◌, false
 use Rattle.std.specs.Prelude.{option_map}
 use Rattle.std.proofs.lemmas.List.{length-set}
 use Rattle.body_handles.specs.declared.handle.Handle.{Handle}
-use Rattle.packed_sets.specs.Stands.{is_listed, stand_at}
 use Rattle.plain_world.specs.declared.body.Body.{Body}
 use Rattle.plain_world.specs.Changes.{changed_at, enabled_body}
 use Rattle.plain_world.specs.Joints.{joint_at}
 use Rattle.plain_world.specs.Slots.{body_at}
 use Rattle.solver_sets.specs.Beside.{joined_to}
-use Rattle.world_core_base.proofs.JointStandLaws.{changed_beside, changed_can_follow}
-use Rattle.world_core_base.specs.Stands.{AreNamedAsleep}
+use Rattle.world_core_base.specs.Asleep.{AreNamedAsleep}
 use Rattle.world_rules.proofs.KeptChanges.{named_at}
-use Rattle.world_core.proofs.ChangedJointLaws.{enabled_named, others_stand}
-use Rattle.world_core.proofs.ListedJointLaws.{off_listed, woken_disabled, woken_named}
+use Rattle.world_core.proofs.ChangedJointLaws.{changed_beside, changed_can_follow, enabled_named, set_beside}
+use Rattle.world_core.proofs.UpJointLaws.{off_up, woken_disabled, woken_named}
 use Rattle.world_rules.specs.World.{World, body_named}
 use Rattle.world_rules.proofs.KeptMade.{come_ties}
 use Rattle.world_rules.proofs.PartsLeft.{enable_left, enabled_left}
@@ -25,7 +23,7 @@ use Rattle.world_core.proofs.CoreLaws.{core_bodies}
 use Rattle.world_core.proofs.KnownLaws.{marked_after}
 use Rattle.world_core.proofs.WorldSourceLaws.{world_can_tell, world_ties}
 use Rattle.solver_sets.specs.Ties.{is_enabled, is_enabled_in}
-use Rattle.world_core.proofs.ListedContactLaws.{contacts_stay}
+use Rattle.world_core.proofs.UpContactLaws.{contacts_stay}
 use Rattle.world_core.proofs.Whole.{HasWoken, has_woken}
 use Rattle.world_rules.proofs.ActingLaws.{waking_kept}
 use Rattle.world_rules.specs.Sound.{HasBodies}
@@ -79,17 +77,18 @@ follow-requires-clause-can c =
     let asleep : AreNamedAsleep woke =
     rw (c.wake_planned.ensures.told, c.wake_planned.ensures.acting, c.in_ok-reserve.ensures.acting, (rw (← c.self.view_is) at c.in_ok-waking.ensures.names), c.deref-2.ensures.value, c.in_ok-joined.ensures.slots, c.bodies-2.ensures, c.joints.ensures)
     (woken_named w c.self.inside.sets.acting (joined_at w c.args.handle) c.self.invariant.whole) in
+    let long = length-set woke slot (option_map enabled_body (body_at woke slot)) in
     rw (c.bodies-5.ensures, c.enable.ensures.bodies)
-    (changed_can_follow woke (changed_at enabled_body woke slot) w.plain.joints slot (stand_at c.wake_planned.new.stands.stands) c.wake_planned.new.stands.names c.wake_planned.ensures.standing.stands (others_stand enabled_body woke slot)
-    (λ k end. ap is_listed (c.wake_planned.ensures.standing.stands k) ∙ off_listed woke slot c.in-Some.body.now (joint_at w.plain.joints k) at c.if-body.false end)
-    (enabled_named woke slot c.wake_planned.new.stands.names asleep c.wake_planned.ensures.standing.names there))
+    (changed_can_follow woke (changed_at enabled_body woke slot) w.plain.joints slot c.wake_planned.new.joint_sets (omega (arith, long)) (set_beside woke slot (option_map enabled_body (body_at woke slot)))
+    (λ k end. off_up woke slot (joint_at w.plain.joints k) (ap is_enabled_in at ∙ c.if-body.false) end)
+    (enabled_named woke slot there asleep) c.wake_planned.ensures.standing)
 
 pub follow-requires-clause-others : goal.follow-requires-clause-others
 follow-requires-clause-others c k =
     let slot = c.args.handle.slot in
     let woke = c.wake_planned.new.bodies.bodies in
     rw (c.bodies-5.ensures, c.enable.ensures.bodies)
-    (changed_beside woke (changed_at enabled_body woke slot) c.self.inside.joints.joints slot (stand_at c.wake_planned.new.stands.stands) c.wake_planned.ensures.standing.stands (others_stand enabled_body woke slot) k)
+    (changed_beside woke (changed_at enabled_body woke slot) c.self.inside.joints.joints slot c.wake_planned.new.joint_sets (set_beside woke slot (option_map enabled_body (body_at woke slot))) c.wake_planned.ensures.standing k)
 
 pub come-requires-clause-fresh : goal.come-requires-clause-fresh
 come-requires-clause-fresh c =
@@ -131,15 +130,16 @@ invariant_of-self-2 c =
     refl refl refl refl
     (marked_after c.self.inside.bodies c.wake_planned.new.bodies c.enable.new.self c.wake_planned.ensures.marked c.enable.ensures.marked)
     c.follow.new.sets (record {
-      stands = rw c.bodies-5.ensures at c.follow.ensures.stands;
-      names =
+      asleep = rw c.bodies-5.ensures at c.follow.ensures.asleep;
+      items = λ k on. let lt = c.wake_planned.ensures.standing.items k on in omega (arith, lt, c.follow.ensures.items);
+      named =
           let woke = c.wake_planned.new.bodies.bodies in
           let long : length c.enable.new.self.bodies ≡ length woke = ap (λ (os : List (Option Body)). length os) c.enable.ensures.bodies ∙ length-set woke c.args.handle.slot (option_map enabled_body (body_at woke c.args.handle.slot)) in
-          let room = c.wake_planned.ensures.standing.names in
-          let names = c.follow.ensures.names in
+          let room = c.wake_planned.ensures.standing.named in
+          let names = c.follow.ensures.sets in
           omega (arith, long, room, names);
     })
-    c.self.inside.contacts.numbered c.wake_planned.new.contact_stands
+    c.self.inside.contacts.numbered c.wake_planned.new.contact_sets
     (let slot = c.args.handle.slot in
     let woke = c.wake_planned.new.bodies.bodies in
     let slots = joined_to w.plain.bodies w.plain.joints slot in
@@ -149,8 +149,8 @@ invariant_of-self-2 c =
     let there : All (HasBodies woke) w.plain.contacts = rw has.bodies kept.kept.there in
     let off : is_enabled woke slot ≡ false = rw has.bodies (kept.alike.enabled slot ∙ ap is_enabled_in (named_at w.plain c.args.handle c.in-Some.body.now named) ∙ c.if-body.false) in
     let long : length c.enable.new.self.bodies ≡ length woke = ap (λ (os : List (Option Body)). length os) c.enable.ensures.bodies ∙ length-set woke slot (option_map enabled_body (body_at woke slot)) in
-    let room = c.wake_planned.ensures.contacts_standing.names in
-    contacts_stay woke c.enable.new.self.bodies slot w.plain.contacts c.self.inside.contacts.numbered c.wake_planned.new.contact_stands c.wake_planned.new.contact_stands there off c.know_numbered.ensures.numbered (rw c.enable.ensures.bodies (others_stand enabled_body woke slot)) (λ id. refl) (omega (arith, long, room)) c.wake_planned.ensures.contacts_standing)
+    let room = c.wake_planned.ensures.contacts_standing.named in
+    contacts_stay woke c.enable.new.self.bodies slot w.plain.contacts c.self.inside.contacts.numbered c.wake_planned.new.contact_sets c.wake_planned.new.contact_sets there off c.know_numbered.ensures.numbered (rw c.enable.ensures.bodies (set_beside woke slot (option_map enabled_body (body_at woke slot)))) (λ id. refl) (omega arith) (omega (arith, long, room)) c.wake_planned.ensures.contacts_standing)
 
 pub returns : goal.returns
 returns c =

@@ -7,8 +7,8 @@ use Rattle.world_core.proofs.world.WorldCore.from_plain.Goals as goal
 pub load_joints-requires-clause-named : goal.load_joints-requires-clause-named
 load_joints-requires-clause-named c = named_asleep c.args.plain.now.bodies (acting_of c.args.plain.now) c.requires.sound.promises.consistent (told_acting c.args.plain.now c.requires.sound.promises.told)
 
-pub list_contact_stands-requires : goal.list_contact_stands-requires
-list_contact_stands-requires c = record { named = rw c.in_ok-bodies.ensures.bodies (named_asleep c.args.plain.now.bodies (acting_of c.args.plain.now) c.requires.sound.promises.consistent (told_acting c.args.plain.now c.requires.sound.promises.told)) }
+pub list_contacts_asleep-requires : goal.list_contacts_asleep-requires
+list_contacts_asleep-requires c = rw (c.bodies.ensures, c.in_ok-bodies.ensures.bodies) (named_asleep c.args.plain.now.bodies (acting_of c.args.plain.now) c.requires.sound.promises.consistent (told_acting c.args.plain.now c.requires.sound.promises.told))
 
 pub load_constraints-requires-clause-contacts : goal.load_constraints-requires-clause-contacts
 load_constraints-requires-clause-contacts c = contacts_are c.args.plain.now c.args.totals c.requires.sound
@@ -49,7 +49,7 @@ invariant_of-result c =
     })
     c.in_ok-bodies.ensures.all
     c.in_ok-joints.joints.sets (rw (c.in_ok-bodies.ensures.bodies, c.in_ok-joints.ensures.joints) c.in_ok-joints.ensures.sets)
-    c.in_ok-constraints.constraints.contacts.numbered c.in_ok-contact_sets.contact_sets c.in_ok-contact_sets.ensures.stands
+    c.in_ok-constraints.constraints.contacts.numbered c.in_ok-contact_sets.contact_sets (rw (← c.bodies.ensures) c.in_ok-contact_sets.ensures.asleep)
 
 pub returns-clause-made : goal.returns-clause-made
 returns-clause-made c =

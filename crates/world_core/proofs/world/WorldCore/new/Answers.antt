@@ -2,8 +2,8 @@ use Rattle.std.proofs.Common.{◌^◌, rules, tests, ◌≡◌, ℕ, Bool, true,
 use Rattle.fixed_geom.specs.Vectors.{IsWithin}
 use Rattle.world_core.proofs.Whole.{empty_whole}
 use Rattle.std.specs.Prelude.{slice_index_or}
-use Rattle.world_core_base.proofs.ContactStandLaws.{contacts_none}
-use Rattle.world_core_base.proofs.JointStandLaws.{joints_none}
+use Rattle.world_core_base.proofs.ContactAsleepLaws.{contacts_none}
+use Rattle.world_core_base.proofs.JointAsleepLaws.{joints_none}
 use Rattle.world_core.proofs.CoreLaws.{core_all}
 use Rattle.world_core.proofs.Refusals.{not_made}
 use Rattle.world_rules.specs.Apply.{empty_world, gravity_refusal}
@@ -16,8 +16,8 @@ invariant_of-result c =
     core_all _ _ _
     (rw (c.new.ensures, c.new-2.ensures.bodies, c.new-3.ensures, c.new-4.ensures, c.new-5.ensures.contacts, c.in_ok-new.ensures.acting, c.new-9.ensures.entries, c.new-9.ensures.settled, c.new-10.ensures)
     (empty_whole c.args.gravity within))
-    marked c.new-11.result (joints_none _ _ c.new-11.result c.new-2.ensures.bodies c.new-4.ensures c.new-11.ensures.stands)
-    c.new-5.result.numbered c.new-12.result (contacts_none _ _ c.new-12.result c.new-2.ensures.bodies c.new-5.ensures.numbered c.new-12.ensures.stands)
+    marked c.new-11.result (joints_none _ _ c.new-11.result c.new-2.ensures.bodies c.new-4.ensures c.new-11.ensures.names)
+    c.new-5.result.numbered c.new-12.result (contacts_none _ _ c.new-12.result c.new-2.ensures.bodies c.new-5.ensures.numbered c.new-12.ensures.names)
 
 pub returns-in_err-new-clause-made : goal.returns-in_err-new-clause-made
 returns-in_err-new-clause-made c =

@@ -39,7 +39,7 @@ invariant_of-self-2 c =
     (sleep_whole (the_view c.self.inside) c.args.handle.slot c.self.inside.sets.acting c.put_to_sleep-rest.new.sets.acting _ c.self.invariant.whole calls c.put_to_sleep-rest.ensures.acting c.put_to_sleep-rest.ensures.told))
     refl refl refl refl
     c.put_to_sleep-rest.ensures.marked
-    c.put_to_sleep-rest.new.stands c.put_to_sleep-rest.ensures.standing c.self.inside.contacts.numbered c.put_to_sleep-rest.new.contact_stands c.put_to_sleep-rest.ensures.contacts_standing
+    c.put_to_sleep-rest.new.joint_sets c.put_to_sleep-rest.ensures.standing c.self.inside.contacts.numbered c.put_to_sleep-rest.new.contact_sets c.put_to_sleep-rest.ensures.contacts_standing
 
 pub returns : goal.returns
 returns c =

@@ -14,8 +14,8 @@ use Rattle.colour_solver.specs.States.{as_vector}
 use Rattle.plain_world.specs.Sleep.{timed_bodies}
 use Rattle.solver_sets.specs.SinceTold.{newly_asleep, newly_awake}
 use Rattle.world_core_base.specs.Awake.{Bodies}
-use Rattle.world_core_base.proofs.ContactStandLaws.{contacts_alike}
-use Rattle.world_core_base.proofs.JointStandLaws.{joints_alike, joints_by_ends}
+use Rattle.world_core_base.proofs.ContactAsleepLaws.{contacts_alike}
+use Rattle.world_core_base.proofs.JointAsleepLaws.{joints_alike, joints_by_ends}
 use Rattle.world_rules.specs.World.{World}
 use Rattle.world_rules.proofs.AcceptedAll.{few_ticks}
 use Rattle.world_rules.proofs.KeptChanges.{IsRoomy-kept, IsRoomy-same}
@@ -24,9 +24,7 @@ use Rattle.world_core.specs.contracts.world.WorldCore.{the_view}
 use Rattle.world_core.proofs.PartLaws.{kept_of, whole}
 use Rattle.world_core.proofs.WorldSourceLaws.{contacts_more, world_can_tell, world_ties}
 use Rattle.world_core.proofs.StepLaws.{AreCounted, AreFound, AreLeft, AreTicks, HasSolved, HasChanged, apart_changed, are_counted, bodies_changed, can_solve_changed, can_tell_solved, can_change_found, few_solved, few_changed, has_solved, has_changed, is_refusal, movers_changed, room_found, room_changed, consistent_found, consistent_changed, slept_rise, step_answers, step_is_left, step_refused, tell_solved, ticks_refused, tied_solved, ties_solved, timers_room, timers_solved, told_solved, woke_rise}
-use Rattle.packed_sets.specs.declared.stands.Stand.{Stand}
 use Rattle.world_core.proofs.ContactTurnLaws.{turned_found}
-use Rattle.world_core_base.proofs.StandLaws.{long_more}
 use Rattle.world_core.proofs.CoreLaws.{core_stepped}
 use Rattle.world_core.proofs.KnownLaws.{marked_after}
 use Rattle.world_core.proofs.world.WorldCore.step.Given as given
@@ -99,7 +97,7 @@ commit_collide-requires-clause-ties g c = rw (c.slot_entries.ensures, c.in_ok-pr
 pub commit_collide-requires-clause-contacts_standing : goal.commit_collide-requires-clause-contacts_standing
 commit_collide-requires-clause-contacts_standing g c =
     rw (c.in_ok-prepared.ensures.bodies, c.in_ok-prepared.ensures.numbered)
-    (contacts_more c.number_bound.result c.self.inside.bodies.bodies c.self.inside.contacts.numbered c.self.inside.contact_sets c.reserve.new.self c.in_ok-reserve.ensures.stands c.in_ok-reserve.ensures.more c.self.invariant.contacts_standing)
+    (contacts_more c.self.inside.bodies.bodies c.self.inside.contacts.numbered c.self.inside.contact_sets c.reserve.new.self c.reserve.ensures.same c.reserve.ensures.more_items c.reserve.ensures.more_sets c.self.invariant.contacts_standing)
 
 pub commit_collide-requires-clause-turned : goal.commit_collide-requires-clause-turned
 commit_collide-requires-clause-turned g c =
@@ -108,9 +106,8 @@ commit_collide-requires-clause-turned g c =
 
 pub commit_collide-requires-clause-numbers : goal.commit_collide-requires-clause-numbers
 commit_collide-requires-clause-numbers g c =
-    let long = ap (λ (l : List (Option Stand)). length l) c.in_ok-reserve.ensures.stands in
-    let room = long_more c.number_bound.result c.self.inside.contact_sets.stands in
-    rw (← c.number_bound.ensures.bound) (omega (arith, long, room))
+    let room = c.in_ok-reserve.ensures.items in
+    rw (← c.number_bound.ensures.bound) (omega (arith, room))
 
 pub commit_collide-requires-clause-sleepers : goal.commit_collide-requires-clause-sleepers
 commit_collide-requires-clause-sleepers g c = rw c.in_ok-prepared.ensures.acting c.in_ok-prepared.ensures.sleepers
@@ -305,17 +302,28 @@ are_left g c =
 pub rest_after_ticks-rest-requires-clause-standing : goal.rest_after_ticks-rest-requires-clause-standing
 rest_after_ticks-rest-requires-clause-standing g c =
     let same = c.solve-sums.ensures.slots.slots in
-    joints_by_ends c.solve-sums.new.bodies.bodies c.prepare.new.joints.joints c.solve-sums.new.joints.joints c.commit_collide.new.stands c.solve-sums.ensures.ends
-    (joints_alike c.commit_collide.new.bodies.bodies c.solve-sums.new.bodies.bodies c.prepare.new.joints.joints c.commit_collide.new.stands (omega (arith, same)) c.solve-sums.ensures.stands c.commit_collide.ensures.standing)
+    joints_by_ends c.solve-sums.new.bodies.bodies c.prepare.new.joints.joints c.solve-sums.new.joints.joints c.commit_collide.new.joint_sets c.solve-sums.ensures.ends
+    (joints_alike c.commit_collide.new.bodies.bodies c.solve-sums.new.bodies.bodies c.prepare.new.joints.joints c.commit_collide.new.joint_sets (omega (arith, same)) c.solve-sums.ensures.asleep c.commit_collide.ensures.standing)
 
 pub rest_after_ticks-rest-requires-clause-contacts_standing : goal.rest_after_ticks-rest-requires-clause-contacts_standing
 rest_after_ticks-rest-requires-clause-contacts_standing g c =
     let same = c.solve-sums.ensures.slots.slots in
-    rw c.solve-sums.ensures.numbered (contacts_alike c.commit_collide.new.bodies.bodies c.solve-sums.new.bodies.bodies c.commit_collide.new.contacts.numbered c.commit_collide.new.contact_stands (omega (arith, same)) c.solve-sums.ensures.stands c.commit_collide.ensures.contacts_standing)
+    rw c.solve-sums.ensures.numbered (contacts_alike c.commit_collide.new.bodies.bodies c.solve-sums.new.bodies.bodies c.commit_collide.new.contacts.numbered c.commit_collide.new.contact_sets (omega (arith, same)) c.solve-sums.ensures.asleep c.commit_collide.ensures.contacts_standing)
 
 -- the table of bodies, once its marks were taken away
 abbrev cleared : Bodies → Bodies
 cleared b = record b { marks = replicate (length b.marks) false }
+
+-- room that was made for no contact leaves the world as it was
+pub invariant_of-self-in_err-reserve : goal.invariant_of-self-in_err-reserve
+invariant_of-self-in_err-reserve g c =
+    rw (c.in_ok-prepared.ensures.bodies, c.in_ok-prepared.ensures.marks, c.in_ok-prepared.ensures.joints, c.in_ok-prepared.ensures.contacts, c.in_ok-prepared.ensures.numbered, c.in_ok-prepared.ensures.acting, c.in_ok-prepared.ensures.entries, c.in_ok-prepared.ensures.settled)
+    (record {
+      whole = c.self.invariant.whole;
+      known = c.self.invariant.known;
+      standing = c.self.invariant.standing;
+      contacts_standing = contacts_more c.self.inside.bodies.bodies c.self.inside.contacts.numbered c.self.inside.contact_sets c.reserve.new.self c.reserve.ensures.same c.reserve.ensures.more_items c.reserve.ensures.more_sets c.self.invariant.contacts_standing;
+    })
 
 pub invariant_of-self-2 : goal.invariant_of-self-2
 invariant_of-self-2 g c =
@@ -331,7 +339,7 @@ invariant_of-self-2 g c =
     c.in_ok-prepared.ensures.bodies refl
     (marked_after (cleared c.prepare.new.bodies) c.solve-sums.new.bodies c.rest_after_ticks-rest.new.bodies (marked_after (cleared c.prepare.new.bodies) c.commit_collide.new.bodies c.solve-sums.new.bodies c.commit_collide.ensures.marked c.solve-sums.ensures.marked) c.rest_after_ticks-rest.ensures.marked)
     (rw c.in_ok-prepared.ensures.joints at c.solve-sums.ensures.forbidden) (c.solve-sums.ensures.numbers ∙ ap (λ (es : List ContactEntry). map number_of es) (c.commit_collide.ensures.contacts ∙ c.in_ok-prepared.ensures.pending))
-    c.rest_after_ticks-rest.new.stands c.rest_after_ticks-rest.ensures.standing c.solve-sums.new.contacts.numbered c.rest_after_ticks-rest.new.contact_stands c.rest_after_ticks-rest.ensures.contacts_standing
+    c.rest_after_ticks-rest.new.joint_sets c.rest_after_ticks-rest.ensures.standing c.solve-sums.new.contacts.numbered c.rest_after_ticks-rest.new.contact_sets c.rest_after_ticks-rest.ensures.contacts_standing
 
 pub returns : goal.returns
 returns g c =

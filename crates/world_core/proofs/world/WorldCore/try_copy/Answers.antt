@@ -2,12 +2,14 @@ use Rattle.world_core.proofs.CopyLaws.{copied_whole}
 use Rattle.world_core.proofs.WorldSourceLaws.{whole_named}
 use Rattle.world_core.specs.contracts.world.WorldCore.{the_view}
 use Rattle.world_core.proofs.KnownLaws.{known_as}
-use Rattle.world_core_base.proofs.JointStandLaws.{sets_as}
 use Rattle.world_core.proofs.Refusals.{handed_on}
 use Rattle.world_core.proofs.world.WorldCore.try_copy.Goals as goal
 
-pub list_contact_stands-requires : goal.list_contact_stands-requires
-list_contact_stands-requires c = record { named = whole_named (the_view c.self.inside) c.self.inside.sets.acting c.self.invariant.whole }
+pub copy_joint_parts-requires : goal.copy_joint_parts-requires
+copy_joint_parts-requires c = whole_named (the_view c.self.inside) c.self.inside.sets.acting c.self.invariant.whole
+
+pub list_contacts_asleep-requires : goal.list_contacts_asleep-requires
+list_contacts_asleep-requires c = rw c.bodies.ensures (whole_named (the_view c.self.inside) c.self.inside.sets.acting c.self.invariant.whole)
 
 pub invariant_of-result : goal.invariant_of-result
 invariant_of-result c =
@@ -57,8 +59,8 @@ invariant_of-result c =
     record {
       whole = whole_as c.self.invariant.whole;
       known = known_as _ _ _ _ _ _ _ _ c.self.invariant.known c.in_ok-bodies.ensures.marks c.in_ok-bodies.ensures.bodies c.in_ok-joints.ensures.joints c.in_ok-constraints.ensures.contacts;
-      standing = sets_as _ _ _ _ _ _ c.self.invariant.standing c.in_ok-bodies.ensures.bodies c.in_ok-joints.ensures.joints c.in_ok-joints.ensures.sets;
-      contacts_standing = rw c.in_ok-bodies.ensures.bodies c.in_ok-contact_sets.ensures.stands;
+      standing = rw (c.in_ok-bodies.ensures.bodies, c.in_ok-joints.ensures.joints) c.in_ok-joints.ensures.sets;
+      contacts_standing = rw (c.in_ok-bodies.ensures.bodies, ← c.bodies.ensures) c.in_ok-contact_sets.ensures.asleep;
     }
 
 pub returns-in_err-contact_sets-clause-memory_only : goal.returns-in_err-contact_sets-clause-memory_only

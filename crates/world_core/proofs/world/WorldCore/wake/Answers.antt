@@ -23,4 +23,4 @@ invariant_of-self c =
     let woke : HasWoken (the_view c.self.inside) (c.args.handle.slot ∷ []) c.wake_planned.new.sets.acting c.wake_planned.new.bodies.bodies =
     has_woken (the_view c.self.inside) (c.args.handle.slot ∷ []) _ c.self.inside.sets.acting _ _ c.self.invariant.whole (rw (← c.self.view_is) at c.in_ok-waking.ensures.names) c.wake_planned.ensures.acting c.wake_planned.ensures.told in
     core_bodies (the_view c.self.inside) _ _ _ c.self.inside.bodies c.wake_planned.new.bodies c.self.invariant (wake_whole (the_view c.self.inside) c.args.handle.slot c.self.inside.sets.acting _ _ c.self.invariant.whole calls woke) refl refl refl refl c.wake_planned.ensures.marked
-    c.wake_planned.new.stands c.wake_planned.ensures.standing c.self.inside.contacts.numbered c.wake_planned.new.contact_stands c.wake_planned.ensures.contacts_standing
+    c.wake_planned.new.joint_sets c.wake_planned.ensures.standing c.self.inside.contacts.numbered c.wake_planned.new.contact_sets c.wake_planned.ensures.contacts_standing

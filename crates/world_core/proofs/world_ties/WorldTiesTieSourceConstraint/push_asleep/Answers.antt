@@ -1,7 +1,8 @@
 use Rattle.std.proofs.Common.{vec_capacity}
 use Rattle.sleep_wake.specs.Sources.{asleep_ties, is_asleep_under}
 use Rattle.solver_sets.specs.Ties.{slots_of}
-use Rattle.world_core.specs.WorldTies.{all_contact_ties, all_joint_ties, asleep_under}
+use Rattle.world_core.specs.WorldTies.{all_contact_ties, all_joint_ties}
+use Rattle.world_core_base.specs.Asleep.{asleep_under}
 use Rattle.world_core.proofs.PushLaws.{both_told, first_room, second_room}
 use Rattle.world_core.proofs.WorldTieLaws.{ties_that}
 use Rattle.world_core.proofs.world_ties.WorldTiesTieSourceConstraint.push_asleep.Goals as goal

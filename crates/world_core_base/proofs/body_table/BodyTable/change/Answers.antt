@@ -13,7 +13,7 @@ use Rattle.std.specs.Option.{ForSome}
 use Rattle.world_core_base.proofs.CoverLaws.{box_there, covered_eq, covered_if, there_mapped}
 use Rattle.world_core_base.specs.Covers.{IsCovered}
 use Rattle.box_tree.specs.BoxLists.{box_at}
-use Rattle.world_core_base.proofs.StandLaws.{alike_changed}
+use Rattle.world_core_base.proofs.AsleepLaws.{alike_changed}
 use Rattle.world_core_base.proofs.body_table.BodyTable.change.Goals as goal
 
 pub invariant_of-self : goal.invariant_of-self
@@ -43,8 +43,8 @@ invariant_of-self g c =
       for_carried = let long = length-set bodies c.args.slot o in let same = ap length c.change_slot.ensures.value in omega (arith, long, same, c.self.invariant.for_carried);
     }
 
-pub returns-clause-stands : goal.returns-clause-stands
-returns-clause-stands g c =
+pub returns-clause-asleep : goal.returns-clause-asleep
+returns-clause-asleep g c =
     let bodies = c.self.inside.bodies.items in
     let there : c.args.slot < length bodies = rw (← c.self.view_is) at c.requires.slot in
     rw (← c.self.view_is) (alike_changed bodies _ c.args.slot (option_map (g.C.BodyChange.after c.args.change.now) (body_at bodies c.args.slot)) there c.change_slot.ensures.value c.change_slot.ensures.standing c.change_slot.ensures.carried)

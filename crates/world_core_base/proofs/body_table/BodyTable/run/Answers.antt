@@ -7,8 +7,8 @@ use Rattle.colour_solver.proofs.CourseLaws.{carried_beside, movers_beside}
 use Rattle.colour_solver.proofs.TickLaws.{rows_as_long}
 use Rattle.plain_world.specs.Bodies.{AreBodies}
 use Rattle.world_core_base.proofs.ListingLaws.{listed_exactly}
-use Rattle.world_core_base.proofs.GatherLaws.{courses-all, length-states, states-all, total-gathered}
-use Rattle.world_core_base.proofs.StandLaws.{alike_moved}
+use Rattle.world_core_base.proofs.GatherLaws.{length-states, total-gathered}
+use Rattle.world_core_base.proofs.AsleepLaws.{alike_moved}
 use Rattle.world_core_base.proofs.body_table.BodyTable.run.Goals as goal
 
 pub run_step-sums-requires-clause-awake : goal.run_step-sums-requires-clause-awake
@@ -56,8 +56,8 @@ returns-clause-momentum g c =
     rw (← c.self.view_is)
     (c.move_bodies.ensures.momentum ∙ c.run_step-sums.ensures.left.momentum ∙ ap (λ (v : Vec2). plus v (added c.run_step-sums.result)) (ap total c.self.invariant.states ∙ total-gathered c.self.inside.bodies.items bodies))
 
-pub returns-clause-stands : goal.returns-clause-stands
-returns-clause-stands g c = rw (← c.self.view_is, c.move_bodies.ensures.value) (alike_moved c.self.inside.bodies.items c.run_step-sums.new.states.items)
+pub returns-clause-asleep : goal.returns-clause-asleep
+returns-clause-asleep g c = rw (← c.self.view_is, c.move_bodies.ensures.value) (alike_moved c.self.inside.bodies.items c.run_step-sums.new.states.items)
 
 pub returns-clause-marked : goal.returns-clause-marked
 returns-clause-marked g c = rw (← c.self.view_is) c.move_bodies.ensures.marked

@@ -8,7 +8,7 @@ use Rattle.world_core_base.proofs.TimeLaws.{awake_places, length-timed, states_t
 use Rattle.world_core_base.proofs.MarkedLaws.{marked_eq, marked_timed, timed_each}
 use Rattle.world_core_base.proofs.CoverLaws.{covered_alike, covered_eq}
 use Rattle.plain_world.specs.Sleep.{timed_bodies}
-use Rattle.world_core_base.proofs.StandLaws.{alike_timed}
+use Rattle.world_core_base.proofs.AsleepLaws.{alike_timed}
 use Rattle.world_core_base.proofs.body_table.BodyTable.time.Goals as goal
 
 pub time_bodies-requires-clause-bodies : goal.time_bodies-requires-clause-bodies
@@ -52,8 +52,8 @@ returns-clause-standing c =
     let bodies = c.self.inside.bodies.items in
     rw (← c.self.view_is) (subst (HaveSameStanding bodies) (sym c.time_bodies.ensures) (standing-timed c.args.ticks bodies))
 
-pub returns-clause-stands : goal.returns-clause-stands
-returns-clause-stands c = rw (← c.self.view_is, c.time_bodies.ensures) (alike_timed c.args.ticks c.self.inside.bodies.items)
+pub returns-clause-asleep : goal.returns-clause-asleep
+returns-clause-asleep c = rw (← c.self.view_is, c.time_bodies.ensures) (alike_timed c.args.ticks c.self.inside.bodies.items)
 
 pub returns-clause-marked : goal.returns-clause-marked
 returns-clause-marked c = rw (← c.self.view_is) (marked_eq _ _ _ _ _ _ c.time_bodies.ensures refl (marked_timed c.args.ticks c.self.inside.bodies.items c.self.inside.marks))
