@@ -47,7 +47,6 @@ mod packed_sets_lists;
 #[cfg(test)]
 mod packed_sets_marks;
 #[cfg(test)]
-mod packed_sets_solver_sets;
 #[cfg(test)]
 mod seat_book_seats;
 #[cfg(test)]
@@ -62,3 +61,5 @@ mod sleep_wake_sleep;
 mod solver_sets_census;
 #[cfg(test)]
 mod world_core_base_joints;
+#[cfg(test)]
+mod world_core_base_sleepers;

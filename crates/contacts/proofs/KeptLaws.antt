@@ -18,7 +18,7 @@ use Rattle.contacts_base.specs.Keys.{key_number}
 use Rattle.contacts_base.specs.Split.{Split, carried, is_over, over_at}
 use Rattle.contacts_base.proofs.CountingLaws.{set_stays}
 use Rattle.packed_sets.specs.Packs.{list_at}
-use Rattle.packed_sets.specs.Stands.{AreOnce}
+use Rattle.packed_sets.specs.Once.{AreOnce}
 use Rattle.packed_sets.proofs.ItemLaws.{none_in}
 use Rattle.contacts_base.specs.declared.near.Proxy.{Proxy}
 use Rattle.contacts_base.specs.Proxies.{IsProxyList}

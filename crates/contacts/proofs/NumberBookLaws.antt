@@ -8,7 +8,7 @@ use Rattle.std.proofs.lemmas.List.{append-nil, drop_all, get_or_past, get_or-set
 use Rattle.std.proofs.lemmas.List.Elements.{All-head, Contains-append_left, Contains-push, Contains-push_cases}
 use Rattle.std.proofs.lemmas.Option.{none-some, same_Some, slice_get_within, get_or_from_slice_get}
 use Rattle.packed_sets.specs.Packs.{IsAbsent, IsPut, IsTaken, list_at}
-use Rattle.packed_sets.specs.Stands.{AreOnce}
+use Rattle.packed_sets.specs.Once.{AreOnce}
 use Rattle.packed_sets.proofs.ItemLaws.{in_cases, left_out, none_in, tail_in, IsLeftOut}
 use Rattle.packed_sets.proofs.ListLaws.{got_other, got_set, more_cases}
 use Rattle.packed_sets.proofs.LinkLaws.{once_short}

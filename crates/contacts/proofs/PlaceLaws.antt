@@ -24,7 +24,7 @@ use Rattle.contacts.specs.NumberBooks.{IsBook}
 use Rattle.contacts.specs.Numbered.{contact_at}
 use Rattle.contacts.specs.StirringPlaces.{ArePushed, IsPlaceOf, IsPlaceOfOne, IsPlaceOn}
 use Rattle.packed_sets.specs.Packs.{list_at}
-use Rattle.packed_sets.specs.Stands.{AreOnce}
+use Rattle.packed_sets.specs.Once.{AreOnce}
 use Rattle.packed_sets.proofs.ItemLaws.{none_in}
 use Rattle.packed_sets.proofs.WalkLaws.{IsWalk, count_from, count_left, walk_at, walk_begins, walk_fewer, walk_on, walk_over}
 

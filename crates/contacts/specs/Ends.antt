@@ -6,8 +6,8 @@ use Rattle.contacts.specs.declared.ends.Side.{Side}
 use Rattle.contacts.specs.declared.ends.Side.TheVariants.{First, Second}
 use Rattle.packed_sets.specs.Linked.{Linked}
 use Rattle.packed_sets.specs.Packs.{list_at}
-use Rattle.packed_sets.specs.Stands.{AreOnce}
-use Rattle.packed_sets.specs.declared.stands.TheConstants.{MAX_ITEMS}
+use Rattle.packed_sets.specs.Once.{AreOnce}
+use Rattle.packed_sets.specs.declared.items.TheConstants.{MAX_ITEMS}
 
 -- the slot of the body on one side
 abbrev pub slot_on : Side → ContactKey → ℕ

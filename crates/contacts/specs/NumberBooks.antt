@@ -8,7 +8,7 @@ use Rattle.contacts.specs.declared.number_book.TheConstants.{MAX_CONTACTS}
 use Rattle.contacts.specs.Ends.{KeepEnds, ends_on, slot_on}
 use Rattle.contacts.specs.Numbered.{AreEndsAt, AreKeysOnce, contact_at, number_key_at}
 use Rattle.packed_sets.specs.Packs.{list_at}
-use Rattle.packed_sets.specs.Stands.{AreOnce}
+use Rattle.packed_sets.specs.Once.{AreOnce}
 
 -- the numbers that no contact has are listed, each once
 pub record AreFree (contacts : List (Option NumberedContact)) (free : List ℕ) : Type 0 where

@@ -8,7 +8,7 @@ ghost use Rattle.std.specs.Prelude.{◌≡◌, ◌<◌, ◌≤◌, ◌∷◌, �
 ghost use Rattle.std.specs.Result.{IsOkUnless};
 ghost use Rattle.contacts.specs.Ends.{IsOnce, KeepEnds, ends_on};
 ghost use Rattle.packed_sets.specs.Packs.{IsAbsent, IsPut, IsTaken, list_at};
-ghost use Rattle.packed_sets.specs.Stands.{AreOnce};
+ghost use Rattle.packed_sets.specs.Once.{AreOnce};
 
 use contacts_base::ContactKey;
 use fixed_geom::Refusal;

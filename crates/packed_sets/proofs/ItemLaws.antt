@@ -1,14 +1,12 @@
--- Lists of the same items, each once, and the items of a set.
-use Rattle.std.proofs.Common.{◌≡◌, ◌⊎◌, ℕ, zero, suc, ◌+◌, ◌≤◌, ◌==◌, Bool, true, false, cond, List, [], ◌∷◌, ◌++◌, refl, ap, sym, subst, arith, inl, inr, Option, Some, None}
+-- Lists of the same items, each once.
+use Rattle.std.proofs.Common.{◌≡◌, ◌⊎◌, ℕ, zero, suc, ◌+◌, ◌==◌, true, List, [], ◌∷◌, ◌++◌, refl, ap, sym, subst, arith, inl, inr, Some}
 use Rattle.std.specs.Prelude.{slice_get}
 use Rattle.std.specs.List.{Contains}
 use Rattle.std.specs.List.Sorted.{IsPermutation}
-use Rattle.std.proofs.lemmas.Bool.{cases_eq, true≢false}
+use Rattle.std.proofs.lemmas.Bool.{cases_eq}
 use Rattle.std.proofs.lemmas.List.Sorted.{IsPermutation-refl, IsPermutation-sym, IsPermutation-trans, IsPermutation-cons, IsPermutation-middle, Contains-permutation}
 use Rattle.std.proofs.lemmas.Map.Made.{Contains-tail}
-use Rattle.packed_sets.specs.declared.stands.Stand.{Stand}
-use Rattle.packed_sets.specs.declared.stands.Stand.TheVariants.{Static, Disabled, Awake, Carried, Sleeping}
-use Rattle.packed_sets.specs.Stands.{AreOnce, ItemsStandThere, ItemsAreOnce, stand_at, is_in, items_from, items_of}
+use Rattle.packed_sets.specs.Once.{AreOnce}
 use Rattle.packed_sets.proofs.ListLaws.{place_of, member_at}
 
 -- ---- members
@@ -95,99 +93,10 @@ once_by_place (x ∷ xs) h = (
   once_by_place xs (λ p q y a b. let same : suc p ≡ suc q = h (suc p) (suc q) y a b in omega (arith, same)),
 )
 
--- ---- who stands in a set
+-- ---- numbers
 
 pub equal_sizes : (a b : ℕ) → (a == b) ≡ true → a ≡ b
 equal_sizes a b e = grind (arith, e)
 
 pub equal_same : (a : ℕ) → (a == a) ≡ true
 equal_same a = grind arith
-
-pub in_itself : (stand : Stand) → is_in stand (Some stand) ≡ true
-in_itself Static = refl
-in_itself Disabled = refl
-in_itself Awake = refl
-in_itself Carried = refl
-in_itself (Sleeping name) = equal_same name
-
-pub stands_there : (stand : Stand) (o : Option Stand) → is_in stand o ≡ true → o ≡ Some stand
-stands_there Static (Some Static) e = refl
-stands_there Disabled (Some Disabled) e = refl
-stands_there Awake (Some Awake) e = refl
-stands_there Carried (Some Carried) e = refl
-stands_there (Sleeping a) (Some (Sleeping b)) e = ap (λ (n : ℕ). Some (Sleeping n)) (sym (equal_sizes a b e))
-stands_there stand o e = absurd (true≢false (sym e))
-
-none_stands : (stand : Stand) → is_in stand None ≡ true → ⊥
-none_stands Static e = true≢false (sym e)
-none_stands Disabled e = true≢false (sym e)
-none_stands Awake e = true≢false (sym e)
-none_stands Carried e = true≢false (sym e)
-none_stands (Sleeping name) e = true≢false (sym e)
-
--- ---- the items of a set
-
--- what is in a list with a number before it, if a test holds
-in_front : (b : Bool) (n : ℕ) (rest : List ℕ) (x : ℕ) → Contains rest x → Contains (cond b (n ∷ rest) rest) x
-in_front true n rest x h = tail_in n rest x h
-in_front false n rest x h = h
-
-front_cases : (b : Bool) (n : ℕ) (rest : List ℕ) (x : ℕ) → Contains (cond b (n ∷ rest) rest) x → ((x ≡ n) × (b ≡ true)) ⊎ Contains rest x
-front_cases true n rest x h = elim (in_cases n rest x h) [
-  | inl same ↦ inl (same, refl)
-  | inr there ↦ inr there
-]
-front_cases false n rest x h = inr h
-
-front_once : (b : Bool) (n : ℕ) (rest : List ℕ) → (Contains rest n → ⊥) → AreOnce rest → AreOnce (cond b (n ∷ rest) rest)
-front_once true n rest absent once = (absent, once)
-front_once false n rest absent once = once
-
-items_low : (stand : Stand) (n : ℕ) (stands : List (Option Stand)) (x : ℕ) → Contains (items_from stand n stands) x → n ≤ x
-items_low stand n [] x h = absurd (none_in x h)
-items_low stand n (o ∷ stands) x h = elim (front_cases (is_in stand o) n (items_from stand (suc n) stands) x h) [
-  | inl at ↦ let same : x ≡ n = at.0 in omega (arith, same)
-  | inr there ↦ let low : suc n ≤ x = items_low stand (suc n) stands x there in omega (arith, low)
-]
-
-items_once : (stand : Stand) (n : ℕ) (stands : List (Option Stand)) → AreOnce (items_from stand n stands)
-items_once stand n [] = tt
-items_once stand n (o ∷ stands) = front_once (is_in stand o) n (items_from stand (suc n) stands)
-    (λ h. let low : suc n ≤ n = items_low stand (suc n) stands n h in omega (arith, low))
-    (items_once stand (suc n) stands)
-
-item_stands : (stand : Stand) (n : ℕ) (stands : List (Option Stand)) (x k : ℕ) → x ≡ n + k → Contains (items_from stand n stands) x → is_in stand (stand_at stands k) ≡ true
-item_stands stand n [] x k e h = absurd (none_in x h)
-item_stands stand n (o ∷ stands) x zero e h = elim (front_cases (is_in stand o) n (items_from stand (suc n) stands) x h) [
-  | inl at ↦ at.1
-  | inr there ↦ let low : suc n ≤ x = items_low stand (suc n) stands x there in absurd (omega (arith, low, e))
-]
-item_stands stand n (o ∷ stands) x (suc k) e h = elim (front_cases (is_in stand o) n (items_from stand (suc n) stands) x h) [
-  | inl at ↦ let same : x ≡ n = at.0 in absurd (omega (arith, same, e))
-  | inr there ↦ item_stands stand (suc n) stands x k (omega (arith, e)) there
-]
-
-stands_item : (stand : Stand) (n : ℕ) (stands : List (Option Stand)) (x k : ℕ) → x ≡ n + k → is_in stand (stand_at stands k) ≡ true → Contains (items_from stand n stands) x
-stands_item stand n [] x k e h = absurd (none_stands stand h)
-stands_item stand n (o ∷ stands) x zero e h =
-    let rest : List ℕ = items_from stand (suc n) stands in
-    let same : x ≡ n = omega (arith, e) in
-    subst (λ (b : Bool). Contains (cond b (n ∷ rest) rest) x) (sym h) (subst (λ (y : ℕ). Contains (n ∷ rest) y) (sym same) (head_in n rest))
-stands_item stand n (o ∷ stands) x (suc k) e h = in_front (is_in stand o) n (items_from stand (suc n) stands) x (stands_item stand (suc n) stands x k (omega (arith, e)) h)
-
--- a list with each of them once and no other
-pub same_items : (stand : Stand) (stands : List (Option Stand)) (xs : List ℕ) → AreOnce xs → ((x : ℕ) → Contains xs x → stand_at stands x ≡ Some stand) → ((x : ℕ) → stand_at stands x ≡ Some stand → Contains xs x) → IsPermutation (items_of stand stands) xs
-same_items stand stands xs once there all = same_members (items_of stand stands) xs (items_once stand 0 stands) once
-    (λ x h. all x (stands_there stand (stand_at stands x) (item_stands stand 0 stands x x (omega arith) h)))
-    (λ x h. stands_item stand 0 stands x x (omega arith) (subst (λ (o : Option Stand). is_in stand o ≡ true) (sym (there x h)) (in_itself stand)))
-
--- ---- the laws
-
-pub items_stand_there : ItemsStandThere
-items_stand_there stand stands id = (
-  λ h. stands_there stand (stand_at stands id) (item_stands stand 0 stands id id (omega arith) h),
-  λ e. stands_item stand 0 stands id id (omega arith) (subst (λ (o : Option Stand). is_in stand o ≡ true) (sym e) (in_itself stand)),
-)
-
-pub items_are_once : ItemsAreOnce
-items_are_once stand stands = items_once stand 0 stands

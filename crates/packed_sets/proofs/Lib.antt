@@ -9,9 +9,5 @@ pub mod DropLaws
 pub mod ShiftLaws
 pub mod MarkLaws
 pub mod ItemLaws
-pub mod StandLaws
-pub mod ThreadLaws
-pub mod SetListLaws
 pub mod LinkLaws
-pub mod SleeperLaws
 pub mod WalkLaws

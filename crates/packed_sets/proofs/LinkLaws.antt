@@ -9,15 +9,15 @@ use Rattle.std.proofs.lemmas.List.Elements.{Contains-append_left, Contains-appen
 use Rattle.std.proofs.lemmas.List.Sorted.{IsPermutation-refl, IsPermutation-middle}
 use Rattle.std.proofs.lemmas.Option.{slice_get-get_or}
 use Rattle.packed_sets.specs.declared.linked_sets.Link.{Link}
-use Rattle.packed_sets.specs.declared.stands.TheConstants.{MAX_ITEMS, NO_ITEM}
+use Rattle.packed_sets.specs.declared.items.TheConstants.{MAX_ITEMS, NO_ITEM}
 use Rattle.packed_sets.specs.Packs.{list_at, IsAbsent, IsPut, IsTaken}
-use Rattle.packed_sets.specs.Stands.{AreOnce}
-use Rattle.packed_sets.specs.Threads.{head_at}
+use Rattle.packed_sets.specs.Once.{AreOnce}
+use Rattle.packed_sets.specs.Linked.{head_at}
 use Rattle.packed_sets.specs.Linked.{link_at, before_at, behind_at, with_before, with_behind, with_head, ids_from, sets_of, IsChain, IsLinked, AreLinked}
 use Rattle.packed_sets.proofs.ListLaws.{none_not_some, same_inside, member_at}
 use Rattle.packed_sets.proofs.ItemLaws.{head_in, tail_in, none_in, in_cases, left_out, split_at, IsLeftOut, IsSplitAt}
 use Rattle.packed_sets.proofs.RoomLaws.{no_more}
-use Rattle.packed_sets.proofs.StandLaws.{padded}
+use Rattle.packed_sets.proofs.RoomLaws.{padded}
 
 -- ---- lists without repeats
 

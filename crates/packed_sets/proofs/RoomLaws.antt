@@ -1,5 +1,7 @@
--- Numbers below a bound, of which no two are the same, are no more than the bound.
-use Rattle.std.proofs.Common.{◌≡◌, ◌≢◌, ℕ, zero, suc, ◌<◌, ◌≤◌, ◌==◌, cond, sym, ◌∙◌, arith, inl, inr}
+-- Numbers below a bound, of which no two are the same, are no more than the bound; and what is read past the end of a
+-- list.
+use Rattle.std.proofs.Common.{◌≡◌, ◌≢◌, ℕ, zero, suc, ◌<◌, ◌≤◌, ◌==◌, ◌++◌, List, [], ◌∷◌, length, replicate, cond, refl, sym, ◌∙◌, arith, inl, inr}
+use Rattle.std.specs.List.{slice_index_or}
 use Rattle.std.proofs.lemmas.Bool.{cases_eq}
 
 -- the one number in place of another
@@ -45,3 +47,24 @@ no_more (suc n) (suc m) f below apart =
       ]
     ]) in
     omega (arith, rest)
+
+-- past the end of a list there is what is asked for
+pub padded : {X : Type 0} (xs : List X) (n k : ℕ) (d : X) → slice_index_or (xs ++ replicate n d) k d ≡ slice_index_or xs k d
+padded {X} [] n k d = none_behind n k
+  where
+    none_behind : (n k : ℕ) → slice_index_or (replicate n d) k d ≡ d
+    none_behind zero k = refl
+    none_behind (suc n) zero = refl
+    none_behind (suc n) (suc k) = none_behind n k
+padded (x ∷ xs) n zero d = refl
+padded (x ∷ xs) n (suc k) d = padded xs n k d
+
+-- within a list it doesn't matter what is asked for past its end
+pub any_default : {X : Type 0} (xs : List X) (k : ℕ) (d e : X) → k < length xs → slice_index_or xs k d ≡ slice_index_or xs k e
+any_default [] k d e lt = absurd (omega (arith, lt))
+any_default (x ∷ xs) zero d e lt = refl
+any_default (x ∷ xs) (suc k) d e lt = any_default xs k d e (omega (arith, lt))
+
+-- what was read at a place is what stands there
+pub read_at : (xs : List ℕ) (k v d : ℕ) → k < length xs → v ≡ slice_index_or xs k v → v ≡ slice_index_or xs k d
+read_at xs k v d lt e = e ∙ any_default xs k v d lt

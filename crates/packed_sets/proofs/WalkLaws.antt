@@ -4,7 +4,7 @@ use Rattle.std.specs.Prelude.{slice_get}
 use Rattle.std.specs.List.{Contains}
 use Rattle.std.proofs.lemmas.Bool.{cases_eq}
 use Rattle.std.proofs.lemmas.List.Elements.{Contains-append_right}
-use Rattle.packed_sets.specs.Stands.{AreOnce}
+use Rattle.packed_sets.specs.Once.{AreOnce}
 use Rattle.packed_sets.proofs.ItemLaws.{equal_same, head_in}
 use Rattle.packed_sets.proofs.ListLaws.{none_not_some, same_inside}
 

@@ -1,6 +1,5 @@
 pub mod Packs
 pub mod Notes
 pub mod Marks
-pub mod Stands
-pub mod Threads
+pub mod Once
 pub mod Linked

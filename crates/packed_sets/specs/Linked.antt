@@ -2,15 +2,18 @@
 use Rattle.std.specs.Prelude.{◌≡◌, ◌==◌, ◌<◌, ◌≤◌, ℕ, zero, suc, cond, nat_lt, List, [], ◌∷◌, length, map, Contains, slice_set}
 use Rattle.std.specs.List.{slice_index_or}
 use Rattle.packed_sets.specs.declared.linked_sets.Link.{Link}
-use Rattle.packed_sets.specs.declared.stands.TheConstants.{MAX_ITEMS, NO_ITEM}
+use Rattle.packed_sets.specs.declared.items.TheConstants.{MAX_ITEMS, NO_ITEM}
 use Rattle.packed_sets.specs.Packs.{list_at}
-use Rattle.packed_sets.specs.Stands.{AreOnce}
-use Rattle.packed_sets.specs.Threads.{head_at}
+use Rattle.packed_sets.specs.Once.{AreOnce}
 
 -- by number the ids of each set, in the order in which they are told; and below which number those of ids have to be
 pub record Linked : Type 0 where
   pub sets : List (List ℕ)
   pub ids : ℕ
+
+-- the first id of a set
+abbrev pub head_at : List ℕ → ℕ → ℕ
+head_at heads set = slice_index_or heads set NO_ITEM
 
 -- ---- what is beside an id
 

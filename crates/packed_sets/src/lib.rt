@@ -18,15 +18,6 @@
 //! permutation of the old one with one id more, or less, and that all others are what they were. No id stands twice in
 //! all of them (the clause `once` of `members`). Two ids with one number are the same id, by a law of [`ItemId`].
 //!
-//! # Solver sets
-//!
-//! [`SolverSets`] keep in which solver set each item of one kind stands: a body by its slot, say. What stands in the
-//! static, the disabled or the awake set is in a list, where the item notes its place, and a removal moves the last
-//! item in. A sleeping set is a thread: its first item stands at the set's name, and each item tells the next one. So
-//! an island falls asleep with no memory for a list. A sleeping set takes items and is emptied as a whole by
-//! [`SolverSets::wake`]: no item is taken out of it alone, since whatever changes a sleeping set wakes it first. Each
-//! list has room for all items that there are, so that only [`SolverSets::reserve`] and a copy take memory.
-//!
 //! # Linked sets
 //!
 //! [`LinkedSets`] are sets into which ids come, and out of which they go, in constant time and in any order. No set
@@ -39,22 +30,16 @@
 
 mod copying;
 mod ids;
+mod items;
 mod linked_sets;
 mod marks;
 mod packing;
-mod set_items;
-mod set_lists;
 mod set_room;
-mod set_threads;
 mod sets;
-mod solver_sets;
 mod spots;
-mod stands;
 
 pub use ids::ItemId;
+pub use items::MAX_ITEMS;
 pub use linked_sets::LinkedSets;
 pub use marks::{MAX_MARKS, Marks, limits_in_digits};
-pub use set_items::items_stand_there;
 pub use sets::{MAX_SETS, PackedSets};
-pub use solver_sets::SolverSets;
-pub use stands::{ListedSet, MAX_ITEMS, Stand};

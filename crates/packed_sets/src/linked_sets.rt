@@ -2,14 +2,13 @@
 
 ghost use Rattle.std.specs.Prelude.{◌≡◌, ◌<◌, ◌≤◌, ◌∷◌, ◌++◌, ℕ, [], List, None, Some, cond, length, nat_lt, slice_get, Contains, OnErr, OnOk};
 ghost use Rattle.std.specs.Result.{IsOkUnless};
-ghost use Rattle.packed_sets.specs.Linked.{AreLinked, behind_at, sets_of, with_before, with_behind, with_head};
+ghost use Rattle.packed_sets.specs.Linked.{AreLinked, behind_at, head_at, sets_of, with_before, with_behind, with_head};
 ghost use Rattle.packed_sets.specs.Packs.{IsAbsent, IsPut, IsTaken, list_at};
-ghost use Rattle.packed_sets.specs.Stands.{AreOnce};
-ghost use Rattle.packed_sets.specs.declared.stands.TheConstants.{MAX_ITEMS};
+ghost use Rattle.packed_sets.specs.Once.{AreOnce};
+ghost use Rattle.packed_sets.specs.declared.items.TheConstants.{MAX_ITEMS};
 
+use crate::items::{MAX_ITEMS, NO_ITEM};
 use crate::set_room::{fill, reserve_in_all};
-use crate::set_threads::first_of;
-use crate::stands::{MAX_ITEMS, NO_ITEM};
 use fixed_geom::Refusal;
 use std::alloc::Global;
 use std::marker::Model;
@@ -49,6 +48,16 @@ impl Model for LinkedSets {
     ghost view = { λ a. record { sets = sets_of a.links.items a.heads.items; ids = length a.links.items } };
 
     ghost invariant = { λ a. AreLinked a.links.items a.heads.items };
+}
+
+/// The first id of the set with this number; [`NO_ITEM`] where it has none.
+fn first_of(heads: &[u32], set: u32) -> u32
+    ensures { result ≡ head_at heads.now set }
+{
+    match heads.get(set as usize) {
+        Some(first) => *first,
+        None => NO_ITEM,
+    }
 }
 
 /// An id, unless it is none.

@@ -5,8 +5,8 @@ ghost use Rattle.std.specs.Prelude.{◌≡◌, ◌∷◌, ◌++◌, ◌<◌, ◌
 ghost use Rattle.std.specs.Result.{IsOkUnless};
 ghost use Rattle.packed_sets.specs.Marks.{AreListed, IsMarks};
 
+use crate::items::MAX_ITEMS;
 use crate::sets::MAX_SETS;
-use crate::stands::MAX_ITEMS;
 use fixed_geom::Refusal;
 use std::alloc::Global;
 use std::marker::Model;

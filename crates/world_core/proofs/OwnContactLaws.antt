@@ -19,7 +19,7 @@ use Rattle.contacts_base.specs.declared.key.ContactKey.{ContactKey}
 use Rattle.contacts_base.specs.Contacts.{AreKeysRising}
 use Rattle.graph_colours.specs.declared.member.Member.{Member}
 use Rattle.graph_colours.specs.Members.{AreRising}
-use Rattle.packed_sets.specs.Stands.{AreOnce}
+use Rattle.packed_sets.specs.Once.{AreOnce}
 use Rattle.plain_world.specs.declared.body.Body.{Body}
 use Rattle.solver_sets.specs.BesideByTies.{is_tie_of}
 use Rattle.solver_sets.specs.Ties.{Bond, JointSlots, contact_bond, is_bond_of, joint_bonds, joint_ties_at, tie_of, ties_at, ties_in, touching_keys}

@@ -22,7 +22,7 @@ use Rattle.contacts_base.specs.Contacts.{AreKeysRising}
 use Rattle.graph_colours.specs.declared.member.Member.{Member}
 use Rattle.graph_colours.specs.declared.member.Movers.{Movers}
 use Rattle.packed_sets.specs.Packs.{list_at}
-use Rattle.packed_sets.specs.Stands.{AreOnce}
+use Rattle.packed_sets.specs.Once.{AreOnce}
 use Rattle.plain_world.specs.declared.body.Body.{Body}
 use Rattle.plain_world.specs.declared.joint.BodyJoint.{BodyJoint}
 use Rattle.plain_world.specs.declared.kind.Kind.{Kind}

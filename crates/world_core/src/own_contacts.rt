@@ -12,7 +12,7 @@ ghost use Rattle.contacts_base.specs.Contacts.{AreKeysRising};
 ghost use Rattle.graph_colours.specs.Members.{AreRising};
 ghost use Rattle.graph_colours.specs.declared.member.Member.{Member as TheMember};
 ghost use Rattle.packed_sets.specs.Packs.{list_at};
-ghost use Rattle.packed_sets.specs.Stands.{AreOnce};
+ghost use Rattle.packed_sets.specs.Once.{AreOnce};
 ghost use Rattle.world_core.specs.WorldTies.{AreOfTwo, contact_tie_in, contact_ties_at, tie_of_contact};
 
 use contacts::{Constraint, ContactTable, NumberedContact, Side};

@@ -7,7 +7,7 @@ ghost use Rattle.std.specs.List.Sorted.{IsPermutation};
 ghost use Rattle.contacts.specs.Kept.{numbers_on};
 ghost use Rattle.contacts_base.specs.Contacts.{AreKeysRising};
 ghost use Rattle.packed_sets.specs.Packs.{list_at};
-ghost use Rattle.packed_sets.specs.Stands.{AreOnce};
+ghost use Rattle.packed_sets.specs.Once.{AreOnce};
 ghost use Rattle.sleep_wake.specs.Sources.{asleep_ties, first_ties};
 ghost use Rattle.solver_sets.specs.Alike.{AreJointSlots};
 ghost use Rattle.solver_sets.specs.Ties.{slots_of, ties_of};

@@ -12,7 +12,7 @@ use Rattle.contacts.proofs.Members.{Each, IsIn, contains_from_in, in_from_contai
 use Rattle.contacts_base.proofs.MergeLaws.{drop_next}
 use Rattle.contacts.proofs.Rising.{IsRising, rising_from_increasing, rising_passed, same_rising}
 use Rattle.packed_sets.specs.Packs.{list_at}
-use Rattle.packed_sets.specs.Stands.{AreOnce}
+use Rattle.packed_sets.specs.Once.{AreOnce}
 use Rattle.plain_world.specs.declared.joint.BodyJoint.{BodyJoint}
 use Rattle.plain_world.specs.Joints.{idle_if, idle_joints, is_end_in, is_joint_of, joint_at}
 use Rattle.world_core_base.specs.JointEnds.{AreEnds, first_of, halves, second_of, stands_at}

@@ -7,7 +7,7 @@ ghost use Rattle.std.specs.Result.{IsOkUnless};
 ghost use Rattle.body_handles.specs.declared.slot_table.TheConstants.{MAX_SLOTS};
 ghost use Rattle.plain_world.specs.Joints.{forbidden_pairs, idle_if, idle_joints, is_end_in, joint_at};
 ghost use Rattle.plain_world.specs.InSlots.{impulse_set, with_impulse};
-ghost use Rattle.packed_sets.specs.Stands.{AreOnce};
+ghost use Rattle.packed_sets.specs.Once.{AreOnce};
 ghost use Rattle.plain_world.specs.declared.joint.BodyJoint.{BodyJoint as TheBodyJoint};
 ghost use Rattle.world_core_base.specs.Following.{CanFollow};
 ghost use Rattle.world_core_base.specs.JointTables.{own_slots};

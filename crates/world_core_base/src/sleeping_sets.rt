@@ -3,7 +3,7 @@
 ghost use Rattle.std.specs.Prelude.{◌≡◌, ◌<◌, ◌≤◌, ◌-◌, ◌∷◌, ◌++◌, ◌↔◌, ℕ, [], List, None, Some, length, map, replicate, slice_get, slice_set, vec_capacity, Contains, OnOk};
 ghost use Rattle.std.specs.Result.{IsOkUnless};
 ghost use Rattle.packed_sets.specs.Packs.{list_at};
-ghost use Rattle.packed_sets.specs.Stands.{AreOnce};
+ghost use Rattle.packed_sets.specs.Once.{AreOnce};
 ghost use Rattle.world_core_base.specs.Sleeping.{IsSleeping, sleep_at, woken};
 
 use fixed_geom::Refusal;

@@ -4,7 +4,7 @@ ghost use Rattle.std.specs.Prelude.{◌≡◌, ◌≤◌, ◌^◌, ◌↔◌, �
 ghost use Rattle.contacts.specs.Numbered.{AreEndsAt, AreNumbered, contact_at, number_key_at};
 ghost use Rattle.contacts.specs.Kept.{numbers_on};
 ghost use Rattle.packed_sets.specs.Packs.{list_at};
-ghost use Rattle.packed_sets.specs.Stands.{AreOnce};
+ghost use Rattle.packed_sets.specs.Once.{AreOnce};
 
 use super::ContactTable;
 use crate::ends::Side;

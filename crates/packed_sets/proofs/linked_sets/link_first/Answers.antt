@@ -1,10 +1,10 @@
 use Rattle.std.proofs.Common.{◌≡◌, ℕ, List, slice_set, sym, subst}
 use Rattle.packed_sets.specs.declared.linked_sets.Link.{Link}
-use Rattle.packed_sets.specs.declared.stands.TheConstants.{NO_ITEM}
+use Rattle.packed_sets.specs.declared.items.TheConstants.{NO_ITEM}
 use Rattle.packed_sets.specs.Packs.{IsPut}
-use Rattle.packed_sets.specs.Threads.{head_at}
+use Rattle.packed_sets.specs.Linked.{head_at}
 use Rattle.packed_sets.specs.Linked.{with_before, sets_of, AreLinked}
-use Rattle.packed_sets.proofs.StandLaws.{read_at}
+use Rattle.packed_sets.proofs.RoomLaws.{read_at}
 use Rattle.packed_sets.proofs.LinkLaws.{IsLinkedIn, put_linked}
 use Rattle.packed_sets.proofs.linked_sets.link_first.Goals as goal
 

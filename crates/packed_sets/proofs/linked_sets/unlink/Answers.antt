@@ -1,8 +1,8 @@
 use Rattle.std.proofs.Common.{◌≡◌, ◌<◌, ℕ, List, length, get_or, ap, sym, subst, ◌∙◌, arith}
 use Rattle.packed_sets.specs.declared.linked_sets.Link.{Link}
-use Rattle.packed_sets.specs.declared.stands.TheConstants.{NO_ITEM}
+use Rattle.packed_sets.specs.declared.items.TheConstants.{NO_ITEM}
 use Rattle.packed_sets.specs.Linked.{before_at, behind_at, link_at, with_before, with_behind, with_head, sets_of, AreLinked}
-use Rattle.packed_sets.proofs.StandLaws.{any_default}
+use Rattle.packed_sets.proofs.RoomLaws.{any_default}
 use Rattle.packed_sets.proofs.LinkLaws.{IsLinkedOut, links_cut, heads_long, set_there, take_linked}
 use Rattle.packed_sets.proofs.linked_sets.unlink.Goals as goal
 

@@ -1,6 +1,6 @@
 use Rattle.std.proofs.Common.{ℕ, Some, None, cond, nat_lt, length, ap, ◌∙◌}
-use Rattle.packed_sets.specs.declared.stands.TheConstants.{NO_ITEM}
-use Rattle.packed_sets.specs.Threads.{head_at}
+use Rattle.packed_sets.specs.declared.items.TheConstants.{NO_ITEM}
+use Rattle.packed_sets.specs.Linked.{head_at}
 use Rattle.packed_sets.proofs.LinkLaws.{next_is}
 use Rattle.packed_sets.proofs.linked_sets.LinkedSets.first.Goals as goal
 
