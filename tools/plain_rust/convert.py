@@ -54,6 +54,7 @@ WRITTEN = [
     (re.compile(r"\buse (?:std::alloc|smallvec)::"), "use shim::"),
     (re.compile(r"\buse std::num::\{"), "use shim::{"),
     (re.compile(r"\buse std::(?:sync::(?=Wait;|Arc;|\{Arc)|snapshot::|thread::(?=\{|Threads;))"), "use shim::"),
+    (re.compile(r"\buse std::sync::atomic::\{AtomicU64, Ordering\}"), "use shim::{AtomicU64, Ordering}"),
     (re.compile(r"\bthread::scope(?=\(|_env)"), "shim::scope"),
     (re.compile(r", Error\)\]"), ")]"),
     (re.compile(r": Copy \+ Drop\b"), ": Copy"),

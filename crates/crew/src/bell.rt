@@ -1,9 +1,10 @@
 //! Waiting: workers for the next map, and the caller for pieces that are in their hands. What a thread reads here is a
 //! hint, and costs time at most if it is wrong: only what comes out of a mailbox decides.
 
+use crossbeam_utils::sync::{Parker, Unparker};
+use std::hint;
 use std::sync::Wait;
 use std::sync::atomic::{AtomicU64, Ordering};
-use std::{hint, thread};
 
 /// The round in which the crew ends.
 pub(crate) const OVER: u64 = u64::MAX;
@@ -11,15 +12,16 @@ pub(crate) const OVER: u64 = u64::MAX;
 /// How many rounds there are before they are counted from 1 again.
 const ROUNDS: u64 = 1 << 62;
 
-/// How often a thread looks before it sleeps, or lets others run. It takes some 100 microseconds, which is longer than
-/// the maps of a step are apart, so that workers sleep between steps alone.
+/// How often a thread looks before it sleeps. It takes some 100 microseconds, which is longer than the maps of a step
+/// are apart, so that workers sleep between steps alone.
 const LOOKS: u32 = 2_000;
 
-/// Counts the maps, and wakes the workers that sleep until the next one.
+/// Counts the maps, and wakes the workers that sleep until the next one, and the caller when a piece is back.
 #[derive(Drop)]
 pub(crate) struct Bell {
     round: AtomicU64,
     asleep: AtomicU64,
+    caller: Unparker,
 }
 
 /// The round after this one.
@@ -27,24 +29,30 @@ pub(crate) fn next_round(round: u64) -> u64 {
     round % ROUNDS + 1
 }
 
-/// Waits a moment after a look in vain, and answers how often there was one. A thread that has looked often lets others
-/// run.
-pub(crate) fn pause(looks: u32) -> u32 {
+/// The caller waits a moment after a look in vain; answers how often there was one. If it has looked often, it sleeps
+/// until a piece is back.
+pub(crate) fn pause<R: Wait>(rt: &R, parker: &Parker, looks: u32) -> u32 {
     if looks < LOOKS {
         hint::spin_loop();
         looks + 1
     } else {
-        thread::yield_now();
+        parker.park(rt);
         looks
     }
 }
 
 impl Bell {
-    pub(crate) fn new() -> Bell {
+    pub(crate) fn new(caller: Unparker) -> Bell {
         Bell {
             round: AtomicU64::new(0),
             asleep: AtomicU64::new(0),
+            caller,
         }
+    }
+
+    /// Tells the caller that a piece is back.
+    pub(crate) fn tell_caller(&self) {
+        self.caller.unpark();
     }
 
     /// Begins a round.

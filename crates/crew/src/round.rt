@@ -10,6 +10,7 @@ use crate::desk::Desk;
 use crate::gate::PieceNumber;
 use crate::stack::work_stack;
 use crate::{Gate, Work};
+use crossbeam_utils::sync::Parker;
 use std::alloc::Global;
 use std::sync::{Arc, Wait};
 
@@ -67,7 +68,12 @@ where
 }
 
 /// Fetches all slips, and waits for those that are in a worker's hands.
-pub(crate) fn gather<R: Wait, G: Gate, W: Work + Drop>(rt: &R, gate: &G, desks: &mut [Desk<W>])
+pub(crate) fn gather<R: Wait, G: Gate, W: Work + Drop>(
+    rt: &R,
+    gate: &G,
+    parker: &Parker,
+    desks: &mut [Desk<W>],
+)
 where
     W::Item: Drop,
     W::Out: Drop,
@@ -79,7 +85,7 @@ where
         if fetch_all(rt, gate, desks) {
             return;
         }
-        looks = pause(looks);
+        looks = pause(rt, parker, looks);
     }
     unreachable!()
 }

@@ -13,6 +13,7 @@ use crate::gate::PieceNumber;
 use crate::round::{collect_all, gather, map_alone, post_all, work_alone};
 use crate::worker::Worker;
 use crate::{Gate, Work};
+use crossbeam_utils::sync::Parker;
 use fixed_geom::Refusal;
 use std::alloc::Global;
 use std::sync::{Arc, Wait};
@@ -43,6 +44,7 @@ where
     alloc: Global,
     gate: &'s G,
     least: usize,
+    parker: Parker,
     bell: Arc<Bell, Global>,
     round: u64,
     desks: Vec<Desk<W>>,
@@ -121,12 +123,12 @@ where
         self.round = next_round(self.round);
         let of = workers.saturating_add(1);
         let (desks, _) = self.desks.as_mut_slice().split_at_mut(workers);
-        gather(rt, self.gate, desks);
+        gather(rt, self.gate, &self.parker, desks);
         post_all(rt, desks, work, PieceNumber { number: 1, of }, items);
         self.bell.ring(self.round);
         self.gate.enter(rt, 0, of);
         work_alone(rt, &**work, items, out);
-        gather(rt, self.gate, desks);
+        gather(rt, self.gate, &self.parker, desks);
         collect_all(rt, desks, out);
     }
 
@@ -164,6 +166,7 @@ where
             alloc: _,
             gate: _,
             least: _,
+            parker: _,
             bell,
             round: _,
             desks: _,
@@ -218,13 +221,15 @@ where
     if def.workers == 0 || def.workers > MOST_WORKERS {
         return Err(Refusal::OutOfRange);
     }
-    let bell = Arc::new(alloc, Bell::new())?;
+    let parker = Parker::new(alloc)?;
+    let bell = Arc::new(alloc, Bell::new(parker.unparker().clone()?))?;
     let (desks, hired) = furnish_all(alloc, &bell, def.workers - 1, def.room)?;
     let threads = Vec::with_capacity(alloc, hired.len())?;
     let mut crew = Crew {
         alloc,
         gate,
         least: def.least,
+        parker,
         bell,
         round: 0,
         desks,

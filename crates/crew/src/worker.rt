@@ -38,11 +38,12 @@ where
     W::Item: Drop,
     W::Out: Drop,
 {
-    /// Works the piece, if nobody has begun it.
-    fn work<R: Wait, G: Gate>(&mut self, rt: &R, gate: &G) {
+    /// Works the piece, if nobody has begun it, and tells the caller then.
+    fn work<R: Wait, G: Gate>(&mut self, rt: &R, gate: &G, bell: &Bell) {
         if let Some(slip) = self.post.take(&mut self.pass) {
             let slip = slip.worked(rt, gate);
             self.post.give(rt, &mut self.pass, slip);
+            bell.tell_caller();
         }
     }
 }
@@ -88,7 +89,7 @@ where
                 return;
             }
             for access in accesses.iter_mut() {
-                access.work(rt, gate);
+                access.work(rt, gate, &*bell);
             }
         }
     }

@@ -9,8 +9,8 @@ use Rattle.colour_solver.specs.declared.ticks.StepSums.{StepSums}
 use Rattle.plain_world.specs.declared.joint.BodyJoint.{BodyJoint}
 use Rattle.world_core_base.specs.StepRuns.{CanStep, HasLeft, HaveImpulses, run_over}
 use Rattle.part_solver.specs.Lending.{CanLend}
-use Rattle.part_solver.specs.Tasks.{AreStages, lists_of}
-use Rattle.part_solver.specs.declared.tasks.Stage.{Stage}
+use Rattle.part_solver.specs.Stages.{AreStages, lists_of}
+use Rattle.part_solver.specs.declared.stages.Stage.{Stage}
 
 record Given : Type 0 where
   states : List BodyState

@@ -22,8 +22,8 @@ use Rattle.world_core_base.proofs.PresentLaws.{contact_placed}
 use Rattle.world_core_base.proofs.RowColourLaws.{gathered_apart}
 use Rattle.part_runs.specs.Hidden.{ArePlaced, IsPlaced, IsPlacedRow}
 use Rattle.part_runs.specs.Laws.{CanRun}
-use Rattle.part_solver.specs.Tasks.{rows_by, slots_in}
-use Rattle.part_solver.specs.Tasks as tasks
+use Rattle.part_solver.specs.Stages.{rows_by, slots_in}
+use Rattle.part_solver.specs.Stages as stages
 use Rattle.part_solver.proofs.GatherSteps.{rows_count}
 use Rattle.part_solver.proofs.NameLaws.{row_stands}
 
@@ -32,7 +32,7 @@ use Rattle.part_solver.proofs.NameLaws.{row_stands}
 id_placed : (states : List BodyState) (joints : List (Option BodyJoint)) (contacts : List ContactEntry) (id : Constraint) → HasJointOn states joints id → AreContactsOn states contacts → IsPresent joints contacts id → IsPlaced (length states) (slots_in joints id)
 id_placed states joints contacts (constraints.Joint h) joined on there =
     let at = joined there.joint there.found in
-    subst (λ (o : Option BodyJoint). IsPlaced (length states) (tasks.joint_ends o)) (sym there.found) (record { a = at.first; b = at.second; apart = at.apart })
+    subst (λ (o : Option BodyJoint). IsPlaced (length states) (stages.joint_ends o)) (sym there.found) (record { a = at.first; b = at.second; apart = at.apart })
 id_placed states joints contacts (constraints.Contact key) joined on there =
     let at = contact_placed states contacts key on there in
     record { a = at.first; b = at.second; apart = at.apart }

@@ -5,8 +5,8 @@ use Rattle.std.proofs.lemmas.List.Concat.{flat_map-append}
 use Rattle.graph_colours.specs.Colours.{all_members}
 use Rattle.graph_colours.specs.declared.member.Member.{Member}
 use Rattle.contacts.specs.declared.constraint.Constraint.{Constraint}
-use Rattle.part_solver.specs.Tasks.{lists_of}
-use Rattle.part_solver.specs.declared.tasks.Stage.{Stage}
+use Rattle.part_solver.specs.Stages.{lists_of}
+use Rattle.part_solver.specs.declared.stages.Stage.{Stage}
 
 abbrev pub count_in : List Stage → ℕ
 count_in stages = length (all_members (lists_of stages))

@@ -21,6 +21,7 @@ use Rattle.contacts.specs.contracts.pair_sweep.PairSweep as PairSweep
 use Rattle.contacts.specs.contracts.contact_table.ContactTable as ContactTable
 use Rattle.world_core_base.specs.contracts.joint_table.JointTable as JointTable
 use Rattle.colour_solver.specs.contracts.colour_rows.Rows as Rows
+use Rattle.part_solver.specs.contracts.alarm.Alarm as Alarm
 use Rattle.part_solver.specs.contracts.lent.Lent as Lent
 use Rattle.part_solver.specs.contracts.mail.Item as Item
 use Rattle.part_solver.specs.contracts.mail.Mail as Mail
@@ -120,8 +121,14 @@ returns_send = heap.Vec-send _ (producer_send (Vec.the_row BodyState.the_row Glo
 spares_send : IsSend (Vec.the_row (Consumer.the_row (Vec.the_row BodyState.the_row Global.the_row over.ghosts) Global.the_row AnyItems.the_row over.ghosts (any.ghosts (Vec.the_row BodyState.the_row Global.the_row over.ghosts))) Global.the_row over.ghosts)
 spares_send = heap.Vec-send _ (consumer_send (Vec.the_row BodyState.the_row Global.the_row over.ghosts) AnyItems.the_row (any.ghosts (Vec.the_row BodyState.the_row Global.the_row over.ghosts)) letter_send)
 
+alarm_send : IsSend Alarm.the_row
+alarm_send = search (crosses, sendable) depth 60 fits 60000
+
+alarm_sync : IsSync Alarm.the_row
+alarm_sync = search (crosses, sendable) depth 60 fits 60000
+
 ends_send : IsSend Ends.the_row
-ends_send = search (outs_send, spares_send, ins_send, returns_send, sendable) depth 60 fits 60000
+ends_send = search (alarm_send, alarm_sync, outs_send, spares_send, ins_send, returns_send, crosses, sendable) depth 60 fits 60000
 
 ports_send : IsSend Ports.the_row
 ports_send = search (ends_send, sendable) depth 60 fits 60000

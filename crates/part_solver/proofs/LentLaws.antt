@@ -14,8 +14,8 @@ use Rattle.world_core_base.specs.ConstraintRows.{HaveJointsOn, HaveMovable, rows
 use Rattle.world_core_base.specs.StepRuns.{ArePresent}
 use Rattle.part_runs.proofs.ListLaws.{get_or-mapped}
 use Rattle.part_solver.specs.Lending.{CanLend}
-use Rattle.part_solver.specs.Tasks.{CanGather, HaveTheRows, lists_of, rows_by, slot_lists, slots_of}
-use Rattle.part_solver.specs.declared.tasks.Stage.{Stage}
+use Rattle.part_solver.specs.Stages.{CanGather, HaveTheRows, lists_of, rows_by, slot_lists, slots_of}
+use Rattle.part_solver.specs.declared.stages.Stage.{Stage}
 use Rattle.part_solver.proofs.GatherSteps.{rows_count}
 
 module _ (states : List BodyState) (joints : List (Option BodyJoint)) (contacts : List ContactEntry) (stages : List Stage) (can : CanLend states joints contacts stages) (i : ℕ) (lt : i < COLOURS + 1) (members : List (Member Constraint)) (slots : List Slots)

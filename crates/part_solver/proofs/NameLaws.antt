@@ -36,8 +36,8 @@ use Rattle.world_core_base.proofs.RowColourLaws.{pairs_made}
 use Rattle.world_core_base.proofs.SolvingRuns.{begun_rows}
 use Rattle.part_runs.proofs.ListLaws.{get_or-mapped}
 use Rattle.part_solver.specs.PuttingBack.{AreOtherNames}
-use Rattle.part_solver.specs.Tasks as tasks
-use Rattle.part_solver.specs.Tasks.{rows_by, slots_in}
+use Rattle.part_solver.specs.Stages as stages
+use Rattle.part_solver.specs.Stages.{rows_by, slots_in}
 
 -- the row r is of the joint in this slot, or of the contact with this key, and its bodies stand there
 record IsOfJoint (slot : ℕ) (s : Slots) (r : ConstraintRow) : Type 0 where
@@ -56,7 +56,7 @@ abbrev IsOf : List (Option BodyJoint) → Constraint → ConstraintRow → Type 
 IsOf joints (constraints.Joint h) r = IsOfJoint h.slot (slots_in joints (constraints.Joint h)) r
 IsOf joints (constraints.Contact key) r = IsOfContact key (slots_in joints (constraints.Contact key)) r
 
-of_joint : (states : List BodyState) (slot : ℕ) (o : Option BodyJoint) (r : ConstraintRow) → option_map rows.Joint (joint_row_in states slot o) ≡ Some r → IsOfJoint slot (tasks.joint_ends o) r
+of_joint : (states : List BodyState) (slot : ℕ) (o : Option BodyJoint) (r : ConstraintRow) → option_map rows.Joint (joint_row_in states slot o) ≡ Some r → IsOfJoint slot (stages.joint_ends o) r
 unfolding joint_row
 of_joint states slot None r e = absurd (none-some r e)
 of_joint states slot (Some j) r e =

@@ -24,10 +24,10 @@ use Rattle.part_solver.specs.Lending.{CanLend, HasSources, IsLent, step_of, step
 use Rattle.part_solver.specs.Parts.{AreDealt, IsRunBy, Solved, run_at, run_of_all}
 use Rattle.part_solver.specs.PuttingBack.{AreNamesApart}
 use Rattle.part_solver.specs.Steps.{CanSolve}
-use Rattle.part_solver.specs.Tasks.{lists_of, rows_by}
+use Rattle.part_solver.specs.Stages.{lists_of, rows_by}
 use Rattle.part_solver.specs.declared.lent.Lent.{Lent}
 use Rattle.part_solver.specs.declared.seat.Lists.{Lists}
-use Rattle.part_solver.specs.declared.tasks.Stage.{Stage}
+use Rattle.part_solver.specs.declared.stages.Stage.{Stage}
 use Rattle.part_solver.proofs.CanLaws.{can_run, colours_count, rows_total}
 use Rattle.part_solver.proofs.NameLaws.{names_apart}
 

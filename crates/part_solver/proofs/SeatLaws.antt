@@ -1,7 +1,8 @@
 -- Seats, one further, and the parts that come of them.
 use Rattle.std.proofs.Common.{◌≡◌, ℕ, zero, suc, ◌+◌, ◌<◌, List, [], ◌∷◌, ◌++◌, length, map, arith, ap, subst, ◌∙◌}
 use Rattle.part_runs.specs.Runs.{Step, part_ran}
-use Rattle.part_solver.specs.Parts.{AreSeated, IsSeated, Place, run_at, solved}
+use Rattle.part_solver.specs.Mail.{Posts}
+use Rattle.part_solver.specs.Parts.{AreRings, AreSeated, IsSeated, Place, posts_at, run_at, solved}
 
 plain : (n : ℕ) → n + 0 ≡ n
 plain n = omega arith
@@ -30,3 +31,17 @@ parts_run t places known k lt = runs_from t 0 places known k lt ∙ ap (part_ran
   where
     none : (k : ℕ) → 0 + k ≡ k
     none k = omega arith
+
+-- ---- rings that are given to seats
+
+-- the first of these rings are those of the part with this number
+pub ring_of : (t : Step) (n count : ℕ) (rest all : List Posts) (x : Posts) → all ≡ x ∷ rest → ((k : ℕ) → k < length all → AreRings t n (count + k) (posts_at all k)) → AreRings t n count x
+ring_of t n count rest all x is known =
+    let each : (k : ℕ) → k < length (x ∷ rest) → AreRings t n (count + k) (posts_at (x ∷ rest) k) = subst (λ (l : List Posts). (k : ℕ) → k < length l → AreRings t n (count + k) (posts_at l k)) is known in
+    subst (λ (m : ℕ). AreRings t n m x) (let same : count + 0 ≡ count = omega arith in same) (each 0 (omega arith))
+
+-- and the others are those of the parts behind it
+pub rings_of_rest : (t : Step) (n count more : ℕ) (rest all : List Posts) (x : Posts) → all ≡ x ∷ rest → more ≡ count + 1 → ((k : ℕ) → k < length all → AreRings t n (count + k) (posts_at all k)) → (k : ℕ) → k < length rest → AreRings t n (more + k) (posts_at rest k)
+rings_of_rest t n count more rest all x is next known k lt =
+    let each : (j : ℕ) → j < length (x ∷ rest) → AreRings t n (count + j) (posts_at (x ∷ rest) j) = subst (λ (l : List Posts). (j : ℕ) → j < length l → AreRings t n (count + j) (posts_at l j)) is known in
+    subst (λ (m : ℕ). AreRings t n m (posts_at rest k)) (let same : count + suc k ≡ more + k = omega (arith, next) in same) (each (suc k) (omega (arith, lt)))

@@ -103,23 +103,6 @@ home_onward k home slots slot to at mid after old between new is first next =
     (onward_then k w (fetched (part_at home slot) slot (setting_out w.at)) mid after old between new first
     (subst (λ (l : List ℕ). IsOnward k (fetched (part_at home slot) slot (setting_out l)) after between new) first.at (subst (λ (p : ℕ). IsOnward k (fetched p slot (setting_out mid)) after between new) is next)))
 
--- ---- the part's own rows
-
-pub owned_then : (to : ConstraintRow → ℕ) (k : ℕ) (rows more : List ConstraintRow) → owned to k (rows ++ more) ≡ owned to k rows ++ owned to k more
-owned_then to k rows more = filter-append (λ (r : ConstraintRow). nat_eq (to r) k) rows more
-
-pub owned_one : (to : ConstraintRow → ℕ) (k : ℕ) (rows : List ConstraintRow) (r : ConstraintRow) (part : ℕ) → part ≡ to r → owned to k (rows ++ r ∷ []) ≡ owned to k rows ++ cond (nat_eq part k) (r ∷ []) []
-owned_one to k rows r part is = owned_then to k rows (r ∷ []) ∙ ap (λ (p : ℕ). owned to k rows ++ cond (nat_eq p k) (r ∷ []) []) (sym is)
-
--- joints alone are no contacts
-if_joint : (t : Bool) (j : JointRow) (l : List ConstraintRow) → contacts_among l ≡ [] → contacts_among (cond t (Joint j ∷ l) l) ≡ []
-if_joint true j l none = none
-if_joint false j l none = none
-
-pub joints_only : (to : ConstraintRow → ℕ) (k : ℕ) (joints : List JointRow) → contacts_among (owned to k (map Joint joints)) ≡ []
-joints_only to k [] = refl
-joints_only to k (j ∷ joints) = if_joint (nat_eq (to (Joint j)) k) j (owned to k (map Joint joints)) (joints_only to k joints)
-
 -- ---- a row further in a list
 
 pub mapped_next : {X Y : Type 0} (f : X → Y) (xs : List X) (i : ℕ) (x : X) → i < length xs → x ≡ get_or xs i x → map f (take (i + 1) xs) ≡ map f (take i xs) ++ f x ∷ []

@@ -9,6 +9,7 @@ use Rattle.part_solver.specs.declared.seat.Lists.{Lists}
 pub record CanWalk (bodies rows colours : ℕ) (l : Lists) : Type 0 where
   pub rows_room : rows ≤ l.rows.room
   pub colours_room : colours + 1 ≤ l.rows.more
+  pub own_room : rows ≤ vec_capacity l.own
   pub moves_room : 2 * rows + bodies ≤ vec_capacity l.moves
   pub ends_room : colours + 2 ≤ vec_capacity l.ends
   pub no_colours : l.rows.colours ≡ []

@@ -9,9 +9,9 @@ use Rattle.plain_world.specs.declared.joint.BodyJoint.{BodyJoint}
 use Rattle.world_core_base.specs.StepRuns.{CanStep}
 use Rattle.world_core_base.specs.declared.step_solver.Pace.{Pace}
 use Rattle.part_runs.specs.Runs.{Step}
-use Rattle.part_solver.specs.Tasks.{AreStages, lists_of, rows_by}
+use Rattle.part_solver.specs.Stages.{AreStages, lists_of, rows_by}
 use Rattle.part_solver.specs.declared.lent.Lent.{Lent}
-use Rattle.part_solver.specs.declared.tasks.Stage.{Stage}
+use Rattle.part_solver.specs.declared.stages.Stage.{Stage}
 
 -- a step over these bodies, joints, contacts and stages
 abbrev pub step_over : List BodyState → List (Option BodyJoint) → List ContactEntry → List Stage → List ℕ → Pace → Step

@@ -1,10 +1,10 @@
-pub mod Tasks
-pub mod Lending
-pub mod Steps
-pub mod Mail
+pub mod Benches
 pub mod Exchange
-pub mod Walking
+pub mod Lending
+pub mod Mail
 pub mod Parts
 pub mod PuttingBack
-pub mod Benches
 pub mod Running
+pub mod Stages
+pub mod Steps
+pub mod Walking

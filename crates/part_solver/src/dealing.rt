@@ -3,7 +3,7 @@
 //! Any deal will do, so nothing is promised here.
 
 use crate::seeing::{is_mover, part_at};
-use crate::tasks::Stage;
+use crate::stages::Stage;
 use colour_solver::Slots;
 use fixed_geom::Refusal;
 use graph_colours::COLOURS;

@@ -7,7 +7,8 @@ ghost use Rattle.part_runs.specs.Handing.{left_by, left_for, let_go};
 ghost use Rattle.part_solver.specs.Exchange.{AreSentBelow, AreTakenBelow, IsExchanged, IsSentTo, IsTakenFrom, MaySendAll, own_walk, put_in};
 ghost use Rattle.part_solver.specs.Mail.{MaySend};
 
-use crate::mail::{LONG_WAIT, Received};
+use crate::alarm::Waited;
+use crate::mail::Received;
 use crate::moves::BodyMove;
 use crate::ports::Ports;
 use crate::sums::MOST_PARTS;
@@ -16,8 +17,8 @@ use std::mem;
 use std::sync::Wait;
 
 /// One if a wait was long.
-fn long(looks: u32) -> u32 {
-    if looks < LONG_WAIT { 0 } else { 1 }
+fn long(waited: Waited) -> u32 {
+    if waited.is_long() { 1 } else { 0 }
 }
 
 /// Whether a body moves from the one part to the other.
@@ -156,7 +157,7 @@ fn read_letter(
     }
 }
 
-/// Sends what moves from a part to another before a stage. Answers how often was looked.
+/// Sends what moves from a part to another before a stage. Answers one if it waited long for that.
 fn send_to<R: Wait>(
     rt: &R,
     number: u32,
@@ -177,10 +178,10 @@ fn send_to<R: Wait>(
     }
     let mut letter = ports.spare(rt, to, count);
     write_letter(moves, number, to as u32, states, &mut letter);
-    ports.send(rt, to, letter)
+    long(ports.send(rt, to, letter))
 }
 
-/// Receives what moves to it from another. Answers how often was looked.
+/// Receives what moves to it from another. Answers one if it waited long for that.
 fn receive_from<R: Wait>(
     rt: &R,
     number: u32,
@@ -197,10 +198,10 @@ fn receive_from<R: Wait>(
     if count == 0 {
         return 0;
     }
-    let Received { letter, looks } = ports.receive(rt, from, count);
+    let Received { letter, waited } = ports.receive(rt, from, count);
     read_letter(moves, from as u32, number, letter.as_slice(), states);
     ports.give_back(from, letter);
-    looks
+    long(waited)
 }
 
 /// Sends all that moves from a part before a stage. Answers how many waits were long.
@@ -218,8 +219,8 @@ fn send_all<R: Wait>(
 {
     let mut waits: u32 = 0;
     for to in 0..ports.parts() {
-        let looks = send_to(rt, number, to, moves, states, ports);
-        waits = waits.saturating_add(long(looks));
+        let waited = send_to(rt, number, to, moves, states, ports);
+        waits = waits.saturating_add(waited);
     }
     waits
 }
@@ -238,8 +239,8 @@ fn receive_all<R: Wait>(
 {
     let mut waits: u32 = 0;
     for from in 0..ports.parts() {
-        let looks = receive_from(rt, number, from, moves, states, ports);
-        waits = waits.saturating_add(long(looks));
+        let waited = receive_from(rt, number, from, moves, states, ports);
+        waits = waits.saturating_add(waited);
     }
     waits
 }

@@ -3,10 +3,10 @@
 ghost use Rattle.std.specs.Prelude.{◌≡◌, ◌<◌, [], length, slice_index_or};
 ghost use Rattle.contacts_base.specs.Split.{contacts_in};
 ghost use Rattle.part_solver.specs.Lending.{HasSources};
-ghost use Rattle.part_solver.specs.Tasks.{CanGather, HaveTheRows, lists_of, slot_lists};
+ghost use Rattle.part_solver.specs.Stages.{CanGather, HaveTheRows, lists_of, slot_lists};
 
+use crate::stages::Stage;
 use crate::step_lists::StepLists;
-use crate::tasks::Stage;
 use colour_solver::Slots;
 use contacts::Constraint;
 use contacts_base::SplitContacts;

@@ -8,6 +8,7 @@
 //! guess: any gives the same numbers as one thread.
 #![tactic(auto)]
 
+mod alarm;
 mod back;
 mod by_parts;
 mod dealing;
@@ -27,9 +28,9 @@ mod run;
 mod seat;
 mod seat_map;
 mod seeing;
+mod stages;
 mod step_lists;
 mod sums;
-mod tasks;
 mod team;
 mod walk;
 

@@ -5,6 +5,7 @@ ghost use Rattle.rtrb.specs.Ring.{received, sent};
 ghost use Rattle.part_solver.specs.Mail.{IsPosted, MayFollow};
 ghost use Rattle.part_solver.specs.declared.mail.Item.TheVariants.{Letter};
 
+use crate::alarm::{Alarm, Waited};
 use crate::head::Head;
 use crate::step_lists::StepLists;
 use fixed_geom::Refusal;
@@ -12,7 +13,6 @@ use momenta::BodyState;
 use rtrb::{Consumer, Producer, Protocol, PushError, RingBuffer};
 use std::alloc::Global;
 use std::sync::Wait;
-use std::{hint, thread};
 
 /// What stands in a ring.
 #[derive(Drop)]
@@ -40,22 +40,6 @@ pub(crate) type Receiver = Consumer<Item, Global, Mail>;
 /// How many letters may be on their way from one part to another.
 pub(crate) const LETTERS: usize = 4;
 
-/// How often a wait looks before it gives its processor away between two looks.
-const SPINS: u32 = 400;
-
-/// A wait that looks so often is long.
-pub(crate) const LONG_WAIT: u32 = 2_000;
-
-/// Waits a moment. Answers how often was looked.
-pub(crate) fn look_again(looks: u32) -> u32 {
-    if looks < SPINS {
-        hint::spin_loop();
-    } else {
-        thread::yield_now();
-    }
-    looks.saturating_add(1)
-}
-
 /// Makes a ring from one part to another, through which the head of a step has gone.
 pub(crate) fn make_ring(
     alloc: Global,
@@ -76,58 +60,69 @@ pub(crate) fn make_ring(
     Ok((sender, receiver))
 }
 
-/// Sends a letter, once there is room for it. Answers how often that was looked for.
-pub(crate) fn send<R: Wait>(rt: &R, sender: &mut Sender, letter: Vec<BodyState>) -> u32
+/// Sends a letter, once there is room for it. Answers how that was waited for.
+pub(crate) fn send<R: Wait>(
+    rt: &R,
+    alarm: &Alarm,
+    sender: &mut Sender,
+    letter: Vec<BodyState>,
+) -> Waited
     requires { MayFollow (sent sender.old) (Letter letter) }
     ensures { sent sender.new ≡ sent sender.old ++ Letter letter ∷ [] }
 {
     let mut item = Item::Letter(letter);
-    let mut looks = 0;
+    let mut waited = Waited::none();
     for _ in rt.forever() {
         match sender.push(item) {
-            Ok(()) => return looks,
+            Ok(()) => return waited,
             Err(PushError::Full(back)) => item = back,
         }
-        looks = look_again(looks);
+        waited = alarm.wait(rt, waited);
     }
     unreachable!()
 }
 
-/// A letter that has come, and how often it was looked for.
+/// A letter that has come, and how it was waited for.
 pub(crate) struct Received {
     pub(crate) letter: Vec<BodyState>,
-    pub(crate) looks: u32,
+    pub(crate) waited: Waited,
 }
 
 /// Waits for ever: what can't come has come.
-fn halt<R: Wait>(rt: &R) -> Received
+fn halt<R: Wait>(rt: &R, alarm: &Alarm) -> Received
     ensures { false ≡ true }
 {
+    let mut waited = Waited::none();
     for _ in rt.forever() {
-        thread::yield_now();
+        waited = alarm.wait(rt, waited);
     }
     unreachable!()
 }
 
 /// Receives the next letter, which has so many bodies, once it is there.
-pub(crate) fn receive<R: Wait>(rt: &R, receiver: &mut Receiver, count: usize) -> Received
+pub(crate) fn receive<R: Wait>(
+    rt: &R,
+    alarm: &Alarm,
+    receiver: &mut Receiver,
+    count: usize,
+) -> Received
     ensures received { received receiver.new ≡ received receiver.old ++ Letter result.letter ∷ [] }
     ensures allowed { MayFollow (received receiver.old) (Letter result.letter) }
     ensures long { length result.letter.items ≡ count }
 {
-    let mut looks = 0;
+    let mut waited = Waited::none();
     for _ in rt.forever() {
         match receiver.pop() {
             Ok(Item::Letter(letter)) => {
                 if letter.len() == count {
-                    return Received { letter, looks };
+                    return Received { letter, waited };
                 }
-                return halt(rt);
+                return halt(rt, alarm);
             }
-            Ok(Item::Begin(_)) => return halt(rt),
+            Ok(Item::Begin(_)) => return halt(rt, alarm),
             Err(_) => {}
         }
-        looks = look_again(looks);
+        waited = alarm.wait(rt, waited);
     }
     unreachable!()
 }

@@ -2,13 +2,13 @@
 
 ghost use Rattle.std.specs.Prelude.{◌≡◌, IfSome};
 ghost use Rattle.part_solver.specs.Parts.{AreDealt};
-ghost use Rattle.part_solver.specs.Tasks.{AreStages, lists_of};
+ghost use Rattle.part_solver.specs.Stages.{AreStages, lists_of};
 
 use crate::dealing::{Counts, Deal};
 use crate::homes::are_dealt;
 use crate::parting::StepMemory;
+use crate::stages::count_members;
 use crate::sums::MOST_PARTS;
-use crate::tasks::count_members;
 use contacts::Constraint;
 use graph_colours::Colours;
 use momenta::BodyState;

@@ -8,12 +8,12 @@ ghost use Rattle.colour_solver.specs.States.{carried_of, movers_of};
 ghost use Rattle.part_runs.specs.Hidden.{ArePartsBelow, part_at};
 ghost use Rattle.part_runs.specs.Laws.{AreHomes};
 ghost use Rattle.part_runs.specs.Runs.{Step, part_ran};
-ghost use Rattle.part_solver.specs.Parts.{AreAllRings, AreDealt, AreRings, AreSeated, IsPartOf, IsRunBy, IsSeated, posts_at, run_at, run_of_all};
+ghost use Rattle.part_solver.specs.Parts.{AreAllRings, AreDealt, AreRings, AreSeated, IsPartOf, IsRunBy, IsSeated, run_at, run_of_all};
 ghost use Rattle.part_solver.specs.Benches.{IsRoomy, IsRoomyFor};
 ghost use Rattle.part_solver.specs.Lending.{CanLend, HasSources, IsLent, step_of, step_over};
 ghost use Rattle.part_solver.specs.PuttingBack.{AreNamesApart, contacts_by, joints_by};
 ghost use Rattle.part_solver.specs.Steps.{CanSolve};
-ghost use Rattle.part_solver.specs.Tasks.{AreStages, lists_of};
+ghost use Rattle.part_solver.specs.Stages.{AreStages, lists_of};
 ghost use Rattle.world_core_base.specs.StepRuns.{HasLeft, HaveImpulses, run_over};
 
 use crate::back::read_bodies;
@@ -24,9 +24,9 @@ use crate::rings::make_rings;
 use crate::run::Outcome;
 use crate::seat::{Lists, Part, Seat};
 use crate::seat_map::SeatMap;
+use crate::stages::{Stage, list_stages};
 use crate::step_lists::StepLists;
 use crate::sums::{MOST_PARTS, are_small, sum_up};
-use crate::tasks::{Stage, list_stages};
 use crate::team::Team;
 use body_handles::MAX_SLOTS;
 use contacts::Constraint;
@@ -162,40 +162,28 @@ fn add_seat(seats: &mut Vec<Seat>, seat: Seat) -> Result<(), Refusal>
     Ok(())
 }
 
-/// Takes the rings of a part out of their place.
-fn take_ports(alloc: Global, ports: &mut [Ports], number: usize) -> Ports
-    requires { number < length ports.old }
-    ensures taken { result ≡ posts_at ports.old number }
-    ensures rest { (k : ℕ) → k ≢ number → posts_at ports.new k ≡ posts_at ports.old k }
-    ensures as_many { length ports.new ≡ length ports.old }
-{
-    mem::replace(&mut ports[number], Ports::new(alloc))
-}
-
 /// Makes a seat of each of the lists, with its rings.
 fn take_seats(
-    alloc: Global,
     step: &Arc<StepLists, Global>,
     lent: &Arc<Lent, Global>,
     benches: &mut Vec<Lists>,
-    ports: &mut [Ports],
+    ports: Vec<Ports>,
     seats: &mut Vec<Seat>,
 ) -> Result<(), Refusal>
     requires few { length benches.old.items ≤ MOST_PARTS }
     requires homes { AreHomes (length benches.old.items) (arc_value step.now) }
     requires rooms { All (IsRoomyFor (arc_value step.now)) benches.old.items }
-    requires rings { AreAllRings (arc_value step.now) (length benches.old.items) ports.old }
+    requires rings { AreAllRings (arc_value step.now) (length benches.old.items) ports.items }
     requires has { HasSources (arc_value step.now) (arc_value lent.now) }
     requires none { seats.old.items ≡ [] }
     ensures seated { OnOk result (AreSeated (arc_value step.now) 0 seats.new.items) }
     ensures as_many { OnOk result (length seats.new.items ≡ length benches.old.items) }
 {
-    for number in 0..benches.len() {
+    for own in ports {
         let Some(lists) = benches.pop() else {
             return Ok(());
         };
-        let own = take_ports(alloc, ports, number);
-        let seat = seat_of(step, lent, number as u32, lists, own)?;
+        let seat = seat_of(step, lent, seats.len() as u32, lists, own)?;
         add_seat(seats, seat)?;
     }
     Ok(())
@@ -360,15 +348,8 @@ fn seat_parts(
     ensures as_many { OnOk result (length lists.new.seats.items ≡ length lists.old.benches.items) }
     ensures parts { lists.new.parts ≡ lists.old.parts }
 {
-    let mut ports = make_rings(lists.alloc, step, lists.benches.len(), room)?;
-    take_seats(
-        lists.alloc,
-        step,
-        lent,
-        &mut lists.benches,
-        &mut ports,
-        &mut lists.seats,
-    )
+    let ports = make_rings(lists.alloc, step, lists.benches.len(), room)?;
+    take_seats(step, lent, &mut lists.benches, ports, &mut lists.seats)
 }
 
 /// Seats the parts of a step and runs them, and answers whether they have run: not where memory is wanting.

@@ -5,13 +5,14 @@ ghost use Rattle.rtrb.specs.Ring.{received, sent};
 ghost use Rattle.part_solver.specs.Mail.{MayFollow};
 ghost use Rattle.part_solver.specs.declared.mail.Item.TheVariants.{Letter};
 
-use crate::mail::{LETTERS, Received, Receiver, Sender, look_again, receive, send};
+use crate::alarm::{Alarm, Waited};
+use crate::mail::{LETTERS, Received, Receiver, Sender, receive, send};
 use fixed_geom::Refusal;
 use momenta::BodyState;
 use rtrb::{Consumer, Producer, RingBuffer};
 use std::alloc::Global;
 use std::marker::Model;
-use std::sync::Wait;
+use std::sync::{Arc, Wait};
 
 /// The end of a ring from which letters come that are free to be written.
 pub(crate) type Spares = Consumer<Vec<BodyState>>;
@@ -19,10 +20,14 @@ pub(crate) type Spares = Consumer<Vec<BodyState>>;
 /// Its other end, into which letters go that have been read.
 pub(crate) type Returns = Producer<Vec<BodyState>>;
 
-/// The ends of a part's rings, by the part at the other end. At its own number stands a ring to itself, which isn't
-/// used. They are made for one step. Contracts see what was sent to each part, and what has come from it.
+/// The ends of a part's rings, by the part at the other end, and what wakes the part there. At its own number stands a
+/// ring to itself, which isn't used. They are made for one step. Contracts see what was sent to each part, and what has
+/// come from it.
 #[derive(Drop)]
 pub(crate) struct Ports {
+    /// The part's own alarm, and those of the parts.
+    alarm: Arc<Alarm, Global>,
+    alarms: Vec<Arc<Alarm, Global>>,
     outs: Vec<Sender>,
     spares: Vec<Spares>,
     ins: Vec<Receiver>,
@@ -55,33 +60,27 @@ pub(crate) fn make_returns(
 }
 
 impl Ports {
-    /// No rings.
-    pub(crate) fn new(alloc: Global) -> Ports
-        ensures outs { result.outs ≡ [] }
-        ensures ins { result.ins ≡ [] }
+    /// No rings, with room for so many.
+    pub(crate) fn new(alloc: Global, parts: usize) -> Result<Ports, Refusal>
+        ensures outs { IfOk result (λ ports. ports.outs ≡ []) }
+        ensures ins { IfOk result (λ ports. ports.ins ≡ []) }
     {
-        Ports {
-            outs: Vec::new(alloc),
-            spares: Vec::new(alloc),
-            ins: Vec::new(alloc),
-            returns: Vec::new(alloc),
-        }
+        Ok(Ports {
+            alarm: Arc::new(alloc, Alarm::new())?,
+            alarms: Vec::with_capacity(alloc, parts)?,
+            outs: Vec::with_capacity(alloc, parts)?,
+            spares: Vec::with_capacity(alloc, parts)?,
+            ins: Vec::with_capacity(alloc, parts)?,
+            returns: Vec::with_capacity(alloc, parts)?,
+        })
     }
 
-    /// Lets all rings go, and makes room for so many.
-    pub(crate) fn prepare(&mut self, parts: usize) -> Result<(), Refusal>
-        ensures outs { OnOk result (self.new.outs ≡ []) }
-        ensures ins { OnOk result (self.new.ins ≡ []) }
-    {
-        self.outs.clear();
-        self.spares.clear();
-        self.ins.clear();
-        self.returns.clear();
-        self.outs.reserve(parts)?;
-        self.spares.reserve(parts)?;
-        self.ins.reserve(parts)?;
-        self.returns.reserve(parts)?;
-        Ok(())
+    /// What wakes the part.
+    pub(crate) fn alarm(&self) -> Result<Arc<Alarm, Global>, Refusal> {
+        match Arc::try_clone(&self.alarm) {
+            Ok(alarm) => Ok(alarm),
+            Err(_) => Err(Refusal::NoMemory),
+        }
     }
 
     /// How many parts there are.
@@ -91,12 +90,20 @@ impl Ports {
         self.outs.len()
     }
 
-    /// Adds a ring to the next part, and the one through which letters come back.
-    pub(crate) fn add_out(&mut self, sender: Sender, spares: Spares) -> Result<(), Refusal>
+    /// Adds a ring to the next part, the one through which letters come back, and what wakes that part.
+    pub(crate) fn add_out(
+        &mut self,
+        sender: Sender,
+        spares: Spares,
+        alarm: Arc<Alarm, Global>,
+    ) -> Result<(), Refusal>
         ensures outs { OnOk result (self.new.outs ≡ self.old.outs ++ sent sender ∷ []) }
         ensures ins { OnOk result (self.new.ins ≡ self.old.ins) }
     {
         if self.outs.push(sender).is_err() || self.spares.push(spares).is_err() {
+            return Err(Refusal::NoMemory);
+        }
+        if self.alarms.push(alarm).is_err() {
             return Err(Refusal::NoMemory);
         }
         Ok(())
@@ -111,6 +118,13 @@ impl Ports {
             return Err(Refusal::NoMemory);
         }
         Ok(())
+    }
+
+    /// Wakes a part, if it sleeps.
+    fn wake(&self, part: usize) {
+        if let Some(alarm) = self.alarms.get(part) {
+            alarm.ring();
+        }
     }
 
     /// A letter to a part that has come back, if one has.
@@ -132,7 +146,7 @@ impl Ports {
         ensures outs { self.new.outs ≡ self.old.outs }
         ensures ins { self.new.ins ≡ self.old.ins }
     {
-        let mut looks = 0;
+        let mut waited = Waited::none();
         for _ in rt.forever() {
             if let Some(mut letter) = self.next_spare(to) {
                 letter.clear();
@@ -140,19 +154,21 @@ impl Ports {
                     return letter;
                 }
             }
-            looks = look_again(looks);
+            waited = self.alarm.wait(rt, waited);
         }
         unreachable!()
     }
 
-    /// Sends a letter to a part, once there is room for it. Answers how often that was looked for.
-    pub(crate) fn send<R: Wait>(&mut self, rt: &R, to: usize, letter: Vec<BodyState>) -> u32
+    /// Sends a letter to a part, once there is room for it. Answers how that was waited for.
+    pub(crate) fn send<R: Wait>(&mut self, rt: &R, to: usize, letter: Vec<BodyState>) -> Waited
         requires to { to < length self.old.outs }
         requires allowed { MayFollow (slice_index_or self.old.outs to []) (Letter letter) }
         ensures outs { self.new.outs ≡ slice_set self.old.outs to (slice_index_or self.old.outs to [] ++ Letter letter ∷ []) }
         ensures ins { self.new.ins ≡ self.old.ins }
     {
-        send(rt, &mut self.outs[to], letter)
+        let waited = send(rt, &self.alarm, &mut self.outs[to], letter);
+        self.wake(to);
+        waited
     }
 
     /// Receives a letter of so many bodies from a part, once it is there.
@@ -163,7 +179,7 @@ impl Ports {
         ensures allowed { MayFollow (slice_index_or self.old.ins from []) (Letter result.letter) }
         ensures long { length result.letter.items ≡ count }
     {
-        receive(rt, &mut self.ins[from], count)
+        receive(rt, &self.alarm, &mut self.ins[from], count)
     }
 
     /// Gives a letter that has been read back to the part from which it came.
@@ -175,5 +191,6 @@ impl Ports {
         if let Some(returns) = self.returns.get_mut(from) {
             let _ = returns.push(letter);
         }
+        self.wake(from);
     }
 }

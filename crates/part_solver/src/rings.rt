@@ -28,7 +28,8 @@ fn join_two(
     let letters = if from == to { 0 } else { LETTERS };
     let (sender, receiver) = make_ring(alloc, step, from as u32, to as u32)?;
     let (returns, spares) = make_returns(alloc, letters, room)?;
-    ports[from].add_out(sender, spares)?;
+    let alarm = ports[to].alarm()?;
+    ports[from].add_out(sender, spares, alarm)?;
     ports[to].add_in(receiver, returns)?;
     Ok(())
 }
@@ -60,9 +61,7 @@ fn bare_ports(alloc: Global, parts: usize) -> Result<Vec<Ports>, Refusal>
 {
     let mut ports = Vec::with_capacity(alloc, parts)?;
     for made in 0..parts {
-        let mut own = Ports::new(alloc);
-        own.prepare(parts)?;
-        ports.push(own)?;
+        ports.push(Ports::new(alloc, parts)?)?;
     }
     Ok(ports)
 }

@@ -12,7 +12,9 @@ use crate::moves::BodyMove;
 use crate::ports::Ports;
 use crate::step_lists::StepLists;
 use colour_solver::{Rows, StepSums};
+use contacts::Constraint;
 use fixed_geom::Refusal;
+use graph_colours::Member;
 use momenta::BodyState;
 use std::alloc::Global;
 use std::marker::Model;
@@ -26,6 +28,8 @@ pub(crate) struct Lists {
     pub(crate) awake: Vec<u32>,
     pub(crate) carried: Vec<u32>,
     pub(crate) rows: Rows,
+    /// The part's own constraints of a stage, while it walks.
+    pub(crate) own: Vec<Member<Constraint>>,
     /// Beside the row of each contact where that may be.
     pub(crate) places: Vec<usize>,
     /// Who has the body in each slot.
@@ -125,6 +129,7 @@ impl Lists {
             awake: Vec::new(alloc),
             carried: Vec::new(alloc),
             rows: Rows::new(alloc),
+            own: Vec::new(alloc),
             places: Vec::new(alloc),
             at: Vec::new(alloc),
             moves: Vec::new(alloc),
@@ -146,6 +151,7 @@ impl Lists {
         self.awake.clear();
         self.carried.clear();
         self.rows.clear();
+        self.own.clear();
         self.places.clear();
         self.at.clear();
         self.moves.clear();
@@ -155,6 +161,7 @@ impl Lists {
         self.carried.reserve(bodies)?;
         self.at.reserve(bodies)?;
         self.rows.reserve(rows, room.colours)?;
+        self.own.reserve(rows)?;
         self.places.reserve(rows)?;
         self.moves.reserve(room.moves)?;
         self.ends.reserve(room.ends)?;

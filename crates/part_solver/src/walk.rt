@@ -5,35 +5,30 @@
 //! has none is of the part 0. A body that a row needs from elsewhere moves to its part before the row's stage. Behind
 //! the last of them all go home.
 
-ghost use Rattle.std.specs.Prelude.{◌≡◌, ◌*◌, ◌+◌, ◌++◌, ◌∷◌, ◌<◌, ◌≤◌, ◌^◌, [], cond, false, true, length, slice_index_or, vec_capacity, vec_len};
-ghost use Rattle.std.specs.Option.{option_to_list};
+ghost use Rattle.std.specs.Prelude.{◌≡◌, ◌*◌, ◌+◌, ◌++◌, ◌∷◌, ◌<◌, ◌≤◌, [], cond, false, true, length, slice_index_or, vec_capacity, vec_len};
 ghost use Rattle.contacts_base.specs.Split.{contacts_in};
-ghost use Rattle.contacts.specs.Constraints.{constraint_number};
-ghost use Rattle.colour_solver.specs.ConstraintVisits.{AreRowsBelow, contacts_among};
+ghost use Rattle.colour_solver.specs.ConstraintVisits.{AreRowsBelow};
 ghost use Rattle.colour_solver.specs.States.{AreAllStates};
-ghost use Rattle.world_core_base.specs.ConstraintRows.{HasJointOn, IsMovable, constraint_row, rows_in};
-ghost use Rattle.world_core_base.specs.Gather.{AreContactsOn};
+ghost use Rattle.world_core_base.specs.ConstraintRows.{rows_in};
 ghost use Rattle.part_runs.specs.Hidden.{owned, part_at};
 ghost use Rattle.part_runs.specs.Walks.{fetched, fetched_mover, setting_out, walk_home, walk_rows};
 ghost use Rattle.part_solver.specs.Benches.{HasSeen};
 ghost use Rattle.part_solver.specs.Lending.{HasSources};
 ghost use Rattle.part_solver.specs.Running.{IsWalked};
-ghost use Rattle.part_solver.specs.Tasks.{CanGather};
-ghost use Rattle.part_solver.specs.Walking.{IsOnward, owner_in, owner_of, slots_fetched};
+ghost use Rattle.part_solver.specs.Stages.{CanGather};
+ghost use Rattle.part_solver.specs.Walking.{IsOnward, own_members, owner_in, owner_of, slots_fetched};
 
 use crate::lent::{Lent, Sources, in_colour, in_overflow};
 use crate::moves::BodyMove;
 use crate::seat::Lists;
 use crate::seeing::{is_mover, part_at};
 use crate::step_lists::StepLists;
-use crate::tasks::id_at;
 use colour_solver::Slots;
 use contacts::Constraint;
-use contacts_base::Hint;
-use graph_colours::COLOURS;
+use graph_colours::{COLOURS, Member};
 use momenta::BodyState;
 use part_runs::laws::walks_are_made;
-use world_core_base::add_row;
+use world_core_base::{RowSources, gather_colour};
 
 /// What a row's part is found by.
 #[derive(Clone, Copy)]
@@ -168,64 +163,39 @@ fn slots_at(slots: &[Slots], index: usize) -> Slots
     slots[index]
 }
 
-/// Gathers the row of a constraint, for which there is room, if it is the part's own. The contact is looked for from
-/// `hint` on, which becomes where it was found.
+/// The constraint at a place.
 #[inline(always)]
-fn keep_row(
-    homes: Homes,
-    sources: Sources,
-    lists: &mut Lists,
-    hint: &mut Hint,
-    id: Constraint,
-    own: bool,
-)
-    requires states { AreAllStates homes.states.now }
-    requires joint { HasJointOn homes.states.now sources.joints.now id }
-    requires contacts { AreContactsOn homes.states.now (contacts_in sources.contacts.now) }
-    requires movable { IsMovable homes.states.now id }
-    requires room { 1 ≤ lists.old.rows.room }
-    requires first { constraint_number id < 2 ^ 80 → contacts_among lists.old.rows.left ≡ [] }
-    ensures below { AreRowsBelow (length homes.entry.states.now) lists.old.rows.left → AreRowsBelow (length homes.entry.states.now) lists.new.rows.left }
-    ensures left { lists.new.rows.left ≡ lists.old.rows.left ++ cond own (option_to_list (constraint_row homes.entry.states.now sources.entry.joints.now (contacts_in sources.entry.contacts.now) id)) [] }
-    ensures colours { lists.new.rows.colours ≡ lists.old.rows.colours }
-    ensures room { lists.old.rows.room ≤ lists.new.rows.room + 1 }
-    ensures more { lists.new.rows.more ≡ lists.old.rows.more }
-    ensures at { lists.new.at.items ≡ lists.old.at.items }
-    ensures moves { lists.new.moves.items ≡ lists.old.moves.items }
-    ensures moves_len { vec_len lists.new.moves ≡ vec_len lists.old.moves }
-    ensures moves_room { vec_capacity lists.new.moves ≡ vec_capacity lists.old.moves }
-    ensures states_same { lists.new.states.items ≡ lists.old.states.items }
-    ensures awake { lists.new.awake.items ≡ lists.old.awake.items }
-    ensures carried { lists.new.carried.items ≡ lists.old.carried.items }
-    ensures ends { lists.new.ends.items ≡ lists.old.ends.items }
-    ensures ends_room { vec_capacity lists.new.ends ≡ vec_capacity lists.old.ends }
+fn member_at(members: &[Member<Constraint>], index: usize) -> Member<Constraint>
+    requires { index < length members.now }
+    ensures { result ≡ slice_index_or members.now index result }
 {
-    if own {
-        add_row(
-            &mut lists.rows,
-            homes.states,
-            sources.joints,
-            sources.contacts,
-            hint,
-            &mut lists.places,
-            id,
-        );
+    members[index]
+}
+
+/// Lists a constraint, for which there is room, if it is the part's own.
+#[inline(always)]
+fn keep_member(own: &mut Vec<Member<Constraint>>, member: Member<Constraint>, is_own: bool)
+    requires { vec_len own.old < vec_capacity own.old }
+    ensures own { own.new.items ≡ own.old.items ++ cond is_own (member ∷ []) [] }
+    ensures room { vec_capacity own.new ≡ vec_capacity own.old }
+    ensures few { vec_len own.new ≤ vec_len own.old + 1 }
+{
+    if is_own {
+        own.push_reserved(member);
     }
 }
 
-/// Walks over the constraints of a stage, and gathers the part's own rows.
+/// Walks over the constraints of a stage, and lists the part's own, of which none is listed yet.
 fn walk_members(homes: Homes, sources: Sources, coloured: bool, lists: &mut Lists)
-    requires states { AreAllStates homes.states.now }
     requires can { CanGather homes.states.now sources.joints.now (contacts_in sources.contacts.now) sources.members.now sources.slots.now }
     requires moves_room { vec_len lists.old.moves + 2 * length sources.members.now ≤ vec_capacity lists.old.moves }
-    requires rows_room { length sources.members.now ≤ lists.old.rows.room }
-    requires no_rows { lists.old.rows.left ≡ [] }
+    requires own_room { length sources.members.now ≤ vec_capacity lists.old.own }
+    requires none { lists.old.own.items ≡ [] }
     ensures onward { IsOnward homes.entry.number (walk_rows homes.entry.states.now (owner_in homes.entry.states.now homes.entry.home.now coloured) (rows_in homes.entry.states.now sources.entry.joints.now (contacts_in sources.entry.contacts.now) sources.entry.members.now) (setting_out lists.old.at.items)) lists.new.at.items lists.old.moves.items lists.new.moves.items }
-    ensures own { lists.new.rows.left ≡ owned (owner_in homes.entry.states.now homes.entry.home.now coloured) homes.entry.number (rows_in homes.entry.states.now sources.entry.joints.now (contacts_in sources.entry.contacts.now) sources.entry.members.now) }
-    ensures below { AreRowsBelow (length homes.entry.states.now) (owned (owner_in homes.entry.states.now homes.entry.home.now coloured) homes.entry.number (rows_in homes.entry.states.now sources.entry.joints.now (contacts_in sources.entry.contacts.now) sources.entry.members.now)) }
-    ensures colours { lists.new.rows.colours ≡ lists.old.rows.colours }
-    ensures more { lists.new.rows.more ≡ lists.old.rows.more }
-    ensures rows_room { lists.old.rows.room ≤ lists.new.rows.room + length sources.entry.members.now }
+    ensures own { lists.new.own.items ≡ own_members homes.entry.states.now homes.entry.home.now coloured homes.entry.number sources.entry.joints.now sources.entry.members.now }
+    ensures few_own { vec_len lists.new.own ≤ length sources.entry.members.now }
+    ensures own_room { vec_capacity lists.new.own ≡ vec_capacity lists.old.own }
+    ensures rows { lists.new.rows ≡ lists.old.rows }
     ensures moves_room { vec_capacity lists.new.moves ≡ vec_capacity lists.old.moves }
     ensures few { vec_len lists.new.moves ≤ vec_len lists.old.moves + 2 * length sources.entry.members.now }
     ensures states_same { lists.new.states.items ≡ lists.old.states.items }
@@ -234,17 +204,11 @@ fn walk_members(homes: Homes, sources: Sources, coloured: bool, lists: &mut List
     ensures ends { lists.new.ends.items ≡ lists.old.ends.items }
     ensures ends_room { vec_capacity lists.new.ends ≡ vec_capacity lists.old.ends }
 {
-    let mut hint = Hint { long: 0, short: 0 };
     for index in 0..sources.members.len() {
-        let part = fetch_row(
-            homes,
-            slots_at(sources.slots, index),
-            coloured,
-            &mut lists.at,
-            &mut lists.moves,
-        );
-        let id = id_at(sources.members, index);
-        keep_row(homes, sources, lists, &mut hint, id, part == homes.number);
+        let slots = slots_at(sources.slots, index);
+        let part = fetch_row(homes, slots, coloured, &mut lists.at, &mut lists.moves);
+        let member = member_at(sources.members, index);
+        keep_member(&mut lists.own, member, part == homes.number);
     }
 }
 
@@ -258,12 +222,13 @@ fn end_stage(ends: &mut Vec<usize>, moves: &[BodyMove])
     ends.push_reserved(moves.len());
 }
 
-/// Walks over the constraints of a stage, and gathers the part's own rows. Then it ends.
+/// Walks over the constraints of a stage, and gathers the part's own rows. Then the stage ends.
 fn walk_stage(homes: Homes, sources: Sources, coloured: bool, lists: &mut Lists)
     requires states { AreAllStates homes.states.now }
     requires can { CanGather homes.states.now sources.joints.now (contacts_in sources.contacts.now) sources.members.now sources.slots.now }
     requires moves_room { vec_len lists.old.moves + 2 * length sources.members.now ≤ vec_capacity lists.old.moves }
     requires rows_room { length sources.members.now ≤ lists.old.rows.room }
+    requires own_room { length sources.members.now ≤ vec_capacity lists.old.own }
     requires no_rows { lists.old.rows.left ≡ [] }
     requires colours_room { 1 ≤ lists.old.rows.more }
     requires ends_room { vec_len lists.old.ends < vec_capacity lists.old.ends }
@@ -273,6 +238,7 @@ fn walk_stage(homes: Homes, sources: Sources, coloured: bool, lists: &mut Lists)
     ensures no_rows { lists.new.rows.left ≡ [] }
     ensures colours_room { lists.old.rows.more ≤ lists.new.rows.more + 1 }
     ensures rows_room { lists.old.rows.room ≤ lists.new.rows.room + length sources.entry.members.now }
+    ensures own_room { vec_capacity lists.new.own ≡ vec_capacity lists.old.own }
     ensures moves_room { vec_capacity lists.new.moves ≡ vec_capacity lists.old.moves }
     ensures few { vec_len lists.new.moves ≤ vec_len lists.old.moves + 2 * length sources.entry.members.now }
     ensures states_same { lists.new.states.items ≡ lists.old.states.items }
@@ -282,7 +248,15 @@ fn walk_stage(homes: Homes, sources: Sources, coloured: bool, lists: &mut Lists)
     ensures ends_room { vec_capacity lists.new.ends ≡ vec_capacity lists.old.ends }
     ensures ends_count { vec_len lists.new.ends ≡ vec_len lists.old.ends + 1 }
 {
+    lists.own.clear();
     walk_members(homes, sources, coloured, lists);
+    let row_sources = RowSources {
+        states: homes.states,
+        joints: sources.joints,
+        contacts: sources.contacts,
+    };
+    let own = lists.own.as_slice();
+    gather_colour(&mut lists.rows, &mut lists.places, row_sources, own);
     lists.rows.end_colour();
     end_stage(&mut lists.ends, &lists.moves);
 }

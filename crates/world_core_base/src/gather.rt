@@ -30,6 +30,14 @@ use joint_rows::JointRow;
 use momenta::{BodyState, Ends, MassData, Motion, NOBODY, reciprocals_of};
 use plain_world::{Body, BodyJoint};
 
+/// What rows are gathered from: the bodies by slot as the solver works on them, and a world's joints and contacts.
+#[derive(Clone, Copy)]
+pub struct RowSources<'a> {
+    pub states: &'a [BodyState],
+    pub joints: &'a [Option<BodyJoint>],
+    pub contacts: &'a SplitContacts,
+}
+
 /// The mass of a body that is carried along: with it the momentum is the velocity itself, and the angular momentum the
 /// spin.
 const CARRIER: MassData = MassData {
@@ -218,64 +226,61 @@ fn push_contact(rows: &mut Rows, row: Option<ContactRow>, places: &mut Vec<usize
 /// from `hint` on, and the place where it was found.
 /// The numbers of all joints are below 2^80, and those of all contacts aren't, so that joints come first.
 #[inline(always)]
-pub fn add_row(
+fn add_row(
     rows: &mut Rows,
-    states: &[BodyState],
-    joints: &[Option<BodyJoint>],
-    contacts: &SplitContacts,
-    hint: &mut Hint,
     places: &mut Vec<usize>,
+    sources: RowSources,
+    hint: &mut Hint,
     id: Constraint,
 )
-    requires all_states { AreAllStates states.now }
-    requires joint { HasJointOn states.now joints.now id }
-    requires contacts { AreContactsOn states.now (contacts_in contacts.now) }
-    requires movable { IsMovable states.now id }
+    requires all_states { AreAllStates sources.states.now }
+    requires joint { HasJointOn sources.states.now sources.joints.now id }
+    requires contacts { AreContactsOn sources.states.now (contacts_in sources.contacts.now) }
+    requires movable { IsMovable sources.states.now id }
     requires room { 1 ≤ rows.old.room }
     requires first { constraint_number id < 2 ^ 80 → contacts_among rows.old.left ≡ [] }
     ensures colours { rows.new.colours ≡ rows.old.colours }
-    ensures left { rows.new.left ≡ rows.old.left ++ option_to_list (constraint_row states.now joints.now (contacts_in contacts.now) id) }
-    ensures row { ForSome (constraint_row states.now joints.now (contacts_in contacts.now) id) (IsRowBelow (length states.now)) }
+    ensures left { rows.new.left ≡ rows.old.left ++ option_to_list (constraint_row sources.entry.states.now sources.entry.joints.now (contacts_in sources.entry.contacts.now) id) }
+    ensures row { ForSome (constraint_row sources.entry.states.now sources.entry.joints.now (contacts_in sources.entry.contacts.now) id) (IsRowBelow (length sources.entry.states.now)) }
     ensures room { rows.old.room ≤ rows.new.room + 1 }
     ensures more { rows.new.more ≡ rows.old.more }
 {
     match id {
         Constraint::Joint(handle) => {
-            push_joint(rows, joint_row_at(states, joints, handle.slot as usize));
+            let row = joint_row_at(sources.states, sources.joints, handle.slot as usize);
+            push_joint(rows, row);
         }
         Constraint::Contact(_) => {
-            let row = row_of(states, contacts, hint, id);
+            let row = row_of(sources.states, sources.contacts, hint, id);
             push_contact(rows, row, places, hint.long);
         }
     }
 }
 
-/// Gathers the constraints of one colour, ascending, for which there is room, and the places of its contacts; the
-/// colour has none yet.
-fn gather_colour(
+/// Gathers constraints of one colour, ascending, for which there is room, and the places of the contacts among them; the
+/// colour has no rows yet.
+pub fn gather_colour(
     rows: &mut Rows,
-    states: &[BodyState],
-    joints: &[Option<BodyJoint>],
-    contacts: &SplitContacts,
     places: &mut Vec<usize>,
+    sources: RowSources,
     members: &[Member<Constraint>],
 )
-    requires all_states { AreAllStates states.now }
-    requires joints { HaveJointsOn states.now joints.now members.now }
-    requires contacts { AreContactsOn states.now (contacts_in contacts.now) }
-    requires movable { HaveMovable states.now members.now }
+    requires all_states { AreAllStates sources.states.now }
+    requires joints { HaveJointsOn sources.states.now sources.joints.now members.now }
+    requires contacts { AreContactsOn sources.states.now (contacts_in sources.contacts.now) }
+    requires movable { HaveMovable sources.states.now members.now }
     requires ascend { AreRising constraint_number members.now }
     requires none { rows.old.left ≡ [] }
     requires room { length members.now ≤ rows.old.room }
     ensures colours { rows.new.colours ≡ rows.old.colours }
-    ensures left { rows.new.left ≡ rows_in states.now joints.now (contacts_in contacts.now) members.now }
-    ensures rows { AreRowsBelow (length states.now) rows.new.left }
+    ensures left { rows.new.left ≡ rows_in sources.entry.states.now sources.entry.joints.now (contacts_in sources.entry.contacts.now) members.now }
+    ensures rows { AreRowsBelow (length sources.entry.states.now) rows.new.left }
     ensures room { rows.old.room ≤ rows.new.room + length members.now }
     ensures more { rows.new.more ≡ rows.old.more }
 {
     let mut hint = Hint { long: 0, short: 0 };
     for member in members {
-        add_row(rows, states, joints, contacts, &mut hint, places, member.id);
+        add_row(rows, places, sources, &mut hint, member.id);
     }
 }
 
@@ -286,43 +291,27 @@ fn gather_colour(
 #[tactic(auto, unfolding(crate::specs::ConstraintRows::rows_of))]
 pub fn gather_rows(
     rows: &mut Rows,
-    states: &[BodyState],
-    joints: &[Option<BodyJoint>],
-    contacts: &SplitContacts,
     places: &mut Vec<usize>,
+    sources: RowSources,
     colours: &Colours<Constraint>,
 )
     requires flushed { colours.now.pending ≡ 0 }
-    requires all_states { AreAllStates states.now }
-    requires joints { All (HaveJointsOn states.now joints.now) colours.now.lists }
-    requires contacts { AreContactsOn states.now (contacts_in contacts.now) }
-    requires movable { All (HaveMovable states.now) colours.now.lists }
+    requires all_states { AreAllStates sources.states.now }
+    requires joints { All (HaveJointsOn sources.states.now sources.joints.now) colours.now.lists }
+    requires contacts { AreContactsOn sources.states.now (contacts_in sources.contacts.now) }
+    requires movable { All (HaveMovable sources.states.now) colours.now.lists }
     requires room { length (all_members colours.now.lists) ≤ rows.old.room }
     requires more { COLOURS + 1 ≤ rows.old.more }
-    ensures colours { rows.new.colours ≡ map (rows_in states.now joints.now (contacts_in contacts.now)) (take COLOURS colours.now.lists) }
-    ensures left { rows.new.left ≡ rows_in states.now joints.now (contacts_in contacts.now) (slice_index_or colours.now.lists COLOURS []) }
-    ensures value { all_rows rows.new ≡ rows_of states.now joints.now (contacts_in contacts.now) colours.now.lists }
-    ensures rows { AreRowsBelow (length states.now) (all_rows rows.new) }
+    ensures colours { rows.new.colours ≡ map (rows_in sources.entry.states.now sources.entry.joints.now (contacts_in sources.entry.contacts.now)) (take COLOURS colours.now.lists) }
+    ensures left { rows.new.left ≡ rows_in sources.entry.states.now sources.entry.joints.now (contacts_in sources.entry.contacts.now) (slice_index_or colours.now.lists COLOURS []) }
+    ensures value { all_rows rows.new ≡ rows_of sources.entry.states.now sources.entry.joints.now (contacts_in sources.entry.contacts.now) colours.now.lists }
+    ensures rows { AreRowsBelow (length sources.entry.states.now) (all_rows rows.new) }
 {
     rows.clear();
     places.clear();
     for colour in 0..OVERFLOW {
-        gather_colour(
-            rows,
-            states,
-            joints,
-            contacts,
-            places,
-            colours.members(colour),
-        );
+        gather_colour(rows, places, sources, colours.members(colour));
         rows.end_colour();
     }
-    gather_colour(
-        rows,
-        states,
-        joints,
-        contacts,
-        places,
-        colours.members(OVERFLOW),
-    );
+    gather_colour(rows, places, sources, colours.members(OVERFLOW));
 }

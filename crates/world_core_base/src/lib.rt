@@ -36,7 +36,7 @@ mod timing;
 
 pub use body_table::BodyTable;
 pub use contacts_asleep::{follow_contacts, list_contacts_asleep};
-pub use gather::{add_row, gather_rows};
+pub use gather::{RowSources, gather_colour, gather_rows};
 pub use gathered_rows::GatheredRows;
 pub use impulses::put_impulses;
 pub use joint_ends::Ends;

@@ -6,7 +6,7 @@ ghost use Rattle.graph_colours.specs.Colours.{all_members};
 ghost use Rattle.colour_solver.specs.States.{carried_of, movers_of};
 ghost use Rattle.world_core_base.specs.StepRuns.{CanStep, HasLeft, HaveImpulses, run_over};
 
-use crate::gather::gather_rows;
+use crate::gather::{RowSources, gather_rows};
 use crate::gathered_rows::GatheredRows;
 use crate::impulses::put_impulses;
 use crate::joint_table::JointTable;
@@ -106,15 +106,12 @@ pub fn run_alone(
     ensures impulses { HaveImpulses (run_over pace.count pace.gravity states.old.items constraints.old.joints.joints constraints.old.contacts.contacts colours.now.lists) constraints.old.joints.joints constraints.old.contacts.contacts constraints.new.joints.joints constraints.new.contacts.contacts result }
     ensures numbered { constraints.new.contacts.numbered ≡ constraints.old.contacts.numbered }
 {
-    let kept = constraints.contacts.split();
-    gather_rows(
-        &mut gathered.rows,
-        states.as_slice(),
-        constraints.joints.joints(),
-        kept,
-        &mut gathered.places,
-        colours,
-    );
+    let sources = RowSources {
+        states: states.as_slice(),
+        joints: constraints.joints.joints(),
+        contacts: constraints.contacts.split(),
+    };
+    gather_rows(&mut gathered.rows, &mut gathered.places, sources, colours);
     let sums = run_step(
         states,
         &mut gathered.rows,

@@ -4,7 +4,7 @@ mod threads;
 
 use std::mem::MaybeUninit;
 use std::ops::{Deref, DerefMut};
-pub use threads::{AllocGlobal, Arc, Runtime, Scope, ScopeEnv, Snapshot, Threads, Wait, scope, scope_env};
+pub use threads::{AllocGlobal, Arc, AtomicU64, Ordering, Runtime, Scope, ScopeEnv, Snapshot, Threads, Wait, scope, scope_env};
 
 /// The allocator; it only has to be passed along.
 #[derive(Clone, Copy, Debug, PartialEq, Eq)]

@@ -3,6 +3,8 @@
 use crate::{AllocError, AllocFailed, Global};
 use std::marker::PhantomData;
 use std::ops::Deref;
+pub use std::sync::atomic::Ordering;
+use std::sync::{Condvar, Mutex};
 
 /// A shared value.
 pub struct Arc<T, A = Global>(std::sync::Arc<T>, PhantomData<A>);
@@ -27,6 +29,43 @@ impl<T, A> Deref for Arc<T, A> {
     #[inline(always)]
     fn deref(&self) -> &T {
         &self.0
+    }
+}
+
+/// A word of which a thread may sleep until it has another value.
+pub struct AtomicU64 {
+    word: std::sync::atomic::AtomicU64,
+    lock: Mutex<()>,
+    woken: Condvar,
+}
+
+impl AtomicU64 {
+    pub fn new(word: u64) -> AtomicU64 {
+        AtomicU64 { word: std::sync::atomic::AtomicU64::new(word), lock: Mutex::new(()), woken: Condvar::new() }
+    }
+
+    #[inline(always)]
+    pub fn load(&self, order: Ordering) -> u64 {
+        self.word.load(order)
+    }
+
+    pub fn store(&self, word: u64, order: Ordering) {
+        self.word.store(word, order)
+    }
+
+    pub fn fetch_add(&self, more: u64, order: Ordering) -> u64 {
+        self.word.fetch_add(more, order)
+    }
+
+    /// Sleeps while the lower half of the word is this.
+    pub fn park<R: Wait>(&self, _: &R, seen: u32) {
+        let held = self.lock.lock().unwrap();
+        drop(self.woken.wait_while(held, |_| self.word.load(Ordering::SeqCst) as u32 == seen).unwrap());
+    }
+
+    pub fn wake_all(&self) {
+        drop(self.lock.lock().unwrap());
+        self.woken.notify_all();
     }
 }
 

@@ -9,8 +9,8 @@ loop-to-preserved g c =
     let states = c.args.states.now.items in
     let i = c.loop-to.to in
     let known = c.loop-to.invariant in
-    let made = c.send_to-looks.ensures in
+    let made = c.send_to-waited.ensures in
     record {
-      states = left_more i k w states c.loop-to.states.items c.send_to-looks.new.states.items known.states made.states;
-      sent = sent_more i k w states c.loop-to.states.items c.args.ports.now c.loop-to.ports c.send_to-looks.new.ports known.sent known.states made.sent;
+      states = left_more i k w states c.loop-to.states.items c.send_to-waited.new.states.items known.states made.states;
+      sent = sent_more i k w states c.loop-to.states.items c.args.ports.now c.loop-to.ports c.send_to-waited.new.ports known.sent known.states made.sent;
     }

@@ -1,6 +1,6 @@
 use Rattle.std.proofs.Common.{sym, ap, ◌∙◌}
 use Rattle.part_runs.proofs.ListLaws.{get_or-mapped}
-use Rattle.part_solver.specs.declared.tasks.Stage.{Stage}
+use Rattle.part_solver.specs.declared.stages.Stage.{Stage}
 use Rattle.part_solver.proofs.lent.sources_of.Goals as goal
 
 pub returns-clause-members : goal.returns-clause-members

@@ -32,6 +32,7 @@ returns c =
       walk = record {
         rows_room = walk.rows_room;
         colours_room = walk.colours_room;
+        own_room = walk.own_room;
         moves_room = walk.moves_room;
         ends_room = walk.ends_room;
         no_colours = walk.no_colours;

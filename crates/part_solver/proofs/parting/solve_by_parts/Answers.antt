@@ -7,8 +7,8 @@ use Rattle.part_solver.specs.Lending.{CanLend, step_over}
 use Rattle.part_solver.specs.Benches.{IsRoomy, IsRoomyFor}
 use Rattle.part_solver.specs.Parts.{AreDealt, run_at}
 use Rattle.part_solver.specs.Steps.{CanSolve}
-use Rattle.part_solver.specs.Tasks.{lists_of}
-use Rattle.part_solver.specs.declared.tasks.Stage.{Stage}
+use Rattle.part_solver.specs.Stages.{lists_of}
+use Rattle.part_solver.specs.declared.stages.Stage.{Stage}
 use Rattle.part_solver.proofs.OverLaws.{all_roomy, can_solve, over_impulses, over_left}
 use Rattle.part_solver.proofs.parting.solve_by_parts.Goals as goal
 

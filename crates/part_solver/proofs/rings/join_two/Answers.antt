@@ -18,7 +18,7 @@ returns-clause-joined c =
     let r : List Item = received c.in_ok-sender.receiver in
     let there : v < length (set old u p) = subst (λ n. v < n) (sym (length-set old u p)) c.requires.to in
     let at_before : get_or old u c.index-ports-from.result ≡ posts_at old u = at_any old u c.index-ports-from.result no_posts c.requires.from in
-    let at_mid : get_or (set old u p) v c.index-ports-to.result ≡ posts_at (set old u p) v = at_any (set old u p) v c.index-ports-to.result no_posts there in
+    let at_mid : get_or (set old u p) v c.index-ports-to-2.result ≡ posts_at (set old u p) v = at_any (set old u p) v c.index-ports-to-2.result no_posts there in
     joined c.args.step.now u v old p q s r c.requires.from c.requires.to
     (c.in_ok-add_out.ensures.outs ∙ ap (λ (x : Posts). x.outs ++ s ∷ []) at_before)
     (c.in_ok-add_out.ensures.ins ∙ ap (λ (x : Posts). x.ins) at_before)

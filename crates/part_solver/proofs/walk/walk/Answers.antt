@@ -29,6 +29,7 @@ loop-colour-init c =
       left = seen.walk.no_rows;
       below = subst (All (AreRowsBelow (length t.states))) (sym seen.walk.no_colours) (All-nil (AreRowsBelow (length t.states)));
       rows_room = omega (arith, all, seen.walk.rows_room);
+      own_room = omega (arith, all, seen.walk.own_room);
       moves_room = omega (arith, all, no_moves, l.moves.ok, seen.walk.moves_room);
       colours_room = omega (arith, seen.walk.colours_room);
       ends_room = seen.walk.ends_room;
@@ -64,6 +65,7 @@ loop-colour-preserved c =
       left = done.no_rows;
       below = subst (All (AreRowsBelow (length t.states))) (sym own) (all_lists_more (AreRowsBelow (length t.states)) old.rows.colours (owned (owner_in t.states t.home true) k rows) known.below (rw (c.states.ensures, c.home.ensures) at done.below));
       rows_room = omega (arith, room, known.rows_room, done.rows_room);
+      own_room = omega (arith, room, known.own_room, done.own_room);
       moves_room = omega (arith, room, known.moves_room, done.few, done.moves_room);
       colours_room = omega (arith, known.colours_room, done.colours_room);
       ends_room = omega (arith, known.ends_room, done.ends_room);
@@ -92,6 +94,13 @@ walk_stage-requires-clause-rows_room c =
     let room = left_room t.rows.colours c.loop-colour.colour (length c.in_colour.result.members.now) (omega (arith, c.loop-colour-test.true, many)) c.in_colour.ensures.rows.count in
     omega (arith, room, c.loop-colour.invariant.rows_room)
 
+pub walk_stage-requires-clause-own_room : goal.walk_stage-requires-clause-own_room
+walk_stage-requires-clause-own_room c =
+    let t = c.args.step.now in
+    let many = c.know.ensures.colours in
+    let room = left_room t.rows.colours c.loop-colour.colour (length c.in_colour.result.members.now) (omega (arith, c.loop-colour-test.true, many)) c.in_colour.ensures.rows.count in
+    omega (arith, room, c.loop-colour.invariant.own_room)
+
 pub walk_stage-requires-clause-colours_room : goal.walk_stage-requires-clause-colours_room
 walk_stage-requires-clause-colours_room c = omega (arith, c.loop-colour-test.true, c.know.ensures.colours, c.loop-colour.invariant.colours_room)
 
@@ -109,6 +118,9 @@ walk_stage-requires-2-clause-moves_room c = omega (arith, c.in_overflow.ensures.
 
 pub walk_stage-requires-2-clause-rows_room : goal.walk_stage-requires-2-clause-rows_room
 walk_stage-requires-2-clause-rows_room c = omega (arith, c.in_overflow.ensures.rows.count, c.loop-colour.invariant.rows_room)
+
+pub walk_stage-requires-2-clause-own_room : goal.walk_stage-requires-2-clause-own_room
+walk_stage-requires-2-clause-own_room c = omega (arith, c.in_overflow.ensures.rows.count, c.loop-colour.invariant.own_room)
 
 pub walk_stage-requires-2-clause-colours_room : goal.walk_stage-requires-2-clause-colours_room
 walk_stage-requires-2-clause-colours_room c = omega (arith, c.loop-colour.auto.colour-end, c.know.ensures.colours, c.loop-colour.invariant.colours_room)

@@ -13,6 +13,7 @@ invariant-loop-colour l =
       left : l.lists.rows.left ≡ [];
       below : All (AreRowsBelow (length l.step.states)) l.lists.rows.colours;
       rows_room : rest ≤ l.lists.rows.room;
+      own_room : rest ≤ vec_capacity l.lists.own;
       moves_room : vec_len l.lists.moves + (2 * rest + length l.step.states) ≤ vec_capacity l.lists.moves;
       colours_room : length l.step.rows.colours + 1 ≤ l.lists.rows.more + l.colour;
       ends_room : length l.step.rows.colours + 2 ≤ vec_capacity l.lists.ends;

@@ -1,10 +1,8 @@
-use Rattle.std.proofs.Common.{◌≡◌, ◌≤◌, ◌+◌, ◌*◌, length, take, vec_capacity, vec_len}
+use Rattle.std.proofs.Common.{◌≡◌, ◌≤◌, ◌+◌, ◌*◌, take, vec_capacity, vec_len}
 use Rattle.contacts_base.specs.Split.{contacts_in}
-use Rattle.colour_solver.specs.ConstraintVisits.{AreRowsBelow}
-use Rattle.part_runs.specs.Hidden.{owned}
 use Rattle.part_runs.specs.Walks.{setting_out, walk_rows}
 use Rattle.world_core_base.specs.ConstraintRows.{rows_in}
-use Rattle.part_solver.specs.Walking.{IsOnward, owner_in}
+use Rattle.part_solver.specs.Walking.{IsOnward, own_members, owner_in}
 use Rattle.part_solver.proofs.walk.walk_members.Given as goal
 
 abbrev pub invariant-loop-index : goal.invariant-loop-index
@@ -12,11 +10,10 @@ invariant-loop-index l =
     let so_far = rows_in l.homes.states.now l.sources.joints.now (contacts_in l.sources.contacts.now) (take l.index l.sources.members.now) in
     record {
       onward : IsOnward l.homes.number (walk_rows l.homes.states.now (owner_in l.homes.states.now l.homes.home.now l.coloured) so_far (setting_out l.fn.lists.at.items)) l.lists.at.items l.fn.lists.moves.items l.lists.moves.items;
-      own : l.lists.rows.left ≡ owned (owner_in l.homes.states.now l.homes.home.now l.coloured) l.homes.number so_far;
-      below : AreRowsBelow (length l.homes.states.now) l.lists.rows.left;
-      colours : l.lists.rows.colours ≡ l.fn.lists.rows.colours;
-      more : l.lists.rows.more ≡ l.fn.lists.rows.more;
-      rows_room : l.fn.lists.rows.room ≤ l.lists.rows.room + l.index;
+      own : l.lists.own.items ≡ own_members l.homes.states.now l.homes.home.now l.coloured l.homes.number l.sources.joints.now (take l.index l.sources.members.now);
+      few_own : vec_len l.lists.own ≤ l.index;
+      own_room : vec_capacity l.lists.own ≡ vec_capacity l.fn.lists.own;
+      rows : l.lists.rows ≡ l.fn.lists.rows;
       moves_room : vec_capacity l.lists.moves ≡ vec_capacity l.fn.lists.moves;
       few : vec_len l.lists.moves ≤ vec_len l.fn.lists.moves + 2 * l.index;
       states_same : l.lists.states.items ≡ l.fn.lists.states.items;

@@ -16,10 +16,10 @@ push_joint-requires-clause-first c =
 pub returns-in-Joint-clause-row : goal.returns-in-Joint-clause-row
 returns-in-Joint-clause-row c = λ x e.
     let slot = c.in-Joint.handle.slot in
-    joint_below c.args.states.now slot (joint_at c.args.joints.now slot) x (rw c.in-Joint.is at c.requires.joint) (λ r f. c.joint_row_at.ensures.row r (c.joint_row_at.ensures.value ∙ f)) (rw c.in-Joint.is at e)
+    joint_below c.args.sources.states.now slot (joint_at c.args.sources.joints.now slot) x (rw c.in-Joint.is at c.requires.joint) (λ r f. c.joint_row_at-row.ensures.row r (c.joint_row_at-row.ensures.value ∙ f)) (rw c.in-Joint.is at e)
 
 pub returns-in-Contact-clause-row : goal.returns-in-Contact-clause-row
 returns-in-Contact-clause-row c = λ x e.
-    let made = row_of c.args.states.now (contacts_in c.args.contacts.now) (constraints.Contact c.in-Contact.field-0) in
+    let made = row_of c.args.sources.states.now (contacts_in c.args.sources.contacts.now) (constraints.Contact c.in-Contact.field-0) in
     let value : c.row_of-row.result ≡ made = rw c.in-Contact.is at c.row_of-row.ensures.value in
-    contact_below (length c.args.states.now) made x (λ r f. c.row_of-row.ensures.row r (value ∙ f)) (rw c.in-Contact.is at e)
+    contact_below (length c.args.sources.states.now) made x (λ r f. c.row_of-row.ensures.row r (value ∙ f)) (rw c.in-Contact.is at e)

@@ -10,16 +10,16 @@ use Rattle.world_core_base.proofs.gather.gather_colour.Goals as goal
 
 pub add_row-requires-clause-first : goal.add_row-requires-clause-first
 add_row-requires-clause-first c = λ low.
-    joints_so_far c.args.states.now c.args.joints.now (contacts_in c.args.contacts.now) c.args.members.now c.loop-member.member-index _ c.loop-member.rows.left c.requires.ascend c.loop-member-test.true c.loop-member.invariant.left low
+    joints_so_far c.args.sources.states.now c.args.sources.joints.now (contacts_in c.args.sources.contacts.now) c.args.members.now c.loop-member.member-index _ c.loop-member.rows.left c.requires.ascend c.loop-member-test.true c.loop-member.invariant.left low
 
 pub loop-member-preserved : goal.loop-member-preserved
 loop-member-preserved c =
-    let find = λ (m : Member Constraint). constraint_row c.args.states.now c.args.joints.now (contacts_in c.args.contacts.now) m.id in
+    let find = λ (m : Member Constraint). constraint_row c.args.sources.states.now c.args.sources.joints.now (contacts_in c.args.sources.contacts.now) m.id in
     let pushed = c.add_row.ensures.left in
     record {
       colours = c.add_row.ensures.colours ∙ c.loop-member.invariant.colours;
       left = rw pushed (row_more find c.loop-member.rows.left _ c.args.members.now c.loop-member.member-index _ c.loop-member-test.true c.loop-member.invariant.left);
-      rows = subst (AreRowsBelow (length c.args.states.now)) (sym pushed) (all_more (IsRowBelow (length c.args.states.now)) c.loop-member.rows.left (find (slice_index_or c.args.members.now c.loop-member.member-index _)) c.loop-member.invariant.rows c.add_row.ensures.row);
+      rows = subst (AreRowsBelow (length c.args.sources.states.now)) (sym pushed) (all_more (IsRowBelow (length c.args.sources.states.now)) c.loop-member.rows.left (find (slice_index_or c.args.members.now c.loop-member.member-index _)) c.loop-member.invariant.rows c.add_row.ensures.row);
       room = omega (arith, c.add_row.ensures.room, c.loop-member.invariant.room);
       more = c.add_row.ensures.more ∙ c.loop-member.invariant.more;
     }

@@ -7,8 +7,8 @@ use Rattle.world_core_base.proofs.gather.gather_colour.Given as goal
 abbrev pub invariant-loop-member : goal.invariant-loop-member
 invariant-loop-member l = record {
   colours : l.rows.colours ≡ l.initial.rows.colours;
-  left : l.rows.left ++ rows_in l.states l.joints (contacts_in l.contacts) (drop l.member-index l.members) ≡ rows_in l.states l.joints (contacts_in l.contacts) l.members;
-  rows : AreRowsBelow (length l.states) l.rows.left;
+  left : l.rows.left ++ rows_in l.sources.states.now l.sources.joints.now (contacts_in l.sources.contacts.now) (drop l.member-index l.members) ≡ rows_in l.sources.states.now l.sources.joints.now (contacts_in l.sources.contacts.now) l.members;
+  rows : AreRowsBelow (length l.sources.states.now) l.rows.left;
   room : l.initial.rows.room ≤ l.rows.room + l.member-index;
   more : l.rows.more ≡ l.initial.rows.more;
 }

@@ -9,9 +9,9 @@ use Rattle.world_core_base.proofs.gather.gather_rows.Goals as goal
 
 pub loop-colour-preserved : goal.loop-colour-preserved
 loop-colour-preserved c =
-    let states = c.args.states.now in
-    let joints = c.args.joints.now in
-    let contacts = contacts_in c.args.contacts.now in
+    let states = c.args.sources.states.now in
+    let joints = c.args.sources.joints.now in
+    let contacts = contacts_in c.args.sources.contacts.now in
     let lists = c.args.colours.now.lists in
     let place = c.loop-colour.colour in
     let known = c.loop-colour.invariant in
@@ -45,12 +45,12 @@ returns-clause-left c = rw c.members-2.ensures.value at c.gather_colour-2.ensure
 pub returns-clause-value : goal.returns-clause-value
 unfolding rows_of
 returns-clause-value c =
-    joined (rows_in c.args.states.now c.args.joints.now (contacts_in c.args.contacts.now)) c.args.colours.now.lists COLOURS [] c.gather_colour-2.new.rows.colours c.gather_colour-2.new.rows.left c.members-2.ensures.colouring.count (returns-clause-colours c) (returns-clause-left c)
+    joined (rows_in c.args.sources.states.now c.args.sources.joints.now (contacts_in c.args.sources.contacts.now)) c.args.colours.now.lists COLOURS [] c.gather_colour-2.new.rows.colours c.gather_colour-2.new.rows.left c.members-2.ensures.colouring.count (returns-clause-colours c) (returns-clause-left c)
 
 pub returns-clause-rows : goal.returns-clause-rows
 returns-clause-rows c =
     let made = c.gather_colour-2.ensures in
-    all_joined (IsRowBelow (length c.args.states.now)) c.gather_colour-2.new.rows.colours c.gather_colour-2.new.rows.left (subst (All (AreRowsBelow (length c.args.states.now))) (sym made.colours) c.loop-colour.invariant.rows) made.rows
+    all_joined (IsRowBelow (length c.args.sources.states.now)) c.gather_colour-2.new.rows.colours c.gather_colour-2.new.rows.left (subst (All (AreRowsBelow (length c.args.sources.states.now))) (sym made.colours) c.loop-colour.invariant.rows) made.rows
 
 pub gather_colour-requires-2-clause-room : goal.gather_colour-requires-2-clause-room
 gather_colour-requires-2-clause-room c =

@@ -14,7 +14,7 @@ pub gather_rows-requires-clause-joints : goal.gather_rows-requires-clause-joints
 gather_rows-requires-clause-joints c = rw (c.as_slice.ensures.value, c.joints.ensures) c.requires.can.joined
 
 pub gather_rows-requires-clause-contacts : goal.gather_rows-requires-clause-contacts
-gather_rows-requires-clause-contacts c = rw (c.as_slice.ensures.value, c.split-kept.ensures) c.requires.can.contacts_on
+gather_rows-requires-clause-contacts c = rw (c.as_slice.ensures.value, c.split.ensures) c.requires.can.contacts_on
 
 pub gather_rows-requires-clause-movable : goal.gather_rows-requires-clause-movable
 gather_rows-requires-clause-movable c = rw c.as_slice.ensures.value c.requires.can.movable
@@ -34,7 +34,7 @@ run_now c = run_over c.args.pace.count c.args.pace.gravity c.args.states.now.ite
 
 has_run : (c : goal.After-put_impulses) → run_of c.run_step-sums.new.states.items (all_rows c.run_step-sums.new.rows) c.run_step-sums.result ≡ run_now c
 has_run c =
-    let gathered : all_rows c.gather_rows.new.rows ≡ rows_of c.args.states.now.items c.args.constraints.now.joints.joints c.args.constraints.now.contacts.contacts c.args.colours.now.lists = rw (c.as_slice.ensures.value, c.joints.ensures, c.split-kept.ensures) at c.gather_rows.ensures.value in
+    let gathered : all_rows c.gather_rows.new.rows ≡ rows_of c.args.states.now.items c.args.constraints.now.joints.joints c.args.constraints.now.contacts.contacts c.args.colours.now.lists = rw (c.as_slice.ensures.value, c.joints.ensures, c.split.ensures) at c.gather_rows.ensures.value in
     c.run_step-sums.ensures.run ∙ ap (λ rows. ran c.args.pace.count c.args.pace.gravity (start c.args.states.now.items rows)) gathered
 
 pub returns-clause-left : goal.returns-clause-left

@@ -1,5 +1,5 @@
 use Rattle.std.proofs.Common.{◌≡◌, rules}
-use Rattle.part_solver.specs.Tasks.{AreStages, lists_of}
+use Rattle.part_solver.specs.Stages.{AreStages, lists_of}
 use Rattle.part_solver.proofs.AgainLaws.{can_again, can_lend, impulses_again, impulses_over, left_again, left_over}
 use Rattle.part_solver.proofs.by_parts.PartSolverStepSolver.run_step.Goals as goal
 

@@ -13,4 +13,4 @@ returns-clause-outs g c =
     let long = length-map outs (λ x. sent x) in
     let lt : c.args.to < length outs = omega (arith, few, long) in
     let is : old ≡ get_or outs c.args.to old = search rules in
-    rw (← c.self.view_is) (one_more (λ s. sent s) outs c.args.to old c.send.new.sender (Letter c.args.letter ∷ []) lt is c.send.ensures)
+    rw (← c.self.view_is) (one_more (λ s. sent s) outs c.args.to old c.send-waited.new.sender (Letter c.args.letter ∷ []) lt is c.send-waited.ensures)

@@ -16,7 +16,7 @@ use Rattle.plain_world.specs.Joints.{joint_at}
 use Rattle.world_core_base.specs.ConstraintRows.{HaveJointsOn, HaveMovable, rows_in}
 use Rattle.world_core_base.specs.Gather.{AreContactsOn}
 use Rattle.world_core_base.specs.StepRuns.{ArePresent}
-use Rattle.part_solver.specs.declared.tasks.Stage.{Stage}
+use Rattle.part_solver.specs.declared.stages.Stage.{Stage}
 
 -- the slots of the bodies of a constraint
 abbrev pub joint_ends : Option BodyJoint → Slots

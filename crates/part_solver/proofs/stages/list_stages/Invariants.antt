@@ -1,8 +1,8 @@
 use Rattle.std.proofs.Common.{◌≡◌, ◌<◌, map, take}
 use Rattle.contacts.specs.Constraints.{constraint_number}
 use Rattle.graph_colours.specs.Colours.{IsColouring}
-use Rattle.part_solver.specs.Tasks.{lists_of, slot_lists, slots_of}
-use Rattle.part_solver.proofs.tasks.list_stages.Given as goal
+use Rattle.part_solver.specs.Stages.{lists_of, slot_lists, slots_of}
+use Rattle.part_solver.proofs.stages.list_stages.Given as goal
 
 abbrev pub invariant-loop-colour : goal.invariant-loop-colour
 invariant-loop-colour l = record {

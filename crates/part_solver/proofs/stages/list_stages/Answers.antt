@@ -5,9 +5,9 @@ use Rattle.contacts.specs.declared.constraint.Constraint.{Constraint}
 use Rattle.graph_colours.specs.Members.{AreRising}
 use Rattle.graph_colours.specs.declared.member.Member.{Member}
 use Rattle.colour_solver.specs.declared.row_visits.Slots.{Slots}
-use Rattle.part_solver.specs.Tasks.{lists_of, slots_of}
-use Rattle.part_solver.specs.declared.tasks.Stage.{Stage}
-use Rattle.part_solver.proofs.tasks.list_stages.Goals as goal
+use Rattle.part_solver.specs.Stages.{lists_of, slots_of}
+use Rattle.part_solver.specs.declared.stages.Stage.{Stage}
+use Rattle.part_solver.proofs.stages.list_stages.Goals as goal
 
 pub loop-colour-preserved : goal.loop-colour-preserved
 loop-colour-preserved c =

@@ -1,6 +1,6 @@
 use Rattle.std.proofs.Common.{◌≡◌, ◌≤◌, length, take, vec_capacity, vec_len}
-use Rattle.part_solver.specs.Tasks.{slots_of}
-use Rattle.part_solver.proofs.tasks.list_slots.Given as goal
+use Rattle.part_solver.specs.Stages.{slots_of}
+use Rattle.part_solver.proofs.stages.list_slots.Given as goal
 
 abbrev pub invariant-loop-index : goal.invariant-loop-index
 invariant-loop-index l = record {

@@ -3,8 +3,8 @@ use Rattle.std.proofs.lemmas.List.{map-append, take_more}
 use Rattle.contacts.specs.declared.constraint.Constraint.{Constraint}
 use Rattle.graph_colours.specs.declared.member.Member.{Member}
 use Rattle.colour_solver.specs.declared.row_visits.Slots.{Slots}
-use Rattle.part_solver.specs.Tasks.{slots_in, slots_of}
-use Rattle.part_solver.proofs.tasks.list_slots.Goals as goal
+use Rattle.part_solver.specs.Stages.{slots_in, slots_of}
+use Rattle.part_solver.proofs.stages.list_slots.Goals as goal
 
 pub loop-index-preserved : goal.loop-index-preserved
 loop-index-preserved c =

@@ -3,7 +3,7 @@
 ghost use Rattle.std.specs.Prelude.{◌≡◌, ◌++◌, ◌∷◌, ◌<◌, [], OnOk, length, option_copied, slice_index_or};
 ghost use Rattle.contacts.specs.declared.constraint.Constraint.{Constraint as TheConstraint};
 ghost use Rattle.graph_colours.specs.declared.member.Member.{Member as TheMember};
-ghost use Rattle.part_solver.specs.Tasks.{AreStages, IsStageOf, joint_ends, lists_of, slot_lists, slots_in, slots_of};
+ghost use Rattle.part_solver.specs.Stages.{AreStages, IsStageOf, joint_ends, lists_of, slot_lists, slots_in, slots_of};
 
 use colour_solver::Slots;
 use contacts::Constraint;
@@ -49,7 +49,7 @@ fn slots_in(joints: &[Option<BodyJoint>], id: Constraint) -> Slots
 
 /// The constraint at a place.
 #[inline(always)]
-pub(crate) fn id_at(members: &[Member<Constraint>], index: usize) -> Constraint
+fn id_at(members: &[Member<Constraint>], index: usize) -> Constraint
     requires { index < length members.now }
     ensures { (m : TheMember TheConstraint) → result ≡ (slice_index_or members.now index m).id }
 {

@@ -3,9 +3,9 @@ use Rattle.std.proofs.lemmas.List.{map-append}
 use Rattle.contacts.specs.declared.constraint.Constraint.{Constraint}
 use Rattle.graph_colours.specs.declared.member.Member.{Member}
 use Rattle.colour_solver.specs.declared.row_visits.Slots.{Slots}
-use Rattle.part_solver.specs.Tasks.{lists_of, slot_lists}
-use Rattle.part_solver.specs.declared.tasks.Stage.{Stage}
-use Rattle.part_solver.proofs.tasks.add_stage.Goals as goal
+use Rattle.part_solver.specs.Stages.{lists_of, slot_lists}
+use Rattle.part_solver.specs.declared.stages.Stage.{Stage}
+use Rattle.part_solver.proofs.stages.add_stage.Goals as goal
 
 lists_more : (old now : List Stage) (s : Stage) (members : List (Member Constraint)) → now ≡ old ++ s ∷ [] → s.members.items ≡ members → lists_of now ≡ lists_of old ++ members ∷ []
 lists_more old now s members is made = ap lists_of is ∙ map-append (λ (x : Stage). x.members.items) old (s ∷ []) ∙ ap (λ (m : List (Member Constraint)). lists_of old ++ m ∷ []) made
