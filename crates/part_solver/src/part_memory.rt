@@ -28,6 +28,10 @@ const LONGEST_REST: u32 = 64;
 /// After so many good steps in turn the rests are short again.
 const GOOD_STEPS: u32 = 4;
 
+/// So many long waits of a step tell that its threads don't run side by side. Where each has a processor, parts wait long
+/// for one another some thirty to a hundred times a step.
+const MANY_WAITS: u32 = 160;
+
 /// The most bodies that a ring has room for.
 const MOST_ROOM: usize = 4_096;
 
@@ -99,7 +103,7 @@ impl PartMemory {
 
     /// Heeds how many waits of a step were long: then the threads don't run side by side.
     pub(crate) fn heed(&mut self, long_waits: u32) {
-        if long_waits >= 2 {
+        if long_waits >= MANY_WAITS {
             self.rest();
             return;
         }
