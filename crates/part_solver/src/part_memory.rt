@@ -28,8 +28,8 @@ const LONGEST_REST: u32 = 64;
 /// After so many good steps in turn the rests are short again.
 const GOOD_STEPS: u32 = 4;
 
-/// So many long waits of a step tell that its threads don't run side by side. Where each has a processor, parts wait long
-/// for one another some thirty to a hundred times a step.
+/// So many long waits of a step tell that its threads don't run side by side. Some waits are long too where each thread
+/// has a processor.
 const MANY_WAITS: u32 = 160;
 
 /// The most bodies that a ring has room for.
