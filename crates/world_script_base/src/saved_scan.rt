@@ -3,10 +3,10 @@
 use crate::saved_keys::{Key, Kind};
 use json::{Reader, Token};
 
-/// A key of a form: its bit among those of the form, and what its value has to be.
+/// A key of a form: its place among those of the form, and what its value has to be.
 #[derive(Clone, Copy)]
 struct Field {
-    bit: u32,
+    place: usize,
     kind: Kind,
 }
 
@@ -29,15 +29,26 @@ fn bit_of(place: usize) -> u32 {
     }
 }
 
-/// What a key is to a form, if an object of it may have the key.
-fn field_of(keys: &[Key], name: &str) -> Option<Field> {
+/// The key at a place of a form, if it has this name.
+fn field_at(keys: &[Key], place: usize, name: &str) -> Option<Field> {
+    let (key, kind, _, _) = *keys.get(place)?;
+    if key == name {
+        Some(Field { place, kind })
+    } else {
+        None
+    }
+}
+
+/// What a key is to a form, if an object of it may have the key. The place where it is expected is looked at first.
+fn field_of(keys: &[Key], expected: usize, name: &str) -> Option<Field> {
+    let field = field_at(keys, expected, name);
+    if field.is_some() {
+        return field;
+    }
     for place in 0..keys.len() {
-        let (key, kind, _, _) = keys[place];
-        if key == name {
-            return Some(Field {
-                bit: bit_of(place),
-                kind,
-            });
+        let field = field_at(keys, place, name);
+        if field.is_some() {
+            return field;
         }
     }
     None
@@ -62,11 +73,24 @@ struct Seen {
     keys: u32,
     bad: u32,
     has_other: bool,
+    /// The place of the key that comes next where keys come in their order.
+    next: usize,
 }
 
 impl Seen {
-    /// The same with one more value. Of a key that comes again the last value stands.
-    fn with(self, bit: u32, good: bool) -> Seen {
+    /// Nothing was read.
+    fn nothing() -> Seen {
+        Seen {
+            keys: 0,
+            bad: 0,
+            has_other: false,
+            next: 0,
+        }
+    }
+
+    /// The same with one more value, of the key at a place. Of a key that comes again the last value stands.
+    fn with(self, place: usize, good: bool) -> Seen {
+        let bit = bit_of(place);
         let bad = if good {
             self.bad & !bit
         } else {
@@ -75,13 +99,13 @@ impl Seen {
         Seen {
             keys: self.keys | bit,
             bad,
-            has_other: self.has_other,
+            next: place.saturating_add(1),
+            ..self
         }
     }
 
-    /// Whether an object with these keys may be of a form.
-    fn may_be<F: Form>(self) -> bool {
-        let needed = needed_of(F::keys());
+    /// Whether an object with these keys may be of a form each of whose objects has the keys that are needed.
+    fn may_be(self, needed: u32) -> bool {
         !self.has_other && self.bad == 0 && self.keys & needed == needed
     }
 }
@@ -224,10 +248,10 @@ impl<'a> Scan<'a> {
 
     /// Reads a key's value into what was seen of an object.
     fn read_key<F: Form>(&mut self, seen: Seen, key: &str) -> Seen {
-        match field_of(F::keys(), key) {
+        match field_of(F::keys(), seen.next, key) {
             Some(field) => {
                 let good = self.read_field::<F>(field.kind, key);
-                seen.with(field.bit, good)
+                seen.with(field.place, good)
             }
             None => {
                 let _other = self.read();
@@ -239,17 +263,13 @@ impl<'a> Scan<'a> {
         }
     }
 
-    /// Reads what is left of an object. Answers whether it may be of this form.
-    fn read_keys<F: Form>(&mut self) -> bool {
-        let mut seen = Seen {
-            keys: 0,
-            bad: 0,
-            has_other: false,
-        };
+    /// Reads what is left of an object. Answers whether it may be of this form, whose needed keys are these.
+    fn read_keys<F: Form>(&mut self, needed: u32) -> bool {
+        let mut seen = Seen::nothing();
         for _ in 0..u64::MAX {
             match self.reader.next_key() {
                 Ok(Some(key)) => seen = self.read_key::<F>(seen, key),
-                Ok(None) => return seen.may_be::<F>(),
+                Ok(None) => return seen.may_be(needed),
                 Err(_) => {
                     self.has_ended = true;
                     return false;
@@ -261,7 +281,7 @@ impl<'a> Scan<'a> {
 
     /// Reads a value. Answers whether it may be an object of this form.
     pub(crate) fn read_object<F: Form>(&mut self) -> bool {
-        self.opens(false) && self.read_keys::<F>()
+        self.opens(false) && self.read_keys::<F>(needed_of(F::keys()))
     }
 
     /// Reads a value. Answers whether it may be a list of objects of this form.
@@ -269,12 +289,13 @@ impl<'a> Scan<'a> {
         if !self.opens(true) {
             return false;
         }
+        let needed = needed_of(F::keys());
         let mut good = true;
         for _item in 0..u64::MAX {
             if self.reader.take_end_array() {
                 return good;
             }
-            if !self.read_object::<F>() {
+            if !(self.opens(false) && self.read_keys::<F>(needed)) {
                 good = false;
             }
             if self.has_ended {
