@@ -35,7 +35,7 @@ impl<R: Wait, M: SeatMap> StepSolver for PartSolver<'_, R, M> {
         let workers = self.workers.min(MOST_PARTS);
         let Some(room) = memory.is_worth(
             states.as_slice(),
-            constraints.joints.joints(),
+            &*constraints,
             colours,
             moving.awake,
             workers,

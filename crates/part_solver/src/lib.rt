@@ -33,6 +33,7 @@ mod step_lists;
 mod sums;
 mod team;
 mod walk;
+mod work_guess;
 
 pub use by_parts::PartSolver;
 pub use part_memory::{LEAST_CONSTRAINTS, LEAST_PARTS, PartMemory};

@@ -7,16 +7,20 @@ ghost use Rattle.part_solver.specs.Stages.{AreStages, lists_of};
 use crate::dealing::{Counts, Deal};
 use crate::homes::are_dealt;
 use crate::parting::StepMemory;
-use crate::stages::count_members;
 use crate::sums::MOST_PARTS;
+use crate::work_guess::guess_work;
 use contacts::Constraint;
 use graph_colours::Colours;
 use momenta::BodyState;
-use plain_world::BodyJoint;
 use std::alloc::Global;
+use world_core_base::Constraints;
 
-/// The fewest constraints of a step that is worth its workers: with fewer, the calling thread solves it alone.
+/// With fewer constraints no step is worth its workers, and none need be started for it.
 pub const LEAST_CONSTRAINTS: usize = 3_000;
+
+/// The least work, as `guess_work` counts it, of a step that is worth its workers: with less, the calling thread solves
+/// it alone.
+const LEAST_WORK: usize = 9_500;
 
 /// The fewest workers that are worth it: what a step by parts costs before it begins is more than a second worker
 /// saves.
@@ -44,6 +48,8 @@ pub struct PartMemory {
     next_rest: u32,
     good: u32,
     all_steps: bool,
+    /// Whether the last step was worth its workers.
+    was_worth: bool,
 }
 
 /// Whether few rows of a step wait for bodies of other parts.
@@ -66,6 +72,7 @@ impl PartMemory {
             next_rest: 1,
             good: 0,
             all_steps: false,
+            was_worth: false,
         }
     }
 
@@ -73,7 +80,13 @@ impl PartMemory {
     pub fn for_all_steps(alloc: Global) -> PartMemory {
         let mut memory = PartMemory::new(alloc);
         memory.all_steps = true;
+        memory.was_worth = true;
         memory
+    }
+
+    /// Whether the last step was worth its workers, or each is to be solved by parts.
+    pub fn was_worth(&self) -> bool {
+        self.was_worth
     }
 
     /// Whether the next step is one of those that the calling thread solves alone, since one before wasn't worth its
@@ -86,12 +99,12 @@ impl PartMemory {
         true
     }
 
-    /// Whether a step is to be looked at: there are workers and constraints enough, and no rest is to be taken.
-    fn is_due(&mut self, constraints: usize, parts: usize) -> bool {
+    /// Whether a step is to be looked at: there are workers and work enough, and no rest is to be taken.
+    fn is_due(&mut self, work: usize, parts: usize) -> bool {
         if self.all_steps {
             return true;
         }
-        parts as u64 >= LEAST_PARTS && constraints >= LEAST_CONSTRAINTS && !self.take_rest()
+        parts as u64 >= LEAST_PARTS && work >= LEAST_WORK && !self.take_rest()
     }
 
     /// Rests for a time, the longer the oftener that happens.
@@ -113,12 +126,12 @@ impl PartMemory {
         }
     }
 
-    /// Whether the step is worth so many workers: it has constraints enough, and few of them wait for bodies of other
-    /// parts. Its constraints are listed then, and it is answered for how many bodies each ring needs room.
+    /// Whether the step is worth so many workers: it is work enough, and few of its constraints wait for bodies of other
+    /// parts. They are listed then, and it is answered for how many bodies each ring needs room.
     pub(crate) fn is_worth(
         &mut self,
         states: &[BodyState],
-        joints: &[Option<BodyJoint>],
+        constraints: &Constraints,
         colours: &Colours<Constraint>,
         awake: &[u32],
         parts: usize,
@@ -126,11 +139,17 @@ impl PartMemory {
         requires flushed { colours.now.pending ≡ 0 }
         ensures dealt { IfSome result (λ room. AreDealt self.new.deal.home.items parts states.now) }
         ensures lists { IfSome result (λ room. lists_of self.new.lists.stages.items ≡ colours.now.lists) }
-        ensures stages { IfSome result (λ room. AreStages joints.now self.new.lists.stages.items) }
+        ensures stages { IfSome result (λ room. AreStages constraints.now.joints.joints self.new.lists.stages.items) }
     {
-        if parts < 2 || parts > MOST_PARTS || !self.is_due(count_members(colours), parts) {
+        self.was_worth = self.all_steps;
+        if parts < 2 || parts > MOST_PARTS {
             return None;
         }
+        let work = guess_work(colours, constraints.contacts.split(), awake.len());
+        if !self.is_due(work, parts) {
+            return None;
+        }
+        let joints = constraints.joints.joints();
         if self.lists.list_stages(joints, colours).is_err() {
             return None;
         }
@@ -138,6 +157,7 @@ impl PartMemory {
         let room = room_for(counts);
         let is_good = self.all_steps || is_loose(counts);
         if is_good && room <= MOST_ROOM && are_dealt(&self.deal.home, parts, states) {
+            self.was_worth = true;
             return Some(room);
         }
         self.rest();

@@ -156,14 +156,3 @@ pub(crate) fn list_stages(
     }
     Ok(())
 }
-
-/// How many constraints act.
-pub(crate) fn count_members(colours: &Colours<Constraint>) -> usize
-    requires flushed { colours.now.pending ≡ 0 }
-{
-    let mut count: usize = 0;
-    for colour in 0..OVERFLOW + 1 {
-        count = count.saturating_add(colours.members(colour).len());
-    }
-    count
-}

@@ -100,9 +100,20 @@ impl<'s, R: Wait, G: Gate> SeatMap for Hands<'s, R, G> {
     }
 }
 
+impl<'s, R, G: Gate> StepCrew<'s, R, G> {
+    /// How many threads work the pieces of a collide: the calling thread alone where the last step wasn't worth more.
+    fn piece_workers(&self) -> usize {
+        if self.memory.was_worth() {
+            self.hands.workers
+        } else {
+            1
+        }
+    }
+}
+
 impl<'s, R: Wait, G: Gate> PieceMap<PairPiece> for StepCrew<'s, R, G> {
     fn workers(&self) -> usize {
-        self.hands.workers
+        self.piece_workers()
     }
 
     fn map_pieces(
@@ -129,7 +140,7 @@ impl<'s, R: Wait, G: Gate> PieceMap<PairPiece> for StepCrew<'s, R, G> {
 
 impl<'s, R: Wait, G: Gate> PieceMap<WorldLook> for StepCrew<'s, R, G> {
     fn workers(&self) -> usize {
-        self.hands.workers
+        self.piece_workers()
     }
 
     fn map_pieces(
