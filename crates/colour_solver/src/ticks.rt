@@ -152,13 +152,16 @@ fn tick<P: Passes>(
     let solved = rows.pass(states, Phase::Solve);
     let moved = pass_two(states, awake, &Limit, &Move);
     carry_along(states, carried);
+    let pulled = plus(sums.gravity, fallen.first);
+    let warmed = plus(sums.immovable, warm);
+    let immovable = plus(warmed, solved);
+    let limited = plus(sums.clamp, fallen.second);
+    let limited_again = plus(limited, moved.first);
+    let clamp = plus(limited_again, moved.second);
     StepSums {
-        gravity: plus(sums.gravity, fallen.first),
-        immovable: plus(plus(sums.immovable, warm), solved),
-        clamp: plus(
-            plus(plus(sums.clamp, fallen.second), moved.first),
-            moved.second,
-        ),
+        gravity: pulled,
+        immovable,
+        clamp,
     }
 }
 

@@ -48,13 +48,16 @@ fn sums_after(before: StepSums, fallen: Gains, warm: Gain, solved: Gain, moved: 
     ensures clamp { as_vector result.clamp ≡ plus_vectors (plus_vectors (plus_vectors (as_vector before.clamp) (as_vector fallen.second)) (as_vector moved.first)) (as_vector moved.second) }
     ensures small { (n : ℕ) → AreSums n before → AreSums (n + 2 ^ 86) result }
 {
+    let gravity = add(before.gravity, fallen.first);
+    let warmed = add(before.immovable, warm);
+    let immovable = add(warmed, solved);
+    let limited = add(before.clamp, fallen.second);
+    let limited_again = add(limited, moved.first);
+    let clamp = add(limited_again, moved.second);
     StepSums {
-        gravity: add(before.gravity, fallen.first),
-        immovable: add(add(before.immovable, warm), solved),
-        clamp: add(
-            add(add(before.clamp, fallen.second), moved.first),
-            moved.second,
-        ),
+        gravity,
+        immovable,
+        clamp,
     }
 }
 

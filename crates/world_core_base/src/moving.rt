@@ -136,7 +136,7 @@ pub(crate) fn move_bodies(
     for place in 0..awake.len() {
         move_slot(bodies, states, marks, boxes, awake[place]);
     }
-    for place in 0..carried.len() {
-        move_slot(bodies, states, marks, boxes, carried[place]);
+    for index in 0..carried.len() {
+        move_slot(bodies, states, marks, boxes, carried[index]);
     }
 }

@@ -40,10 +40,10 @@ pass_two-moved-requires-clause-small g c = λ slot s e moves.
     let p = (c.pass-solved.ensures.all_states slot s e).motion.p in
     record { x = omega (arith, p.x); y = omega (arith, p.y) }
 
-pub plus-requires-6-clause-first : goal.plus-requires-6-clause-first
-plus-requires-6-clause-first g c = record {
-  x = rw (c.plus-5.ensures.x, c.plus-4.ensures.x) (let small = two_more c.args.sums.clamp.x c.pass_two-fallen.result.second.x c.pass_two-moved.result.first.x (2 ^ 83) c.requires.sums.clamp.x c.pass_two-fallen.ensures.small_second.x c.pass_two-moved.ensures.small_first.x in omega (arith, small));
-  y = rw (c.plus-5.ensures.y, c.plus-4.ensures.y) (let small = two_more c.args.sums.clamp.y c.pass_two-fallen.result.second.y c.pass_two-moved.result.first.y (2 ^ 83) c.requires.sums.clamp.y c.pass_two-fallen.ensures.small_second.y c.pass_two-moved.ensures.small_first.y in omega (arith, small));
+pub plus-clamp-requires-clause-first : goal.plus-clamp-requires-clause-first
+plus-clamp-requires-clause-first g c = record {
+  x = rw (c.plus-limited_again.ensures.x, c.plus-limited.ensures.x) (let small = two_more c.args.sums.clamp.x c.pass_two-fallen.result.second.x c.pass_two-moved.result.first.x (2 ^ 83) c.requires.sums.clamp.x c.pass_two-fallen.ensures.small_second.x c.pass_two-moved.ensures.small_first.x in omega (arith, small));
+  y = rw (c.plus-limited_again.ensures.y, c.plus-limited.ensures.y) (let small = two_more c.args.sums.clamp.y c.pass_two-fallen.result.second.y c.pass_two-moved.result.first.y (2 ^ 83) c.requires.sums.clamp.y c.pass_two-fallen.ensures.small_second.y c.pass_two-moved.ensures.small_first.y in omega (arith, small));
 }
 
 pub returns-clause-tick : goal.returns-clause-tick
@@ -59,7 +59,7 @@ returns-clause-tick g c =
     let solves = solved.ensures.share in
     let stops = moved.ensures.first in
     let edges = moved.ensures.second in
-    rw (c.plus.ensures.x, c.plus.ensures.y, c.plus-3.ensures.x, c.plus-3.ensures.y, c.plus-2.ensures.x, c.plus-2.ensures.y, c.plus-6.ensures.x, c.plus-6.ensures.y, c.plus-5.ensures.x, c.plus-5.ensures.y, c.plus-4.ensures.x, c.plus-4.ensures.y)
+    rw (c.plus-pulled.ensures.x, c.plus-pulled.ensures.y, c.plus-immovable.ensures.x, c.plus-immovable.ensures.y, c.plus-warmed.ensures.x, c.plus-warmed.ensures.y, c.plus-clamp.ensures.x, c.plus-clamp.ensures.y, c.plus-limited_again.ensures.x, c.plus-limited_again.ensures.y, c.plus-limited.ensures.x, c.plus-limited.ensures.y)
     (rw (c.carry_along.ensures.value, moved.ensures.states, same_x stops, same_y stops, same_x edges, same_y edges)
     (rw (solved.ensures.states, solved.ensures.rows, same_x solves, same_y solves)
     (rw (warm.ensures.states, warm.ensures.rows, same_x warms, same_y warms)
@@ -79,16 +79,16 @@ returns-clause-grown g c = λ n h.
     let moved = c.pass_two-moved in
     record {
       gravity = record {
-        x = rw c.plus.ensures.x (one_more c.args.sums.gravity.x fallen.result.first.x n h.gravity.x fallen.ensures.small_first.x);
-        y = rw c.plus.ensures.y (one_more c.args.sums.gravity.y fallen.result.first.y n h.gravity.y fallen.ensures.small_first.y);
+        x = rw c.plus-pulled.ensures.x (one_more c.args.sums.gravity.x fallen.result.first.x n h.gravity.x fallen.ensures.small_first.x);
+        y = rw c.plus-pulled.ensures.y (one_more c.args.sums.gravity.y fallen.result.first.y n h.gravity.y fallen.ensures.small_first.y);
       };
       immovable = record {
-        x = rw (c.plus-3.ensures.x, c.plus-2.ensures.x) (two_more c.args.sums.immovable.x c.pass-warm.result.x c.pass-solved.result.x n h.immovable.x c.pass-warm.ensures.small.x c.pass-solved.ensures.small.x);
-        y = rw (c.plus-3.ensures.y, c.plus-2.ensures.y) (two_more c.args.sums.immovable.y c.pass-warm.result.y c.pass-solved.result.y n h.immovable.y c.pass-warm.ensures.small.y c.pass-solved.ensures.small.y);
+        x = rw (c.plus-immovable.ensures.x, c.plus-warmed.ensures.x) (two_more c.args.sums.immovable.x c.pass-warm.result.x c.pass-solved.result.x n h.immovable.x c.pass-warm.ensures.small.x c.pass-solved.ensures.small.x);
+        y = rw (c.plus-immovable.ensures.y, c.plus-warmed.ensures.y) (two_more c.args.sums.immovable.y c.pass-warm.result.y c.pass-solved.result.y n h.immovable.y c.pass-warm.ensures.small.y c.pass-solved.ensures.small.y);
       };
       clamp = record {
-        x = rw (c.plus-6.ensures.x, c.plus-5.ensures.x, c.plus-4.ensures.x) (three_more c.args.sums.clamp.x fallen.result.second.x moved.result.first.x moved.result.second.x n h.clamp.x fallen.ensures.small_second.x moved.ensures.small_first.x moved.ensures.small_second.x);
-        y = rw (c.plus-6.ensures.y, c.plus-5.ensures.y, c.plus-4.ensures.y) (three_more c.args.sums.clamp.y fallen.result.second.y moved.result.first.y moved.result.second.y n h.clamp.y fallen.ensures.small_second.y moved.ensures.small_first.y moved.ensures.small_second.y);
+        x = rw (c.plus-clamp.ensures.x, c.plus-limited_again.ensures.x, c.plus-limited.ensures.x) (three_more c.args.sums.clamp.x fallen.result.second.x moved.result.first.x moved.result.second.x n h.clamp.x fallen.ensures.small_second.x moved.ensures.small_first.x moved.ensures.small_second.x);
+        y = rw (c.plus-clamp.ensures.y, c.plus-limited_again.ensures.y, c.plus-limited.ensures.y) (three_more c.args.sums.clamp.y fallen.result.second.y moved.result.first.y moved.result.second.y n h.clamp.y fallen.ensures.small_second.y moved.ensures.small_first.y moved.ensures.small_second.y);
       };
     }
 
@@ -99,7 +99,7 @@ returns-clause-momentum g c =
     let solved = c.pass-solved in
     let moved = c.pass_two-moved in
     let sums = c.args.sums in
-    rw (c.carry_along.ensures.value, total-carry moved.new.states.items, c.plus.ensures.x, c.plus.ensures.y, c.plus-3.ensures.x, c.plus-3.ensures.y, c.plus-2.ensures.x, c.plus-2.ensures.y, c.plus-6.ensures.x, c.plus-6.ensures.y, c.plus-5.ensures.x, c.plus-5.ensures.y, c.plus-4.ensures.x, c.plus-4.ensures.y)
+    rw (c.carry_along.ensures.value, total-carry moved.new.states.items, c.plus-pulled.ensures.x, c.plus-pulled.ensures.y, c.plus-immovable.ensures.x, c.plus-immovable.ensures.y, c.plus-warmed.ensures.x, c.plus-warmed.ensures.y, c.plus-clamp.ensures.x, c.plus-clamp.ensures.y, c.plus-limited_again.ensures.x, c.plus-limited_again.ensures.y, c.plus-limited.ensures.x, c.plus-limited.ensures.y)
     (tick_adds (total c.args.states.now.items) (total fallen.new.states.items) (total warm.new.states.items) (total solved.new.states.items) (total moved.new.states.items)
     (as_vector fallen.result.first) (as_vector fallen.result.second) (as_vector warm.result) (as_vector solved.result) (as_vector moved.result.first) (as_vector moved.result.second) (as_vector sums.gravity) (as_vector sums.immovable) (as_vector sums.clamp)
     (total-after (pulled c.args.gravity) speed_clamped c.args.states.now.items fallen.new.states.items (as_vector fallen.result.first) (as_vector fallen.result.second) fallen.ensures.states fallen.ensures.first fallen.ensures.second)

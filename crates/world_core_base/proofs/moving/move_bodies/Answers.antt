@@ -47,8 +47,8 @@ loop-place-preserved c =
       boxes_long = c.move_slot.ensures.boxes ∙ c.loop-place.invariant.boxes_long;
     }
 
-pub loop-place-2-init : goal.loop-place-2-init
-loop-place-2-init c =
+pub loop-index-init : goal.loop-index-init
+loop-index-init c =
     let all = c.args.bodies.now.items in
     let before = c.args.states.now.items in
     let long : length before ≡ length all = c.requires.same.long ∙ length-states all in
@@ -62,70 +62,70 @@ loop-place-2-init c =
       boxes_long = c.loop-place.invariant.boxes_long;
     }
 
-pub move_slot-requires-in-loop-place-2-clause-body : goal.move_slot-requires-in-loop-place-2-clause-body
-move_slot-requires-in-loop-place-2-clause-body c =
+pub move_slot-requires-in-loop-index-clause-body : goal.move_slot-requires-in-loop-index-clause-body
+move_slot-requires-in-loop-index-clause-body c =
     let all = c.args.bodies.now.items in
     let before = c.args.states.now.items in
-    (there_at is_carried (moved_where moves all before) (begun_where moves before) c.args.carried.now c.loop-place-2.place (slice_index_or c.args.carried.now c.loop-place-2.place 0) c.loop-place-2.bodies.items c.loop-place-2.states.items
-    (second_long all before (c.requires.same.long ∙ length-states all)) c.loop-place-2.invariant.moved_so_far c.loop-place-2-test.true refl).bodies
+    (there_at is_carried (moved_where moves all before) (begun_where moves before) c.args.carried.now c.loop-index.index (slice_index_or c.args.carried.now c.loop-index.index 0) c.loop-index.bodies.items c.loop-index.states.items
+    (second_long all before (c.requires.same.long ∙ length-states all)) c.loop-index.invariant.moved_so_far c.loop-index-test.true refl).bodies
 
-pub move_slot-requires-in-loop-place-2-clause-state : goal.move_slot-requires-in-loop-place-2-clause-state
-move_slot-requires-in-loop-place-2-clause-state c =
+pub move_slot-requires-in-loop-index-clause-state : goal.move_slot-requires-in-loop-index-clause-state
+move_slot-requires-in-loop-index-clause-state c =
     let all = c.args.bodies.now.items in
     let before = c.args.states.now.items in
-    (there_at is_carried (moved_where moves all before) (begun_where moves before) c.args.carried.now c.loop-place-2.place (slice_index_or c.args.carried.now c.loop-place-2.place 0) c.loop-place-2.bodies.items c.loop-place-2.states.items
-    (second_long all before (c.requires.same.long ∙ length-states all)) c.loop-place-2.invariant.moved_so_far c.loop-place-2-test.true refl).states
+    (there_at is_carried (moved_where moves all before) (begun_where moves before) c.args.carried.now c.loop-index.index (slice_index_or c.args.carried.now c.loop-index.index 0) c.loop-index.bodies.items c.loop-index.states.items
+    (second_long all before (c.requires.same.long ∙ length-states all)) c.loop-index.invariant.moved_so_far c.loop-index-test.true refl).states
 
-pub move_slot-requires-in-loop-place-2-clause-fits : goal.move_slot-requires-in-loop-place-2-clause-fits
-move_slot-requires-in-loop-place-2-clause-fits c =
-    let slot = slice_index_or c.args.carried.now c.loop-place-2.place 0 in
+pub move_slot-requires-in-loop-index-clause-fits : goal.move_slot-requires-in-loop-index-clause-fits
+move_slot-requires-in-loop-index-clause-fits c =
+    let slot = slice_index_or c.args.carried.now c.loop-index.index 0 in
     let all = c.args.bodies.now.items in
     let before = c.args.states.now.items in
-    fits_second all before c.loop-place-2.bodies.items c.loop-place-2.states.items slot c.requires.bodies c.requires.states c.requires.courses c.requires.same
-    (there_at is_carried (moved_where moves all before) (begun_where moves before) c.args.carried.now c.loop-place-2.place slot c.loop-place-2.bodies.items c.loop-place-2.states.items
-    (second_long all before (c.requires.same.long ∙ length-states all)) c.loop-place-2.invariant.moved_so_far c.loop-place-2-test.true refl)
+    fits_second all before c.loop-index.bodies.items c.loop-index.states.items slot c.requires.bodies c.requires.states c.requires.courses c.requires.same
+    (there_at is_carried (moved_where moves all before) (begun_where moves before) c.args.carried.now c.loop-index.index slot c.loop-index.bodies.items c.loop-index.states.items
+    (second_long all before (c.requires.same.long ∙ length-states all)) c.loop-index.invariant.moved_so_far c.loop-index-test.true refl)
 
-pub loop-place-2-preserved : goal.loop-place-2-preserved
-loop-place-2-preserved c =
+pub loop-index-preserved : goal.loop-index-preserved
+loop-index-preserved c =
     let all = c.args.bodies.now.items in
     let before = c.args.states.now.items in
     record {
       moved_so_far = rw add-one
-          (walked_more is_carried (moved_where moves all before) (begun_where moves before) c.args.carried.now c.loop-place-2.place (slice_index_or c.args.carried.now c.loop-place-2.place 0) c.loop-place-2.bodies.items c.move_slot-in-loop-place-2.new.bodies.items c.loop-place-2.states.items c.move_slot-in-loop-place-2.new.states.items
-          (second_long all before (c.requires.same.long ∙ length-states all)) c.loop-place-2.invariant.moved_so_far c.loop-place-2-test.true refl c.move_slot-in-loop-place-2.ensures.bodies c.move_slot-in-loop-place-2.ensures.states);
-      marked = marked_then all c.args.marks.now c.loop-place-2.bodies.items c.loop-place-2.marks c.move_slot-in-loop-place-2.new.bodies.items c.move_slot-in-loop-place-2.new.marks c.loop-place-2.invariant.marked c.move_slot-in-loop-place-2.ensures.marked;
-      long = c.move_slot-in-loop-place-2.ensures.len ∙ c.loop-place-2.invariant.long;
-      covered = c.move_slot-in-loop-place-2.ensures.covered;
-      boxes_long = c.move_slot-in-loop-place-2.ensures.boxes ∙ c.loop-place-2.invariant.boxes_long;
+          (walked_more is_carried (moved_where moves all before) (begun_where moves before) c.args.carried.now c.loop-index.index (slice_index_or c.args.carried.now c.loop-index.index 0) c.loop-index.bodies.items c.move_slot-in-loop-index.new.bodies.items c.loop-index.states.items c.move_slot-in-loop-index.new.states.items
+          (second_long all before (c.requires.same.long ∙ length-states all)) c.loop-index.invariant.moved_so_far c.loop-index-test.true refl c.move_slot-in-loop-index.ensures.bodies c.move_slot-in-loop-index.ensures.states);
+      marked = marked_then all c.args.marks.now c.loop-index.bodies.items c.loop-index.marks c.move_slot-in-loop-index.new.bodies.items c.move_slot-in-loop-index.new.marks c.loop-index.invariant.marked c.move_slot-in-loop-index.ensures.marked;
+      long = c.move_slot-in-loop-index.ensures.len ∙ c.loop-index.invariant.long;
+      covered = c.move_slot-in-loop-index.ensures.covered;
+      boxes_long = c.move_slot-in-loop-index.ensures.boxes ∙ c.loop-index.invariant.boxes_long;
     }
 
 pub returns-clause-value : goal.returns-clause-value
 returns-clause-value c =
     let all = c.args.bodies.now.items in
     let before = c.args.states.now.items in
-    (both_walked all before c.loop-place-2.bodies.items c.loop-place-2.states.items c.requires.same (walked_last is_carried (moved_where moves all before) (begun_where moves before) c.args.carried.now c.loop-place-2.place c.loop-place-2.bodies.items c.loop-place-2.states.items
-    (second_long all before (c.requires.same.long ∙ length-states all)) c.loop-place-2.invariant.moved_so_far (omega (arith, c.loop-place-2-test.false)))).bodies
+    (both_walked all before c.loop-index.bodies.items c.loop-index.states.items c.requires.same (walked_last is_carried (moved_where moves all before) (begun_where moves before) c.args.carried.now c.loop-index.index c.loop-index.bodies.items c.loop-index.states.items
+    (second_long all before (c.requires.same.long ∙ length-states all)) c.loop-index.invariant.moved_so_far (omega (arith, c.loop-index-test.false)))).bodies
 
 pub returns-clause-states : goal.returns-clause-states
 returns-clause-states c =
     let all = c.args.bodies.now.items in
     let before = c.args.states.now.items in
-    (both_walked all before c.loop-place-2.bodies.items c.loop-place-2.states.items c.requires.same (walked_last is_carried (moved_where moves all before) (begun_where moves before) c.args.carried.now c.loop-place-2.place c.loop-place-2.bodies.items c.loop-place-2.states.items
-    (second_long all before (c.requires.same.long ∙ length-states all)) c.loop-place-2.invariant.moved_so_far (omega (arith, c.loop-place-2-test.false)))).states
+    (both_walked all before c.loop-index.bodies.items c.loop-index.states.items c.requires.same (walked_last is_carried (moved_where moves all before) (begun_where moves before) c.args.carried.now c.loop-index.index c.loop-index.bodies.items c.loop-index.states.items
+    (second_long all before (c.requires.same.long ∙ length-states all)) c.loop-index.invariant.moved_so_far (omega (arith, c.loop-index-test.false)))).states
 
 pub returns-clause-awake : goal.returns-clause-awake
 returns-clause-awake c =
     let all = c.args.bodies.now.items in
     let before = c.args.states.now.items in
-    c.requires.awake ∙ sym (movers_both before c.loop-place-2.states.items (walked_last is_carried (moved_where moves all before) (begun_where moves before) c.args.carried.now c.loop-place-2.place c.loop-place-2.bodies.items c.loop-place-2.states.items
-    (second_long all before (c.requires.same.long ∙ length-states all)) c.loop-place-2.invariant.moved_so_far (omega (arith, c.loop-place-2-test.false))).states)
+    c.requires.awake ∙ sym (movers_both before c.loop-index.states.items (walked_last is_carried (moved_where moves all before) (begun_where moves before) c.args.carried.now c.loop-index.index c.loop-index.bodies.items c.loop-index.states.items
+    (second_long all before (c.requires.same.long ∙ length-states all)) c.loop-index.invariant.moved_so_far (omega (arith, c.loop-index-test.false))).states)
 
 pub returns-clause-carried : goal.returns-clause-carried
 returns-clause-carried c =
     let all = c.args.bodies.now.items in
     let before = c.args.states.now.items in
-    c.requires.carried ∙ sym (carried_both before c.loop-place-2.states.items (walked_last is_carried (moved_where moves all before) (begun_where moves before) c.args.carried.now c.loop-place-2.place c.loop-place-2.bodies.items c.loop-place-2.states.items
-    (second_long all before (c.requires.same.long ∙ length-states all)) c.loop-place-2.invariant.moved_so_far (omega (arith, c.loop-place-2-test.false))).states)
+    c.requires.carried ∙ sym (carried_both before c.loop-index.states.items (walked_last is_carried (moved_where moves all before) (begun_where moves before) c.args.carried.now c.loop-index.index c.loop-index.bodies.items c.loop-index.states.items
+    (second_long all before (c.requires.same.long ∙ length-states all)) c.loop-index.invariant.moved_so_far (omega (arith, c.loop-index-test.false))).states)
 
 pub returns-clause-bodies : goal.returns-clause-bodies
 returns-clause-bodies c = rw (returns-clause-value c) (bodies-both c.args.bodies.now.items c.args.states.now.items c.requires.bodies c.requires.states c.requires.courses c.requires.same)
