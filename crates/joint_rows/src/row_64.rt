@@ -11,8 +11,8 @@ ghost use Rattle.joint_rows.specs.Row64.{HasLineRoom64, HasSolveRoom64, HasWarmR
 use crate::solve::{bias_of, stretch_between};
 use crate::{JointRow, MAX_JOINT_IMPULSE};
 use momenta::{
-    BodyState, Exerted64, Goal, MomentaPair64, momenta_pair_64, parting_64, solve_line_64,
-    warm_at_once_64,
+    BodyState, Exerted64, Goal, LineImpulse, MomentaPair64, momenta_pair_64, parting_64,
+    solve_line_64, warm_at_once_64,
 };
 
 /// The impulse of a joint in a solver pass, its bodies having the momenta `now`.
@@ -72,7 +72,15 @@ pub(crate) fn warm_with_64(
     ensures value { IfSome result (IsJointAfter64 (joint_warmed row.now (ends_with a.now b.now now)) row.now a.now b.now now) }
     ensures room { unsigned_abs row.now.impulse < 2 ^ 29 → is_some result ≡ true }
 {
-    match warm_at_once_64(&row.line, 0, &row.line, row.impulse, a, b, now) {
+    let nothing = LineImpulse {
+        line: row.line,
+        impulse: 0,
+    };
+    let kept = LineImpulse {
+        line: row.line,
+        impulse: row.impulse,
+    };
+    match warm_at_once_64(nothing, kept, a, b, now) {
         None => None,
         Some(now) => Some(Exerted64 {
             now,

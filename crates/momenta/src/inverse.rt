@@ -9,7 +9,7 @@ ghost use Rattle.momenta.specs.Impulses.{turning_share, inverse_share, inverse_m
 ghost use Rattle.momenta.specs.ImpulseBounds.{IsState, AreStates};
 ghost use Rattle.momenta.specs.Reciprocals.{reciprocals_of};
 
-use crate::line::INVERSE_LIMIT_64;
+use crate::accumulated_impulse::INVERSE_LIMIT_64;
 use crate::{
     BodyState, Ends, MAX_INERTIA, MAX_INVERSE_MASS, MAX_MASS, MIN_INVERSE_MASS, MassData,
     Reciprocals,

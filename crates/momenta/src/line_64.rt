@@ -1,28 +1,25 @@
 //! Impulses between two bodies whose momenta are so small that all is done in 64 bits: what `line` and `state` define,
 //! on copies of the momenta alone. Where there is no room, the answer is `None`, and the wide forms are to be used.
 
-ghost use Rattle.std.specs.Prelude.{◌≡◌, ℕ, ◌^◌, ◌<◌, ◌≤◌, ◌+◌, ◌*◌, Some, true, pos, ◌+ℤ◌, ◌-ℤ◌, ◌≤ℤ◌, ◌<ℤ◌, unsigned_abs, IfSome, is_some};
-ghost use Rattle.fixed_geom.specs.Reciprocals.{over_inverse_reciprocal, rdiv_reciprocal, share_reciprocal};
+ghost use Rattle.std.specs.Prelude.{◌≡◌, ◌^◌, ◌<◌, ◌≤◌, true, pos, ◌+ℤ◌, ◌-ℤ◌, ◌≤ℤ◌, ◌<ℤ◌, unsigned_abs, IfSome, is_some};
+ghost use Rattle.fixed_geom.specs.Reciprocals.{over_inverse_reciprocal};
 ghost use Rattle.fixed_geom.specs.Vectors.{IsWithin};
-ghost use Rattle.momenta.specs.Motions.{spin, velocity};
-ghost use Rattle.momenta.specs.Impulses.{along, between, exerted, given, impulse_pair, parting, solved_impulse, turned_by, velocity_at, wanted, warmed};
-ghost use Rattle.momenta.specs.ImpulseBounds.{AreStates, IsLine, IsState};
-ghost use Rattle.momenta.specs.Line64.{LeaveRoom64, HasRoom64, IsImpulse, LeavesRoom64, FitsIn64, ends_with, with_momenta};
+ghost use Rattle.momenta.specs.Impulses.{between, exerted, parting, solved_impulse, wanted, warmed};
+ghost use Rattle.momenta.specs.ImpulseBounds.{AreStates, IsLine};
+ghost use Rattle.momenta.specs.Line64.{LeaveRoom64, HasRoom64, IsImpulse, LeavesRoom64, FitsIn64, ends_with};
 
-use crate::line::{VELOCITY_LIMIT_64, along_64, has_room_64, next_total_64, part_along_64};
+use crate::accumulated_impulse::{has_room_64, next_total_64};
+use crate::impulses_64::impulse_pair_64;
+use crate::line::{VELOCITY_LIMIT_64, along_64, part_along_64};
 use crate::ranges::{are_in, is_in};
-use crate::state::{carried_back, carried_on};
-use crate::{BodyState, Goal, Line, MAX_ANGULAR_MOMENTUM, MAX_MASS, MIN_INVERSE_MASS, spin};
-use fixed_geom::{
-    MAX_LINE_IMPULSE, MAX_OFFSET, MAX_SPIN, Vec2, cross_64, minus, opposite, plus, rdiv_by,
-    share_by,
-};
+use crate::{BodyState, Goal, Line, LineImpulse, MIN_INVERSE_MASS};
+use fixed_geom::{MAX_LINE_IMPULSE, Vec2, plus};
 
 /// A component of a momentum up to this has room for the quotient by a mass and for some impulses.
 const MOMENTUM_LIMIT_64: i64 = 1 << 40;
 
 /// An angular momentum up to this has room for the moments of some impulses.
-const ANGULAR_LIMIT_64: i128 = 1 << 60;
+pub(crate) const ANGULAR_LIMIT_64: i128 = 1 << 60;
 
 /// An impulse up to this has a moment that has room.
 const IMPULSE_LIMIT_64: i64 = 1 << 30;
@@ -117,176 +114,6 @@ pub fn momenta_pair_64(a: &BodyState, b: &BodyState) -> Option<MomentaPair64>
         })
     } else {
         None
-    }
-}
-
-/// The spin of any angular momentum.
-#[cold]
-#[inline(never)]
-fn divided_spin(l: i128, inertia: i64) -> i64
-    requires momentum { unsigned_abs l ≤ unsigned_abs MAX_ANGULAR_MOMENTUM }
-    requires nonnegative { pos 0 ≤ℤ inertia }
-    ensures value { result ≡ spin inertia l }
-    ensures small { unsigned_abs result ≤ unsigned_abs MAX_SPIN }
-{
-    spin(l, inertia)
-}
-
-/// The spin of an angular momentum, as `spin` has it, with the reciprocal of the inertia.
-#[inline(always)]
-fn spin_by_64(l: i64, inertia: i64, reciprocal: i64) -> i64
-    requires inertia { pos 1 ≤ℤ inertia }
-    requires reciprocal { reciprocal ≡ share_reciprocal inertia }
-    ensures value { result ≡ spin inertia l }
-    ensures small { unsigned_abs result ≤ unsigned_abs MAX_SPIN }
-{
-    match share_by(l, inertia, reciprocal) {
-        Some(w) => w,
-        None => divided_spin(i128::from(l), inertia),
-    }
-}
-
-/// `spin` with the reciprocal of the inertia.
-#[inline(always)]
-pub(crate) fn spin_by(l: i128, inertia: i64, reciprocal: i64) -> i64
-    requires momentum { unsigned_abs l ≤ unsigned_abs MAX_ANGULAR_MOMENTUM }
-    requires nonnegative { pos 0 ≤ℤ inertia }
-    requires reciprocal { reciprocal ≡ share_reciprocal inertia }
-    ensures value { result ≡ spin inertia l }
-    ensures small { unsigned_abs result ≤ unsigned_abs MAX_SPIN }
-{
-    if l == 0 || inertia == 0 {
-        0
-    } else if -ANGULAR_LIMIT_64 <= l && l < ANGULAR_LIMIT_64 {
-        spin_by_64(l as i64, inertia, reciprocal)
-    } else {
-        divided_spin(l, inertia)
-    }
-}
-
-/// The velocity of a small momentum, as `velocity` has it, with the reciprocal of the mass.
-#[tactic(auto, unfolding(crate::specs::Motions::velocity))]
-#[inline(always)]
-pub(crate) fn velocity_64(p: Vec2, mass: i64, reciprocal: i64) -> Vec2
-    requires momentum { IsWithin (3 * 2 ^ 39) p }
-    requires positive { pos 1 ≤ℤ mass }
-    requires mass { unsigned_abs mass ≤ unsigned_abs MAX_MASS }
-    requires reciprocal { reciprocal ≡ rdiv_reciprocal mass }
-    ensures value { result ≡ velocity mass p }
-    ensures within { IsWithin (2 ^ 41) result }
-{
-    Vec2 {
-        x: rdiv_by(p.x, mass, reciprocal),
-        y: rdiv_by(p.y, mass, reciprocal),
-    }
-}
-
-/// The velocity of a body's point at the offset `r` (u), in u/tick, with these momenta.
-#[inline(always)]
-fn velocity_at_64(body: &BodyState, now: Momenta64, r: Vec2) -> Vec2
-    requires state { IsState (with_momenta body.now now) }
-    requires leaves_room { LeavesRoom64 4 now }
-    requires offset { IsWithin (unsigned_abs MAX_OFFSET) r }
-    ensures value { result ≡ velocity_at r (with_momenta body.now now) }
-    ensures within { IsWithin (2 ^ 61) result }
-{
-    let v = velocity_64(now.p, body.mass.mass, body.reciprocals.mass);
-    if now.l == 0 {
-        return v;
-    }
-    let w = spin_by_64(now.l, body.mass.inertia, body.reciprocals.inertia);
-    Vec2 {
-        x: carried_back(v.x, w, r.y),
-        y: carried_on(v.y, w, r.x),
-    }
-}
-
-/// The velocity at which the second body's point at the offset `rb` leaves the first's at `ra` (u), in u/tick, with
-/// these momenta.
-#[tactic(auto, unfolding(crate::specs::Impulses::parting))]
-#[inline(always)]
-pub fn parting_64(a: &BodyState, b: &BodyState, now: MomentaPair64, ra: Vec2, rb: Vec2) -> Vec2
-    requires states { AreStates (ends_with a.now b.now now) }
-    requires leaves_room { LeaveRoom64 4 now }
-    requires first { IsWithin (unsigned_abs MAX_OFFSET) ra }
-    requires second { IsWithin (unsigned_abs MAX_OFFSET) rb }
-    ensures value { result ≡ parting ra rb (ends_with a.now b.now now) }
-{
-    minus(velocity_at_64(b, now.b, rb), velocity_at_64(a, now.a, ra))
-}
-
-/// An angular momentum with the moment of an impulse, of a body that turns, if it does.
-#[inline(always)]
-fn maybe_turned_by_64(inertia: i64, l: i64, moment: i64) -> i64
-    requires l { unsigned_abs l ≤ 2 ^ 61 }
-    requires moment { unsigned_abs moment ≤ 2 ^ 61 }
-    ensures value { result ≡ turned_by inertia l moment }
-    ensures size { unsigned_abs result ≤ unsigned_abs l + unsigned_abs moment }
-{
-    if inertia == 0 { l } else { l + moment }
-}
-
-/// The same with the reciprocal of its inertia: a body that has one turns.
-#[inline(always)]
-fn turned_by_64(inertia: i64, reciprocal: i64, l: i64, moment: i64) -> i64
-    requires reciprocal { reciprocal ≡ share_reciprocal inertia }
-    requires l { unsigned_abs l ≤ 2 ^ 61 }
-    requires moment { unsigned_abs moment ≤ 2 ^ 61 }
-    ensures value { result ≡ turned_by inertia l moment }
-    ensures size { unsigned_abs result ≤ unsigned_abs l + unsigned_abs moment }
-{
-    if reciprocal == 0 {
-        maybe_turned_by_64(inertia, l, moment)
-    } else {
-        l + moment
-    }
-}
-
-/// The momenta with a small impulse given at the offset `r`.
-#[inline(always)]
-fn given_64(body: &BodyState, now: Momenta64, j: Vec2, r: Vec2) -> Momenta64
-    requires reciprocal { body.now.reciprocals.inertia ≡ share_reciprocal body.now.mass.inertia }
-    requires leaves_room { LeavesRoom64 4 now }
-    requires impulse { IsWithin (2 ^ 30) j }
-    requires offset { IsWithin (unsigned_abs MAX_OFFSET) r }
-    ensures value { with_momenta body.now result ≡ given j r (with_momenta body.now now) }
-    ensures leaves_room { (k : ℕ) → LeavesRoom64 k now → LeavesRoom64 (k + 1) result }
-{
-    if !body.movable {
-        return now;
-    }
-    Momenta64 {
-        p: plus(now.p, j),
-        l: turned_by_64(
-            body.mass.inertia,
-            body.reciprocals.inertia,
-            now.l,
-            cross_64(r, j),
-        ),
-    }
-}
-
-/// A small impulse given to the second body at `rb` and taken from the first at `ra`.
-#[inline(always)]
-fn impulse_pair_64(
-    a: &BodyState,
-    b: &BodyState,
-    now: MomentaPair64,
-    j: Vec2,
-    ra: Vec2,
-    rb: Vec2,
-) -> MomentaPair64
-    requires states { AreStates (ends_with a.now b.now now) }
-    requires leaves_room { LeaveRoom64 4 now }
-    requires impulse { IsWithin (2 ^ 30) j }
-    requires first { IsWithin (unsigned_abs MAX_OFFSET) ra }
-    requires second { IsWithin (unsigned_abs MAX_OFFSET) rb }
-    ensures value { impulse_pair j ra rb (ends_with a.now b.now now) ≡ Some (ends_with a.now b.now result) }
-    ensures impulse { IsImpulse a.now b.now now result }
-{
-    MomentaPair64 {
-        a: given_64(a, now.a, opposite(j), ra),
-        b: given_64(b, now.b, j, rb),
     }
 }
 
@@ -391,34 +218,32 @@ pub fn solve_line_64(
     }
 }
 
-/// The accumulated impulses `one` and `other` (mass·u/tick) given once more along two lines through the same points,
-/// one after the other, to the two bodies with the momenta `now`: `None` where something is too large for 64 bits.
+/// Two accumulated impulses given once more along their lines, which go through the same points, one after the other, to
+/// the two bodies with the momenta `now`: `None` where something is too large for 64 bits.
 #[inline(always)]
 pub fn warm_at_once_64(
-    first: &Line,
-    one: i64,
-    second: &Line,
-    other: i64,
+    first: LineImpulse,
+    second: LineImpulse,
     a: &BodyState,
     b: &BodyState,
     now: MomentaPair64,
 ) -> Option<MomentaPair64>
-    requires first { IsLine first.now }
-    requires second { IsLine second.now }
-    requires ra { second.now.ra ≡ first.now.ra }
-    requires rb { second.now.rb ≡ first.now.rb }
+    requires first { IsLine first.line }
+    requires second { IsLine second.line }
+    requires ra { second.line.ra ≡ first.line.ra }
+    requires rb { second.line.rb ≡ first.line.rb }
     requires states { AreStates (ends_with a.now b.now now) }
     requires leaves_room { LeaveRoom64 4 now }
-    ensures value { IfSome result (λ n. ends_with a.now b.now n ≡ warmed second.now other (warmed first.now one (ends_with a.now b.now now))) }
+    ensures value { IfSome result (λ n. ends_with a.now b.now n ≡ warmed second.line second.impulse (warmed first.line first.impulse (ends_with a.now b.now now))) }
     ensures impulse { IfSome result (λ n. IsImpulse a.now b.now now n) }
-    ensures room { unsigned_abs one < 2 ^ 29 → unsigned_abs other < 2 ^ 29 → is_some result ≡ true }
+    ensures room { unsigned_abs first.impulse < 2 ^ 29 → unsigned_abs second.impulse < 2 ^ 29 → is_some result ≡ true }
 {
-    if !are_in(one, other, HALF_IMPULSE_LIMIT_64) {
+    if !are_in(first.impulse, second.impulse, HALF_IMPULSE_LIMIT_64) {
         return None;
     }
     let j = plus(
-        along_64(first.direction, one),
-        along_64(second.direction, other),
+        along_64(first.line.direction, first.impulse),
+        along_64(second.line.direction, second.impulse),
     );
-    Some(impulse_pair_64(a, b, now, j, first.ra, first.rb))
+    Some(impulse_pair_64(a, b, now, j, first.line.ra, first.line.rb))
 }

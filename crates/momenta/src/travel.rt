@@ -6,8 +6,8 @@ ghost use Rattle.fixed_geom.specs.Vectors.{IsWithin, minus};
 ghost use Rattle.momenta.specs.Motions.{IsMass, IsMotion, advanced, aim, kept_component, limited, velocity};
 ghost use Rattle.momenta.specs.Reciprocals.{reciprocals_of};
 
-use crate::line_64::{spin_by, velocity_64};
 use crate::ranges::are_in;
+use crate::velocities_64::{spin_by, velocity_64};
 use crate::{MAX_MOMENTUM, MAX_SPEED, MassData, Motion, Reciprocals};
 use fixed_geom::{MAX_POSITION, Vec2, minus, turn};
 
