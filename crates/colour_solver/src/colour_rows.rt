@@ -1,33 +1,28 @@
 //! The rows of a step in two dense lists, colour after colour, with where each colour ends in both.
 
-ghost use Rattle.std.specs.Prelude.{◌≡◌, ◌^◌, ◌≤◌, ◌+◌, ◌<◌, ◌∷◌, ◌++◌, [], length, map, take, drop, slice_index_or, slice_set, OnOk};
+ghost use Rattle.std.specs.Prelude.{◌≡◌, ◌^◌, ◌≤◌, ◌+◌, ◌<◌, ◌∷◌, ◌++◌, [], length, map, slice_index_or, slice_set, OnOk};
 ghost use Rattle.std.specs.Result.{IsOkUnless};
 ghost use Rattle.fixed_geom.specs.Vectors.{plus};
-ghost use Rattle.joint_rows.specs.Rows.{IsJointRow};
-ghost use Rattle.colour_solver_base.specs.Rows.{IsRow};
 ghost use Rattle.momenta.specs.Gains.{IsGain};
 ghost use Rattle.colour_solver.specs.States.{AreAllStates, AreSameStates, as_vector, total};
 ghost use Rattle.colour_solver.specs.Phases.{constraint_visit};
-ghost use Rattle.colour_solver.specs.RowVisits.{AreRowsOn, IsPassed, between, passed, rows_passed, share};
-ghost use Rattle.colour_solver.specs.ConstraintVisits.{AreRowsBelow, IsConstraintRow, both_visits, constraint_slots, contact_slots, contacts_among, joint_slots, joints_among};
+ghost use Rattle.colour_solver.specs.RowVisits.{IsPassed, passed, rows_passed, share};
+ghost use Rattle.colour_solver.specs.ConstraintVisits.{AreRowsBelow, IsConstraintRow, both_visits, constraint_slots, contacts_among, joints_among};
 ghost use Rattle.colour_solver.specs.declared.constraint_row.ConstraintRow.TheVariants.{Joint, Contact};
-ghost use Rattle.colour_solver.specs.ColourRows.{AreEnds, all_rows, cut, joints_first, last_end, left_of, rows_kept};
+ghost use Rattle.colour_solver.specs.ColourRows.{AreEnds, all_rows, joints_first};
 
-use crate::{Bounce, Phase, Solve, Visit, Warm, pass_rows};
+use crate::colour_ends::{
+    ColourEnd, ColourSpan, contacts_behind, contacts_of, end_of, joints_behind, joints_of, start_of,
+};
+use crate::colour_passes::{pass_colour, pass_colours};
+use crate::{Bounce, Phase, Solve, Visit, Warm};
 use body_handles::MAX_SLOTS;
 use colour_solver_base::ContactRow;
 use fixed_geom::Refusal;
 use joint_rows::JointRow;
-use momenta::{BodyState, Gain, NOTHING, plus};
+use momenta::{BodyState, Gain};
 use std::alloc::Global;
 use std::marker::Model;
-
-/// How many joints and how many contacts stand in a colour and in those before it.
-#[derive(Clone, Copy)]
-struct ColourEnd {
-    joints: usize,
-    contacts: usize,
-}
 
 /// Rows by colour: in each its joints, and then its contacts. Contracts see those of each colour that has ended, those
 /// of the next one, and for how many more rows and colours there is room.
@@ -53,179 +48,6 @@ impl Model for Rows {
     } };
 
     ghost invariant = { λ a. AreEnds 0 (map (λ e. e.joints) a.ends.items) (length a.joints.items) × AreEnds 0 (map (λ e. e.contacts) a.ends.items) (length a.contacts.items) };
-}
-
-/// Where a colour begins: at the end of the one before it.
-fn start_of(ends: &[ColourEnd], colour: usize) -> ColourEnd
-    requires { colour ≤ length ends.now }
-    ensures joints { result.joints ≡ last_end 0 (take colour (map (λ e. e.joints) ends.now)) }
-    ensures contacts { result.contacts ≡ last_end 0 (take colour (map (λ e. e.contacts) ends.now)) }
-{
-    if colour == 0 {
-        return ColourEnd {
-            joints: 0,
-            contacts: 0,
-        };
-    }
-    ends[colour - 1]
-}
-
-/// Where a colour ends.
-fn end_of(ends: &[ColourEnd], colour: usize) -> ColourEnd
-    requires { colour < length ends.now }
-    ensures { result ≡ slice_index_or ends.now colour (record { joints = 0; contacts = 0 }) }
-{
-    ends[colour]
-}
-
-/// The rows from one place up to another.
-fn part<T: Copy>(rows: &[T], from: usize, to: usize) -> &[T]
-    requires ascend { from ≤ to }
-    requires end { to ≤ length rows.now }
-    ensures { result.now ≡ between from to rows.now }
-{
-    &rows[from..to]
-}
-
-/// The joints of a colour that has ended.
-fn joints_of<'a>(joints: &'a [JointRow], ends: &[ColourEnd], colour: usize) -> &'a [JointRow]
-    requires ends { AreEnds 0 (map (λ e. e.joints) ends.now) (length joints.now) }
-    requires colour { colour < length ends.now }
-    ensures { result.now ≡ slice_index_or (cut 0 (map (λ e. e.joints) ends.now) joints.now) colour [] }
-{
-    part(joints, start_of(ends, colour).joints, ends[colour].joints)
-}
-
-/// Its contacts.
-fn contacts_of<'a>(
-    contacts: &'a [ContactRow],
-    ends: &[ColourEnd],
-    colour: usize,
-) -> &'a [ContactRow]
-    requires ends { AreEnds 0 (map (λ e. e.contacts) ends.now) (length contacts.now) }
-    requires colour { colour < length ends.now }
-    ensures { result.now ≡ slice_index_or (cut 0 (map (λ e. e.contacts) ends.now) contacts.now) colour [] }
-{
-    part(
-        contacts,
-        start_of(ends, colour).contacts,
-        ends[colour].contacts,
-    )
-}
-
-/// The joints that have no colour.
-fn joints_behind<'a>(joints: &'a [JointRow], ends: &[ColourEnd]) -> &'a [JointRow]
-    requires { AreEnds 0 (map (λ e. e.joints) ends.now) (length joints.now) }
-    ensures { result.now ≡ left_of 0 (map (λ e. e.joints) ends.now) joints.now }
-{
-    part(joints, start_of(ends, ends.len()).joints, joints.len())
-}
-
-/// The contacts that have no colour.
-fn contacts_behind<'a>(contacts: &'a [ContactRow], ends: &[ColourEnd]) -> &'a [ContactRow]
-    requires { AreEnds 0 (map (λ e. e.contacts) ends.now) (length contacts.now) }
-    ensures { result.now ≡ left_of 0 (map (λ e. e.contacts) ends.now) contacts.now }
-{
-    part(
-        contacts,
-        start_of(ends, ends.len()).contacts,
-        contacts.len(),
-    )
-}
-
-/// One pass over the rows of a colour: over its joints, and then over its contacts.
-#[inline(always)]
-fn pass_colour<J: Visit<JointRow>, C: Visit<ContactRow>>(
-    states: &mut Vec<BodyState>,
-    joints: &mut Vec<JointRow>,
-    contacts: &mut Vec<ContactRow>,
-    start: ColourEnd,
-    end: ColourEnd,
-    joint_visit: &J,
-    contact_visit: &C,
-) -> Gain
-    requires few { length states.old.items ≤ MAX_SLOTS }
-    requires states { AreAllStates states.old.items }
-    requires joints_ascend { start.joints ≤ end.joints }
-    requires joints_end { end.joints ≤ length joints.old.items }
-    requires contacts_ascend { start.contacts ≤ end.contacts }
-    requires contacts_end { end.contacts ≤ length contacts.old.items }
-    requires joints { AreRowsOn joint_slots IsJointRow (length states.old.items) joints.old.items }
-    requires contacts { AreRowsOn contact_slots IsRow (length states.old.items) contacts.old.items }
-    ensures passed { IsPassed constraint_slots IsConstraintRow (both_visits (J.visit joint_visit.now) (C.visit contact_visit.now)) states.old.items (joints_first (between start.joints end.joints joints.old.items) (between start.contacts end.contacts contacts.old.items)) states.new.items (joints_first (between start.joints end.joints joints.new.items) (between start.contacts end.contacts contacts.new.items)) (as_vector result) }
-    ensures joints_before { take start.joints joints.new.items ≡ take start.joints joints.old.items }
-    ensures joints_behind { drop end.joints joints.new.items ≡ drop end.joints joints.old.items }
-    ensures contacts_before { take start.contacts contacts.new.items ≡ take start.contacts contacts.old.items }
-    ensures contacts_behind { drop end.contacts contacts.new.items ≡ drop end.contacts contacts.old.items }
-    ensures as_many_joints { length joints.new.items ≡ length joints.old.items }
-    ensures as_many_contacts { length contacts.new.items ≡ length contacts.old.items }
-    ensures joints { AreRowsOn joint_slots IsJointRow (length states.new.items) joints.new.items }
-    ensures contacts { AreRowsOn contact_slots IsRow (length states.new.items) contacts.new.items }
-    ensures small { IsGain (2 ^ 78) result }
-{
-    let by_joints = pass_rows(states, joints, start.joints, end.joints, joint_visit);
-    let by_contacts = pass_rows(
-        states,
-        contacts,
-        start.contacts,
-        end.contacts,
-        contact_visit,
-    );
-    plus(by_joints, by_contacts)
-}
-
-/// One pass over all rows, colour after colour, and then over those of the colour that hasn't ended.
-fn pass_colours<J: Visit<JointRow>, C: Visit<ContactRow>>(
-    states: &mut Vec<BodyState>,
-    joints: &mut Vec<JointRow>,
-    contacts: &mut Vec<ContactRow>,
-    ends: &[ColourEnd],
-    joint_visit: &J,
-    contact_visit: &C,
-) -> Gain
-    requires few { length states.old.items ≤ MAX_SLOTS }
-    requires states { AreAllStates states.old.items }
-    requires joint_ends { AreEnds 0 (map (λ e. e.joints) ends.now) (length joints.old.items) }
-    requires contact_ends { AreEnds 0 (map (λ e. e.contacts) ends.now) (length contacts.old.items) }
-    requires joints { AreRowsOn joint_slots IsJointRow (length states.old.items) joints.old.items }
-    requires contacts { AreRowsOn contact_slots IsRow (length states.old.items) contacts.old.items }
-    ensures passed { IsPassed constraint_slots IsConstraintRow (both_visits (J.visit joint_visit.now) (C.visit contact_visit.now)) states.old.items (rows_kept (map (λ e. e.joints) ends.now) (map (λ e. e.contacts) ends.now) joints.old.items contacts.old.items) states.new.items (rows_kept (map (λ e. e.joints) ends.now) (map (λ e. e.contacts) ends.now) joints.new.items contacts.new.items) (as_vector result) }
-    ensures as_many_joints { length joints.new.items ≡ length joints.old.items }
-    ensures as_many_contacts { length contacts.new.items ≡ length contacts.old.items }
-    ensures small { IsGain (2 ^ 78) result }
-{
-    let mut start = ColourEnd {
-        joints: 0,
-        contacts: 0,
-    };
-    let mut given = NOTHING;
-    for end in ends {
-        let got = pass_colour(
-            states,
-            joints,
-            contacts,
-            start,
-            *end,
-            joint_visit,
-            contact_visit,
-        );
-        given = plus(given, got);
-        start = *end;
-    }
-    let end = ColourEnd {
-        joints: joints.len(),
-        contacts: contacts.len(),
-    };
-    let last = pass_colour(
-        states,
-        joints,
-        contacts,
-        start,
-        end,
-        joint_visit,
-        contact_visit,
-    );
-    plus(given, last)
 }
 
 impl Rows {
@@ -370,8 +192,7 @@ impl Rows {
             states,
             &mut self.joints,
             &mut self.contacts,
-            start,
-            end,
+            ColourSpan { start, end },
             joint_visit,
             contact_visit,
         )

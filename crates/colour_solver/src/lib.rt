@@ -9,6 +9,8 @@
 //! bodies that are carried along.
 #![tactic(auto)]
 
+mod colour_ends;
+mod colour_passes;
 mod colour_rows;
 mod constraint_passes;
 mod constraint_row;
@@ -16,8 +18,11 @@ mod constraint_visits;
 mod courses;
 mod passes;
 mod phase;
+mod row_pass;
 mod row_visits;
 mod ticks;
+mod visit_one;
+mod write_back;
 
 pub use colour_rows::Rows;
 pub use constraint_passes::Passes;
@@ -26,5 +31,7 @@ pub use constraint_visits::{Bounce, Solve, Warm};
 pub use courses::carry_along;
 pub use passes::{Change, Gains, pass_two};
 pub use phase::Phase;
-pub use row_visits::{Row, Slots, Visit, colours_at_once, pass_rows, solve_one};
+pub use row_pass::pass_rows;
+pub use row_visits::{Row, Slots, Visit, colours_at_once};
 pub use ticks::{Limit, Move, Pull, StepSums, run_step, run_ticks};
+pub use visit_one::solve_one;

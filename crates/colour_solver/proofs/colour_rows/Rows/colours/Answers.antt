@@ -1,6 +1,6 @@
 use Rattle.std.proofs.Common.{rules, ◌≡◌, length, map, sym, ◌∙◌}
 use Rattle.std.proofs.lemmas.List.{length-map}
-use Rattle.colour_solver.specs.declared.colour_rows.ColourEnd.{ColourEnd}
+use Rattle.colour_solver.specs.declared.colour_ends.ColourEnd.{ColourEnd}
 use Rattle.colour_solver.proofs.KeptRowLaws.{as_many_ends}
 use Rattle.colour_solver.proofs.RowPlaceLaws.{colours_count}
 use Rattle.colour_solver.proofs.colour_rows.Rows.colours.Goals as goal

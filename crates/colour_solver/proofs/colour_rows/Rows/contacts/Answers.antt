@@ -1,5 +1,5 @@
 use Rattle.std.proofs.Common.{map, sym, ◌∙◌}
-use Rattle.colour_solver.specs.declared.colour_rows.ColourEnd.{ColourEnd}
+use Rattle.colour_solver.specs.declared.colour_ends.ColourEnd.{ColourEnd}
 use Rattle.colour_solver.proofs.KeptRowLaws.{as_many_ends, contacts_kept}
 use Rattle.colour_solver.proofs.colour_rows.Rows.contacts.Goals as goal
 

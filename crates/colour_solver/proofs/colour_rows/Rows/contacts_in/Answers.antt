@@ -1,6 +1,6 @@
 use Rattle.std.proofs.Common.{ℕ, ◌≡◌, ◌<◌, [], length, get_or, map, arith}
 use Rattle.std.proofs.lemmas.List.{length-map}
-use Rattle.colour_solver.specs.declared.colour_rows.ColourEnd.{ColourEnd}
+use Rattle.colour_solver.specs.declared.colour_ends.ColourEnd.{ColourEnd}
 use Rattle.colour_solver.specs.ColourRows.{colours_of, cut}
 use Rattle.colour_solver.proofs.KeptRowLaws.{as_many_ends}
 use Rattle.colour_solver.proofs.RowPlaceLaws.{colour_contacts, colours_count}

@@ -1,5 +1,5 @@
 use Rattle.std.proofs.Common.{ℕ, ◌≡◌, map}
-use Rattle.colour_solver.specs.declared.colour_rows.ColourEnd.{ColourEnd}
+use Rattle.colour_solver.specs.declared.colour_ends.ColourEnd.{ColourEnd}
 use Rattle.colour_solver.specs.ColourRows.{left_of}
 use Rattle.colour_solver.proofs.RowPlaceLaws.{left_contacts}
 use Rattle.colour_solver.proofs.colour_rows.Rows.contacts_left.Goals as goal

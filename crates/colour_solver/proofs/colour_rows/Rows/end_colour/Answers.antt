@@ -1,5 +1,5 @@
 use Rattle.std.proofs.Common.{rules, ◌≡◌, ℕ, ◌++◌, [], ◌∷◌, length}
-use Rattle.colour_solver.specs.declared.colour_rows.ColourEnd.{ColourEnd}
+use Rattle.colour_solver.specs.declared.colour_ends.ColourEnd.{ColourEnd}
 use Rattle.colour_solver.proofs.KeptRowLaws.{colours_pushed, ends_pushed, none_left}
 use Rattle.colour_solver.proofs.colour_rows.Rows.end_colour.Goals as goal
 

@@ -1,7 +1,7 @@
 use Rattle.std.proofs.Common.{ℕ, length, map, subst}
 use Rattle.joint_rows.specs.Rows.{IsJointRow}
 use Rattle.colour_solver_base.specs.Rows.{IsRow}
-use Rattle.colour_solver.specs.declared.colour_rows.ColourEnd.{ColourEnd}
+use Rattle.colour_solver.specs.declared.colour_ends.ColourEnd.{ColourEnd}
 use Rattle.colour_solver.specs.ColourRows.{rows_kept}
 use Rattle.colour_solver.specs.RowVisits.{AreRowsOn}
 use Rattle.colour_solver.specs.ConstraintVisits.{AreRowsBelow, contact_slots, joint_slots}

@@ -2,7 +2,7 @@ use Rattle.std.proofs.Common.{ℕ, ◌≡◌, ◌<◌, ◌≤◌, [], length, ge
 use Rattle.std.proofs.lemmas.List.{length-map}
 use Rattle.joint_rows.specs.Rows.{IsJointRow}
 use Rattle.colour_solver_base.specs.Rows.{IsRow}
-use Rattle.colour_solver.specs.declared.colour_rows.ColourEnd.{ColourEnd}
+use Rattle.colour_solver.specs.declared.colour_ends.ColourEnd.{ColourEnd}
 use Rattle.colour_solver.specs.States.{as_vector}
 use Rattle.colour_solver.specs.RowVisits.{AreRowsOn, between}
 use Rattle.colour_solver.specs.ColourRows.{colours_of, joints_first, last_end, rows_kept}

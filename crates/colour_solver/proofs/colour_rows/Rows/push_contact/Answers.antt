@@ -1,5 +1,5 @@
 use Rattle.std.proofs.Common.{rules, ◌≡◌, ◌++◌, [], ◌∷◌, map}
-use Rattle.colour_solver.specs.declared.colour_rows.ColourEnd.{ColourEnd}
+use Rattle.colour_solver.specs.declared.colour_ends.ColourEnd.{ColourEnd}
 use Rattle.colour_solver.proofs.KeptRowLaws.{contact_colours, contact_left, ends_still}
 use Rattle.colour_solver.proofs.colour_rows.Rows.push_contact.Goals as goal
 

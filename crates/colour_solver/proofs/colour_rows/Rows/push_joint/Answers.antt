@@ -1,7 +1,7 @@
 use Rattle.std.proofs.Common.{rules, ◌≡◌, ◌++◌, [], ◌∷◌, map}
 use Rattle.colour_solver.specs.ColourRows.{rows_left}
 use Rattle.colour_solver.specs.ConstraintVisits.{contacts_among}
-use Rattle.colour_solver.specs.declared.colour_rows.ColourEnd.{ColourEnd}
+use Rattle.colour_solver.specs.declared.colour_ends.ColourEnd.{ColourEnd}
 use Rattle.colour_solver.proofs.KeptRowLaws.{ends_still, joint_colours, joint_left}
 use Rattle.colour_solver.proofs.colour_rows.Rows.push_joint.Goals as goal
 
