@@ -28,7 +28,7 @@ pub use joint::{BodyJoint, JointDef};
 pub use joint_rows::Joint;
 pub use kind::{Course, Kind, NO_COURSE};
 pub use placement::{shape_of, surface_of};
-pub use plain::Plain;
+pub use plain::{Plain, PlainParts};
 pub use presets::{SMOOTH, smooth_in_digits};
 pub use sleep::{SLOW_SPEED, SLOW_SPIN, limits_in_digits};
 pub use slots::{body_of, clear_slot, copy_bodies, item_at, put_item};

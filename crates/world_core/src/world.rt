@@ -38,7 +38,7 @@ use crew::PieceMap;
 use event_feed::Events;
 use fixed_geom::{Refusal, Vec2, ZERO_VECTOR, is_within};
 use impulse_ledger::Ledger;
-use plain_world::{Body, BodyView, Plain, body_of, copy_bodies};
+use plain_world::{Body, BodyView, Plain, PlainParts, body_of, copy_bodies};
 use sleep_wake::Sets;
 use solver_sets::{Census, take_census};
 use std::alloc::Global;
@@ -317,7 +317,10 @@ impl WorldCore {
         let contacts = self.contacts.to_entries(alloc)?;
         let islands = self.sets.islands().list_labels()?;
         let colours = copy_ids(alloc, self.sets.colours())?;
-        Ok(Plain::new(
+        let gravity = self.gravity;
+        let steps = self.steps;
+        let calls = self.calls;
+        Ok(Plain::new(PlainParts {
             slot_entries,
             bodies,
             joint_entries,
@@ -325,10 +328,10 @@ impl WorldCore {
             contacts,
             islands,
             colours,
-            self.gravity,
-            self.steps,
-            self.calls,
-        ))
+            gravity,
+            steps,
+            calls,
+        }))
     }
 
     /// What stands in each solver set: each live body, each joint and each contact is listed once, in the one set in

@@ -40,7 +40,7 @@ use contacts_base::ContactEntry;
 use fixed_geom::Refusal;
 use impulse_ledger::Totals;
 use islands::Label;
-use plain_world::{BodyJoint, Plain};
+use plain_world::{BodyJoint, Plain, PlainParts};
 use serde_json::Value;
 use std::alloc::Global;
 use world_file_base::{
@@ -185,18 +185,18 @@ fn plain_of(saved: Saved, parts: Parts) -> Plain
         steps,
         calls,
     } = saved;
-    Plain::new(
-        bodies.slot_entries,
-        bodies.bodies,
-        joints.slot_entries,
-        parts.joints,
-        parts.contacts,
-        parts.labels,
-        parts.colours,
+    Plain::new(PlainParts {
+        slot_entries: bodies.slot_entries,
+        bodies: bodies.bodies,
+        joint_entries: joints.slot_entries,
+        joints: parts.joints,
+        contacts: parts.contacts,
+        islands: parts.labels,
+        colours: parts.colours,
         gravity,
         steps,
         calls,
-    )
+    })
 }
 
 /// Holds the parts of a saved world against one another, and lists what they make. The first clause that is broken is
