@@ -8,6 +8,7 @@
 
 mod beam;
 mod bounds;
+mod candidates;
 mod choice;
 mod cores;
 mod discs;

@@ -8,7 +8,7 @@ ghost use Rattle.shapes.specs.Spots.{pair_of};
 ghost use Rattle.shapes.specs.Manifolds.{point_of, spots, allowed_spots, manifold_between, posed_pair, manifold_of};
 ghost use Rattle.shapes.specs.PointsWithin.{IsPointWithin, IsSecond, IsLeastPoint, IsPair, IsSpot};
 
-use crate::choice::chosen_spots;
+use crate::candidates::chosen_spots;
 use crate::cores::cores_cross;
 use crate::spots::{Pair, Spot};
 use crate::{Core, MAX_RADIUS, Manifold, Point, Pose, Shape, core_of};

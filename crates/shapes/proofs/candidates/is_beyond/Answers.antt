@@ -6,7 +6,7 @@ use mir.Val.{SFits}
 use Rattle.fixed_geom.specs.Vectors.{dot, span}
 use Rattle.fixed_geom.specs.declared.vectors.Vec2.{Vec2}
 use Rattle.shapes.proofs.PointLemmas.{beyond_square, beyond_outside}
-use Rattle.shapes.proofs.choice.is_beyond.Goals as goal
+use Rattle.shapes.proofs.candidates.is_beyond.Goals as goal
 
 pub returns : goal.returns
 returns c = λ t.

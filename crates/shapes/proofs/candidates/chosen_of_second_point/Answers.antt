@@ -7,7 +7,7 @@ use Rattle.fixed_geom.specs.Vectors.{span, minus}
 use Rattle.shapes.specs.Spots.{of_a, of_b}
 use Rattle.shapes.specs.PointsWithin.{IsCandidate}
 use Rattle.shapes.proofs.PointLemmas.{alone_at, last_alone, beyond_second}
-use Rattle.shapes.proofs.choice.chosen_of_second_point.Goals as goal
+use Rattle.shapes.proofs.candidates.chosen_of_second_point.Goals as goal
 
 pub returns-then-are_beyond-clause-value : goal.returns-then-are_beyond-clause-value
 returns-then-are_beyond-clause-value c =
