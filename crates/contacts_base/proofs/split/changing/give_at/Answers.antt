@@ -3,7 +3,7 @@ use Rattle.std.proofs.lemmas.Grind.{common_steps}
 use Rattle.contacts_base.specs.Contacts.{number_of}
 use Rattle.contacts_base.specs.Keys.{key_number}
 use Rattle.contacts_base.proofs.CountingLaws.{counts_at, given_there, same_at}
-use Rattle.contacts_base.proofs.split.give_at.Goals as goal
+use Rattle.contacts_base.proofs.split.changing.give_at.Goals as goal
 
 pub returns-clause-given : goal.returns-clause-given
 returns-clause-given c = λ _.
