@@ -3,7 +3,7 @@ use Rattle.std.proofs.Common.{◌≡◌, ℕ, ◌+◌, ◌<◌, ◌≤◌, List,
 use Rattle.contacts_base.specs.declared.near.Proxy.{Proxy}
 use Rattle.contacts_base.specs.NearCodes.{pair_code, near_from, near_codes}
 use Rattle.contacts_base.specs.Proxies.{IsProxyList}
-use Rattle.contacts.specs.declared.sweep.TheConstants.{PLACES}
+use Rattle.contacts.specs.declared.strips.TheConstants.{PLACES}
 use Rattle.contacts.specs.Pairs.{IsPair, ArePairs}
 use Rattle.contacts.proofs.Members.{each_from, all_from_each}
 use Rattle.contacts.proofs.Rising.{increasing_from_rising}

@@ -8,7 +8,7 @@ use Rattle.std.proofs.lemmas.List.Elements.{All-push}
 use Rattle.shapes.specs.declared.limits.TheConstants.{MAX_SHAPES}
 use Rattle.contacts_base.specs.declared.near.Proxy.{Proxy}
 use Rattle.contacts_base.specs.Proxies.{IsProxy, IsProxyList, number_of}
-use Rattle.contacts.specs.declared.sweep.TheConstants.{PLACES}
+use Rattle.contacts.specs.declared.strips.TheConstants.{PLACES}
 use Rattle.contacts.proofs.Members.{Each}
 use Rattle.contacts.proofs.Rising.{increasing_from_rising, rising_append, rising_from_increasing}
 

@@ -17,7 +17,7 @@ use Rattle.contacts_base.specs.declared.near.Proxy.{Proxy}
 use Rattle.contacts_base.specs.Near.{is_near}
 use Rattle.contacts_base.specs.NearCodes.{pair_code, near_codes}
 use Rattle.fixed_geom.specs.declared.boxes.Box2.{Box2}
-use Rattle.contacts.specs.declared.sweep.TheConstants.{PLACES}
+use Rattle.contacts.specs.declared.strips.TheConstants.{PLACES}
 use Rattle.contacts.specs.Pairs.{proxy_at}
 use Rattle.contacts.specs.Sweep.{boxes_of, pair_at, near_pair, strip_of, spot, start_in, strip_at, place_at, starts_of, IsPlaceIn, box_at, end_of, may_meet, pair_of, met, is_dynamic_at, dynamics_of, swept}
 use Rattle.contacts.proofs.Members.{Each, IsIn, each_from, each_in, in_append, in_left, in_new, in_passed, in_right, in_from_contains, contains_from_in}

@@ -6,7 +6,7 @@ use Rattle.fixed_geom.specs.declared.boxes.Box2.{Box2}
 use Rattle.contacts_base.specs.declared.near.Proxy.{Proxy}
 use Rattle.contacts_base.specs.Near.{is_near}
 use Rattle.contacts_base.specs.NearCodes.{pair_code}
-use Rattle.contacts.specs.declared.sweep.TheConstants.{HALF, PLACES, SPOTS, STEP}
+use Rattle.contacts.specs.declared.strips.TheConstants.{HALF, PLACES, SPOTS, STEP}
 use Rattle.contacts.specs.Pairs.{no_box, proxy_at}
 
 -- the fat boxes of the shapes

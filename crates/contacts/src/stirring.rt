@@ -1,32 +1,25 @@
 //! The contacts of which a body may stir, by their places in the long list, so that a collide passes over those alone.
 
-ghost use Rattle.std.specs.Prelude.{◌≡◌, ◌↔◌, ◌++◌, ◌∷◌, [], ℕ, All, Contains, IsTrue, OnOk, Some, cond, false, length, option_map, replicate, true};
-ghost use Rattle.std.specs.Option.{option_copied};
+ghost use Rattle.std.specs.Prelude.{◌≡◌, IsTrue, OnOk, false};
 ghost use Rattle.std.specs.Result.{IsOkUnless};
 ghost use Rattle.contacts_base.specs.Proxies.{IsProxyList};
-ghost use Rattle.std.specs.List.Sorted.{IsStrictlyIncreasing};
-ghost use Rattle.contacts_base.specs.declared.contact.ContactEntry.{ContactEntry};
-ghost use Rattle.contacts_base.specs.Contacts.{AreKeysRising};
 ghost use Rattle.contacts_base.specs.Split.{Split, contacts_in};
 ghost use Rattle.contacts.specs.Known.{IsPairKey};
-ghost use Rattle.contacts.specs.Stirring.{AreFlagsListed, AreHeld, AreQuiet, AreStirring, is_flagged, one_flagged, stirring_places};
+ghost use Rattle.contacts.specs.Stirring.{AreFlagsListed, AreHeld, AreQuiet, AreStirring};
 ghost use Rattle.contacts.specs.Numbered.{AreNumbered};
 ghost use Rattle.contacts.specs.NumberBooks.{IsBook};
-ghost use Rattle.contacts.specs.StirringPlaces.{ArePushed, IsPlaceOf, IsPlaceOfOne, IsPlaceOn};
 ghost use Rattle.contacts.specs.Fates.{moved_by, outcome, after_fate};
 ghost use Rattle.packed_sets.specs.Marks.{AreListed};
 
 use crate::collide::Collide;
-use crate::ends::Side;
 use crate::fates::{Fate, ShapesById, fate_of};
 use crate::forbidden::ForbiddenPairs;
-use crate::number_book::{NumberBook, NumberedContact};
-use contacts_base::{ContactEntry, ContactKey, SplitContacts, seek_next};
+use crate::number_book::NumberBook;
+use crate::stirring_flags::{are_complete, clear_flags, flag_stirring, is_one_flagged};
+use crate::stirring_places::list_places;
+use contacts_base::{ContactEntry, SplitContacts};
 use fixed_geom::Refusal;
 use std::alloc::Global;
-
-/// Where the flagged slots are fewer than one for so many contacts of the long list, places are found by them.
-const FEW_FLAGGED: usize = 8;
 
 /// Which bodies may stir, and the places of their contacts in the long list.
 #[derive(Drop)]
@@ -56,118 +49,6 @@ impl Stirring {
     }
 }
 
-/// Whether the body in a slot may stir.
-fn is_flagged(flags: &[bool], slot: u32) -> bool
-    ensures { result ≡ is_flagged flags.now slot }
-{
-    match flags.get(slot as usize) {
-        None => true,
-        Some(flag) => *flag,
-    }
-}
-
-/// Whether one of the bodies of a contact may stir.
-pub(crate) fn is_one_flagged(flags: &[bool], entry: &ContactEntry) -> bool
-    ensures { result ≡ one_flagged flags.now entry.now }
-{
-    is_flagged(flags, entry.key.first.slot) || is_flagged(flags, entry.key.second.slot)
-}
-
-/// Whether all these slots are flagged.
-fn are_flagged(flags: &[bool], slots: &[u32]) -> bool
-    ensures { IsTrue result → All (λ slot. is_flagged flags.now slot ≡ true) slots.now }
-{
-    for place in 0..slots.len() {
-        if !is_flagged(flags, slots[place]) {
-            return false;
-        }
-    }
-    true
-}
-
-/// Whether the flags have all bodies that stir, and all slots that are marked.
-fn are_complete<S: ShapesById, F: ForbiddenPairs>(
-    flags: &[bool],
-    collide: &Collide<'_, S, F>,
-) -> bool
-    requires { AreListed collide.now.marks.now collide.now.marked.now }
-    ensures { IsTrue result → AreQuiet flags.now collide.now.marks.now (S.proxies collide.now.shapes.now) }
-{
-    if flags.len() > collide.marks.len() {
-        return false;
-    }
-    if !are_flagged(flags, collide.marked) {
-        return false;
-    }
-    if !are_flagged(flags, collide.shapes.awake()) {
-        return false;
-    }
-    are_flagged(flags, collide.shapes.carried())
-}
-
-/// Flags a slot that has a flag, if that isn't set.
-fn flag_slot(flags: &mut Vec<bool>, flagged: &mut Vec<u32>, slot: u32) -> Result<(), Refusal>
-    requires { AreFlagsListed flags.old.items flagged.old.items }
-    ensures flagged { AreFlagsListed flags.new.items flagged.new.items }
-    ensures memory_only { IsOkUnless result Refusal.NoMemory }
-{
-    if !is_flagged(flags, slot) {
-        flagged.push(slot)?;
-        flags[slot as usize] = true;
-    }
-    Ok(())
-}
-
-/// Flags these slots.
-fn flag(flags: &mut Vec<bool>, flagged: &mut Vec<u32>, slots: &[u32]) -> Result<(), Refusal>
-    requires { AreFlagsListed flags.old.items flagged.old.items }
-    ensures flagged { AreFlagsListed flags.new.items flagged.new.items }
-    ensures memory_only { IsOkUnless result Refusal.NoMemory }
-{
-    for place in 0..slots.len() {
-        flag_slot(flags, flagged, slots[place])?;
-    }
-    Ok(())
-}
-
-/// Flags the slots of all bodies that stir, and those that are marked.
-fn flag_stirring<S: ShapesById, F: ForbiddenPairs>(
-    flags: &mut Vec<bool>,
-    flagged: &mut Vec<u32>,
-    collide: &Collide<'_, S, F>,
-) -> Result<(), Refusal>
-    requires { AreFlagsListed flags.old.items flagged.old.items }
-    ensures flagged { AreFlagsListed flags.new.items flagged.new.items }
-    ensures memory_only { IsOkUnless result Refusal.NoMemory }
-{
-    flag(flags, flagged, collide.shapes.awake())?;
-    flag(flags, flagged, collide.shapes.carried())?;
-    flag(flags, flagged, collide.marked)
-}
-
-/// Takes the flags of these slots away, which are all that are flagged.
-fn unflag(flags: &mut Vec<bool>, flagged: &[u32])
-    requires { AreListed flags.old.items flagged.now }
-    ensures { flags.new.items ≡ replicate (length flags.old.items) false }
-{
-    for place in 0..flagged.len() {
-        flags[flagged[place] as usize] = false;
-    }
-}
-
-/// Gives each slot below `slots` a flag that isn't set, in a time that goes by those that are set, where there are as
-/// many flags as that.
-fn clear_flags(flags: &mut Vec<bool>, flagged: &mut Vec<u32>, slots: usize) -> Result<(), Refusal>
-    requires { AreFlagsListed flags.old.items flagged.old.items }
-    ensures flagged { AreFlagsListed flags.new.items flagged.new.items }
-    ensures memory_only { IsOkUnless result Refusal.NoMemory }
-{
-    unflag(flags, flagged);
-    flagged.clear();
-    flags.resize(slots, false)?;
-    Ok(())
-}
-
 /// Flags all bodies that stir, and all slots that are marked.
 fn flag_anew<S: ShapesById, F: ForbiddenPairs>(
     stirring: &mut Stirring,
@@ -191,145 +72,6 @@ fn flag_anew<S: ShapesById, F: ForbiddenPairs>(
         stirring.flagged.clear();
     }
     Ok(())
-}
-
-/// Adds a place, if it is wanted.
-fn push_place(places: &mut Vec<usize>, wanted: bool, place: usize) -> Result<(), Refusal>
-    ensures pushed { OnOk result (places.new.items ≡ places.old.items ++ cond wanted (place ∷ []) []) }
-    ensures memory_only { IsOkUnless result Refusal.NoMemory }
-{
-    if wanted {
-        places.push(place)?;
-    }
-    Ok(())
-}
-
-/// Lists the places of those contacts of which a body may stir in a pass over all.
-fn scan_places(
-    places: &mut Vec<usize>,
-    flags: &[bool],
-    entries: &[ContactEntry],
-) -> Result<(), Refusal>
-    ensures listed { OnOk result (places.new.items ≡ stirring_places flags.now (λ key. true) entries.now) }
-    ensures memory_only { IsOkUnless result Refusal.NoMemory }
-{
-    places.clear();
-    for place in 0..entries.len() {
-        push_place(places, is_one_flagged(flags, &entries[place]), place)?;
-    }
-    Ok(())
-}
-
-/// Whether there is a contact, and it has the key.
-fn has_key(entry: Option<&ContactEntry>, key: ContactKey) -> bool
-    ensures { (result ≡ true) ↔ (option_map (λ (e : ContactEntry). e.key) (option_copied entry.entry) ≡ Some key) }
-{
-    match entry {
-        None => false,
-        Some(entry) => entry.key == key,
-    }
-}
-
-/// Adds the place in a list of the contact with the key of this one, if it is there. It is looked for from the hint on,
-/// which becomes where the search ended.
-fn push_place_of(
-    places: &mut Vec<usize>,
-    hint: &mut usize,
-    entries: &[ContactEntry],
-    contact: Option<NumberedContact>,
-) -> Result<(), Refusal>
-    requires rising { AreKeysRising entries.now }
-    ensures pushed { OnOk result (ArePushed (IsPlaceOf entries.now contact) places.old.items places.new.items) }
-    ensures memory_only { IsOkUnless result Refusal.NoMemory }
-{
-    if let Some(contact) = contact {
-        *hint = seek_next(entries, *hint, contact.key);
-        push_place(places, has_key(entries.get(*hint), contact.key), *hint)?;
-    }
-    Ok(())
-}
-
-/// Adds the places in a list of the contacts that have the body in a slot on one side.
-fn push_side(
-    places: &mut Vec<usize>,
-    entries: &[ContactEntry],
-    numbers: &NumberBook,
-    side: Side,
-    slot: u32,
-) -> Result<(), Refusal>
-    requires rising { AreKeysRising entries.now }
-    requires book { IsBook numbers.now }
-    ensures pushed { OnOk result (ArePushed (IsPlaceOn entries.now numbers.now.contacts.items side slot) places.old.items places.new.items) }
-    ensures memory_only { IsOkUnless result Refusal.NoMemory }
-{
-    numbers.ends.know_once();
-    let mut hint = 0;
-    let mut next = numbers.ends.first_at(side, slot);
-    while let Some(number) = next {
-        push_place_of(places, &mut hint, entries, numbers.contact(number))?;
-        next = numbers.ends.behind(side, number);
-    }
-    Ok(())
-}
-
-/// Lists the places in a list of the contacts of the bodies in these slots, one body after the other.
-fn push_places(
-    places: &mut Vec<usize>,
-    slots: &[u32],
-    entries: &[ContactEntry],
-    numbers: &NumberBook,
-) -> Result<(), Refusal>
-    requires rising { AreKeysRising entries.now }
-    requires book { IsBook numbers.now }
-    ensures pushed { OnOk result ((place : ℕ) → Contains places.new.items place ↔ IsPlaceOfOne entries.now numbers.now.contacts.items slots.now place) }
-    ensures memory_only { IsOkUnless result Refusal.NoMemory }
-{
-    places.clear();
-    for place in 0..slots.len() {
-        push_side(places, entries, numbers, Side::First, slots[place])?;
-        push_side(places, entries, numbers, Side::Second, slots[place])?;
-    }
-    Ok(())
-}
-
-/// Lists the places in a list of the contacts of the bodies in these slots, ascending.
-fn gather_places(
-    places: &mut Vec<usize>,
-    slots: &[u32],
-    entries: &[ContactEntry],
-    numbers: &NumberBook,
-) -> Result<(), Refusal>
-    requires rising { AreKeysRising entries.now }
-    requires book { IsBook numbers.now }
-    ensures rising { OnOk result (IsStrictlyIncreasing places.new.items) }
-    ensures listed { OnOk result ((place : ℕ) → Contains places.new.items place ↔ IsPlaceOfOne entries.now numbers.now.contacts.items slots.now place) }
-    ensures memory_only { IsOkUnless result Refusal.NoMemory }
-{
-    push_places(places, slots, entries, numbers)?;
-    places.sort_unstable();
-    places.dedup();
-    Ok(())
-}
-
-/// Lists the places of those contacts of which a body may stir: where few are flagged, that takes a search for each of
-/// their contacts.
-fn list_places(
-    places: &mut Vec<usize>,
-    flags: &[bool],
-    flagged: &[u32],
-    contacts: &SplitContacts,
-    numbers: &NumberBook,
-) -> Result<(), Refusal>
-    requires flagged { AreFlagsListed flags.now flagged.now }
-    requires book { IsBook numbers.now }
-    requires numbered { AreNumbered (contacts_in contacts.now) numbers.now.contacts.items }
-    ensures listed { OnOk result (AreStirring flags.now contacts.now places.new.items) }
-    ensures memory_only { IsOkUnless result Refusal.NoMemory }
-{
-    if flagged.len() < contacts.long().len() / FEW_FLAGGED && numbers.ends.bodies() <= flags.len() {
-        return gather_places(places, flagged, contacts.long(), numbers);
-    }
-    scan_places(places, flags, contacts.long())
 }
 
 /// How many slots are those of bodies that stir, or are marked; some may count twice.

@@ -26,7 +26,7 @@ use crate::forbidden::ForbiddenPairs;
 use crate::noting::{note_ended, note_fresh, note_touches};
 use crate::pending_update::{PendingUpdate, Touches};
 use crate::rebuild::{Rebuilt, rebuild};
-use crate::stirring::is_one_flagged;
+use crate::stirring_flags::is_one_flagged;
 use crate::survey::Looked;
 use contacts_base::{ContactEntry, ContactKey, Renewal, ShortList, SplitContacts, merge};
 use fixed_geom::Refusal;

@@ -1,6 +1,6 @@
 use Rattle.std.proofs.Common.{arith, rules}
 use Rattle.contacts.proofs.StirringLaws.{quiet_if}
-use Rattle.contacts.proofs.stirring.are_complete.Goals as goal
+use Rattle.contacts.proofs.stirring_flags.are_complete.Goals as goal
 
 pub returns : goal.returns
 returns g c = λ t.

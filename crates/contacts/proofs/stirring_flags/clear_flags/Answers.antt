@@ -1,6 +1,6 @@
 use Rattle.std.proofs.Common.{length, ◌∙◌}
 use Rattle.contacts.proofs.FlaggedLaws.{none_flagged, none_resized}
-use Rattle.contacts.proofs.stirring.clear_flags.Goals as goal
+use Rattle.contacts.proofs.stirring_flags.clear_flags.Goals as goal
 
 pub returns-in_err-resize-clause-flagged : goal.returns-in_err-resize-clause-flagged
 returns-in_err-resize-clause-flagged c =

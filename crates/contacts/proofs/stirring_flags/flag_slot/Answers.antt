@@ -1,7 +1,7 @@
 use Rattle.std.proofs.Common.{sym, ap, ◌∙◌}
 use Rattle.contacts.specs.Stirring.{is_flagged}
 use Rattle.contacts.proofs.FlaggedLaws.{flag_more}
-use Rattle.contacts.proofs.stirring.flag_slot.Goals as goal
+use Rattle.contacts.proofs.stirring_flags.flag_slot.Goals as goal
 
 pub returns-in_ok-push-clause-flagged : goal.returns-in_ok-push-clause-flagged
 returns-in_ok-push-clause-flagged c =

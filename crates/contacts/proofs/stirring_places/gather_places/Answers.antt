@@ -1,7 +1,7 @@
 use Rattle.std.proofs.Common.{eqb}
 use Rattle.std.proofs.lemmas.List.Filters.{dedup_is}
 use Rattle.contacts.proofs.FlaggedLaws.{once_same, once_up}
-use Rattle.contacts.proofs.stirring.gather_places.Goals as goal
+use Rattle.contacts.proofs.stirring_places.gather_places.Goals as goal
 
 pub returns-clause-rising : goal.returns-clause-rising
 returns-clause-rising c = once_up c.push_places.new.places.items c.sort_unstable.new.self.items c.dedup.new.self.items (record { moved = c.sort_unstable.ensures.permutation; line = c.sort_unstable.ensures.sorted; once = dedup_is eqb _ _ c.dedup.ensures.filtered })

@@ -3,7 +3,7 @@ use Rattle.std.specs.List.{Contains}
 use Rattle.contacts_base.specs.declared.contact.ContactEntry.{ContactEntry}
 use Rattle.contacts.specs.StirringPlaces.{IsPlaceOfOne}
 use Rattle.contacts.proofs.FlaggedLaws.{gathered_are, on_ok_both}
-use Rattle.contacts.proofs.stirring.list_places.Goals as goal
+use Rattle.contacts.proofs.stirring_places.list_places.Goals as goal
 
 pub returns-then-bodies-flags-clause-listed : goal.returns-then-bodies-flags-clause-listed
 returns-then-bodies-flags-clause-listed c =

@@ -1,5 +1,5 @@
 use Rattle.contacts.proofs.PlaceLaws.{place_pushed}
-use Rattle.contacts.proofs.stirring.push_place_of.Goals as goal
+use Rattle.contacts.proofs.stirring_places.push_place_of.Goals as goal
 
 pub returns-in_ok-push_place-clause-pushed : goal.returns-in_ok-push_place-clause-pushed
 returns-in_ok-push_place-clause-pushed c =

@@ -1,7 +1,7 @@
 use Rattle.std.proofs.Common.{refl}
 use Rattle.std.proofs.lemmas.List.{take_all}
 use Rattle.contacts.proofs.PlaceLaws.{places_begin, places_more}
-use Rattle.contacts.proofs.stirring.push_places.Goals as goal
+use Rattle.contacts.proofs.stirring_places.push_places.Goals as goal
 
 pub loop-place-init : goal.loop-place-init
 loop-place-init c = places_begin c.args.entries.now c.args.numbers.now.contacts.items c.clear.new.self.items c.clear.ensures.items

@@ -4,7 +4,7 @@ use Rattle.contacts.specs.Ends.{ends_on}
 use Rattle.contacts.specs.StirringPlaces.{ArePushed, IsPlaceOf}
 use Rattle.contacts.proofs.PlaceLaws.{side_begins, side_fewer, side_goes, side_over, thread_once}
 use Rattle.packed_sets.specs.Packs.{list_at}
-use Rattle.contacts.proofs.stirring.push_side.Goals as goal
+use Rattle.contacts.proofs.stirring_places.push_side.Goals as goal
 
 pub loop-next-init : goal.loop-next-init
 loop-next-init c = side_begins (list_at (ends_on c.args.side c.args.numbers.now.ends).sets c.args.slot) c.first_at-next.result c.args.entries.now c.args.numbers.now.contacts.items c.args.places.now.items c.first_at-next.ensures

@@ -1,6 +1,6 @@
 use Rattle.std.proofs.Common.{arith}
 use Rattle.contacts.proofs.NumberBookLaws.{free_fewer, given_within, released}
-use Rattle.contacts.proofs.number_book.release.Goals as goal
+use Rattle.contacts.proofs.number_book.changing.release.Goals as goal
 
 pub index_mut-requires : goal.index_mut-requires
 index_mut-requires c = let lt = given_within c.args.contacts.now.items c.args.number c.requires.given in omega (arith, lt, c.args.contacts.now.ok.0)

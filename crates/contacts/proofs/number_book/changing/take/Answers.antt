@@ -8,7 +8,7 @@ use Rattle.contacts.specs.declared.number_book.NumberedContact.{NumberedContact}
 use Rattle.contacts.specs.Numbered.{contact_at}
 use Rattle.contacts.specs.NumberBooks.{AreFree}
 use Rattle.contacts.proofs.NumberBookLaws.{contact_is, last_taken, next_taken}
-use Rattle.contacts.proofs.number_book.take.Goals as goal
+use Rattle.contacts.proofs.number_book.changing.take.Goals as goal
 
 -- the number that was let go last is free
 record IsLast (contacts : List (Option NumberedContact)) (number : ℕ) : Type 0 where

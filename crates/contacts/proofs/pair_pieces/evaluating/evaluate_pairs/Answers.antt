@@ -1,5 +1,5 @@
 use Rattle.contacts.proofs.PairPieceLaws.{are_contacts, shown_begin, shown_made, shown_now}
-use Rattle.contacts.proofs.pair_pieces.evaluate_pairs.Goals as goal
+use Rattle.contacts.proofs.pair_pieces.evaluating.evaluate_pairs.Goals as goal
 
 pub returns-clause-now : goal.returns-clause-now
 returns-clause-now g c = shown_now c.in_ok-present.present c.args.old.now.long c.args.proxies.now.items c.args.near.now.items c.in_ok-present.ensures.present
