@@ -3,16 +3,18 @@ use Rattle.std.specs.Prelude.{◌≡◌, ℕ, Bool, true, List, Option}
 use Rattle.contacts_base.specs.declared.contact.ContactEntry.{ContactEntry}
 use Rattle.contacts_base.specs.declared.near.Proxy.{Proxy}
 use Rattle.contacts_base.specs.Proxies.{IsProxyList}
-use Rattle.contacts_base.specs.Split.{contacts_in}
+use Rattle.contacts_base.specs.Split.{Split, contacts_in}
 use Rattle.contacts.specs.declared.forbidden.BodyPair.{BodyPair}
 use Rattle.contacts.specs.declared.pending_update.Touches.{Touches}
 use Rattle.contacts.specs.ChangedKeys.{AreRising}
 use Rattle.contacts.specs.declared.ends.Side.{Side}
 use Rattle.contacts.specs.declared.ends.Side.TheVariants.{First, Second}
+use Rattle.contacts.specs.declared.collide_memory.CollideState.{CollideState}
+use Rattle.contacts.specs.declared.number_book.NumberBook.{NumberBook}
 use Rattle.contacts.specs.declared.number_book.NumberedContact.{NumberedContact}
 use Rattle.contacts.specs.Numbered.{AreNumbered}
 use Rattle.contacts.specs.NumberBooks.{HasRoomFor, IsBook}
-use Rattle.contacts.specs.PendingUpdates.{IsPendingUpdate}
+use Rattle.contacts.specs.PendingUpdates.{IsNothing, IsPendingUpdate}
 use Rattle.contacts.specs.Known.{IsKnown}
 use Rattle.contacts.specs.Stirring.{AreHeld}
 use Rattle.contacts.specs.Fates.{AreWithin, IsMade, moved_by}
@@ -51,6 +53,19 @@ pub record CanCollide (ps : List Proxy) (marks : List Bool) (forbidden : List Bo
   pub shapes : IsProxyList ps
   pub within : AreWithin marks ps
   pub known : IsKnown (moved_by marks) forbidden ps contacts
+
+-- what is kept beside the contacts before a collide: the places of those of which a body may stir, nothing that is
+-- pending, and a number for each contact
+pub record IsIdle (state : CollideState) (contacts : Split) (numbers : NumberBook) : Type 0 where
+  pub held : AreHeld state.memory.stirring contacts
+  pub nothing : IsNothing state.pending
+  pub book : IsBook numbers
+  pub numbered : AreNumbered (contacts_in contacts) numbers.contacts.items
+
+-- the contacts are as they were, in lists for which what is kept beside them holds
+pub record KeepContacts (state : CollideState) (old new : Split) : Type 0 where
+  pub contacts : contacts_in new ≡ contacts_in old
+  pub held : AreHeld state.memory.stirring new
 
 -- what a collide makes of the contacts, and what touches by it, which ascends
 pub record IsMadeOf (ps : List Proxy) (forbidden : List BodyPair) (old now : List ContactEntry) (t : Touches) : Type 0 where

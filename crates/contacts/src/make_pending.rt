@@ -3,11 +3,9 @@
 ghost use Rattle.std.specs.Prelude.{◌≡◌, IfOk, OnErr, OnOk, true};
 ghost use Rattle.std.specs.Result.{IsOkUnless};
 ghost use Rattle.contacts_base.specs.Split.{contacts_in};
-ghost use Rattle.contacts.specs.Numbered.{AreNumbered};
 ghost use Rattle.contacts.specs.NumberBooks.{HasRoomFor, IsBook, KeepBook};
-ghost use Rattle.contacts.specs.PendingUpdates.{IsPendingUpdate, IsNothing, pending_contacts};
-ghost use Rattle.contacts.specs.Stirring.{AreHeld};
-ghost use Rattle.contacts.specs.Kept.{CanCollide, IsMadeOf};
+ghost use Rattle.contacts.specs.PendingUpdates.{IsPendingUpdate, pending_contacts};
+ghost use Rattle.contacts.specs.Kept.{CanCollide, IsIdle, IsMadeOf, KeepContacts};
 
 use crate::by_marks::make_by_marks;
 use crate::by_sweep::{is_sweep_wanted, make_by_sweep};
@@ -37,15 +35,11 @@ fn make_pending<
     numbers: &NumberBook,
 ) -> Result<Touches, Refusal>
     requires can { CanCollide (S.proxies shapes.old) (S.marks shapes.old) (F.pairs forbidden.old) (contacts_in contacts.old) }
-    requires held { AreHeld state.old.memory.stirring contacts.old }
-    requires nothing { IsNothing state.old.pending }
+    requires idle { IsIdle state.old contacts.old numbers.now }
     requires any { state.old.pending.any ≡ true }
-    requires book { IsBook numbers.now }
-    requires numbered { AreNumbered (contacts_in contacts.old) numbers.now.contacts.items }
     ensures shapes { shapes.new ≡ shapes.old }
     ensures forbidden { forbidden.new ≡ forbidden.old }
-    ensures contacts { contacts_in contacts.new ≡ contacts_in contacts.old }
-    ensures held { AreHeld state.new.memory.stirring contacts.new }
+    ensures contacts { KeepContacts state.new contacts.old contacts.new }
     ensures pending { OnOk result (IsPendingUpdate state.new.pending contacts.new) }
     ensures made { IfOk result (IsMadeOf (S.proxies shapes.old) (F.pairs forbidden.old) (contacts_in contacts.old) (pending_contacts state.new.pending contacts.new)) }
     ensures any { state.new.pending.any ≡ true }
@@ -80,15 +74,11 @@ fn make_with_room<
     numbers: &mut NumberBook,
 ) -> Result<Touches, Refusal>
     requires can { CanCollide (S.proxies shapes.old) (S.marks shapes.old) (F.pairs forbidden.old) (contacts_in contacts.old) }
-    requires held { AreHeld state.old.memory.stirring contacts.old }
-    requires nothing { IsNothing state.old.pending }
+    requires idle { IsIdle state.old contacts.old numbers.old }
     requires any { state.old.pending.any ≡ true }
-    requires book { IsBook numbers.old }
-    requires numbered { AreNumbered (contacts_in contacts.old) numbers.old.contacts.items }
     ensures shapes { shapes.new ≡ shapes.old }
     ensures forbidden { forbidden.new ≡ forbidden.old }
-    ensures contacts { contacts_in contacts.new ≡ contacts_in contacts.old }
-    ensures held { AreHeld state.new.memory.stirring contacts.new }
+    ensures contacts { KeepContacts state.new contacts.old contacts.new }
     ensures pending { OnOk result (IsPendingUpdate state.new.pending contacts.new) }
     ensures made { IfOk result (IsMadeOf (S.proxies shapes.old) (F.pairs forbidden.old) (contacts_in contacts.old) (pending_contacts state.new.pending contacts.new)) }
     ensures any { state.new.pending.any ≡ true }
@@ -116,14 +106,10 @@ pub(crate) fn make_or_clear<
     numbers: &mut NumberBook,
 ) -> Result<Touches, Refusal>
     requires can { CanCollide (S.proxies shapes.old) (S.marks shapes.old) (F.pairs forbidden.old) (contacts_in contacts.old) }
-    requires held { AreHeld state.old.memory.stirring contacts.old }
-    requires nothing { IsNothing state.old.pending }
-    requires book { IsBook numbers.old }
-    requires numbered { AreNumbered (contacts_in contacts.old) numbers.old.contacts.items }
+    requires idle { IsIdle state.old contacts.old numbers.old }
     ensures shapes { shapes.new ≡ shapes.old }
     ensures forbidden { forbidden.new ≡ forbidden.old }
-    ensures contacts { contacts_in contacts.new ≡ contacts_in contacts.old }
-    ensures held { AreHeld state.new.memory.stirring contacts.new }
+    ensures contacts { KeepContacts state.new contacts.old contacts.new }
     ensures pending { IsPendingUpdate state.new.pending contacts.new }
     ensures numbers { KeepBook numbers.old numbers.new }
     ensures book { IsBook numbers.new }
