@@ -14,16 +14,16 @@ mod changes;
 mod given;
 pub mod laws;
 mod slept;
+mod standing;
 mod ties;
 mod timers;
 
 pub use begin_and_end::{begin_with, end_with};
 pub use beside::list_joined;
-pub use census::{
-    Census, Item, SleepingSet, standing_by_key, standing_of_contact, standing_of_joint, take_census,
-};
+pub use census::{Census, Item, SleepingSet, take_census};
 pub use changes::list_changes;
 pub use given::{count_members, list_all_ties, list_members};
 pub use slept::{fill_newly_asleep, fill_newly_awake};
+pub use standing::{standing_by_key, standing_of_contact, standing_of_joint};
 pub use ties::{contact_movers, is_mover_at, joint_movers, joint_tie, movers_with, tie_with};
 pub use timers::{fill_awake_timers, is_moving_at};
