@@ -8,8 +8,9 @@ ghost use Rattle.serde_json.specs.View.{view};
 
 use crate::clause::Clause;
 use crate::members::{Members, id_value};
-use crate::reader::{Reader, field, has_keys};
+use crate::reader::Reader;
 use crate::saved::SavedJoint;
+use crate::values::{field, has_keys};
 use crate::version::{Version, colour_value, read_colour};
 use body_handles::{Handle, SlotEntry};
 use fixed_geom::Refusal;

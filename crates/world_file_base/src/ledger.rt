@@ -15,7 +15,8 @@ ghost use Rattle.serde_json.specs.View.{view};
 
 use crate::clause::Clause;
 use crate::members::{Members, decimal_value, pair_value};
-use crate::reader::{Reader, field, has_keys_in, item_at};
+use crate::reader::Reader;
+use crate::values::{field, has_keys_in, item_at};
 use fixed_geom::Refusal;
 use impulse_ledger::{MAX_TOTAL, Total, Totals};
 use serde_json::Value;

@@ -1,59 +1,40 @@
 //! What is wrong with a value, and the values of one key.
 
-ghost use Rattle.std.specs.Prelude.{◌≡◌, ◌-◌, ◌<◌, ◌≤◌, ◌==◌, ◌^◌, Some, None, cond, is_some, length, IfOk, IfErr, MatchResult, negsuc, pos};
-ghost use Rattle.serde_json.specs.Find.{get, get_item};
-ghost use Rattle.serde_json.specs.View.{items_view, view};
+mod lists;
+
+ghost use Rattle.std.specs.Prelude.{◌≡◌, ◌-◌, ◌<◌, ◌≤◌, ◌^◌, Some, None, IfOk, IfErr};
 ghost use Rattle.world_file_base.specs.Asks.{asked, broken_up_to, no_asks, noted};
 ghost use Rattle.world_file_base.specs.Reading.{
-  corners_in,
-  first_in,
   group_in,
-  greatest_group,
-  least_group,
-  has_keys_in,
-  has_keys,
-  is_null,
   island_in,
-  items_in,
   number_in,
-  second_item,
   seen,
   signed_in,
   text_in,
   truth_in,
   unsigned_in,
-  vector_in,
-  vector_within,
   whole_in,
-  whole_of,
-  natural_of,
 };
 ghost use Rattle.world_file_base.specs.AskedValues.{
-  ends_asks,
   group_asks,
   island_asks,
-  list_asks,
   number_asks,
-  pair_asks,
   signed_asks,
   text_asks,
   truth_asks,
   unsigned_asks,
-  vector_asks,
-  vector_within_asks,
   whole_asks,
   decimal_asks,
   handle_asks,
 };
-ghost use Rattle.shapes.specs.Shapes.{is_between};
 ghost use Rattle.world_file_base.specs.Texts.{decimal_in, handle_in, handle_of_text};
-ghost use Rattle.world_file_base.specs.declared.clause.Clause.TheVariants.{Form, Limits};
 ghost use Rattle.world_file_base.specs.declared.clause.Broken.TheVariants.{Clause as BrokenClause};
 
 use crate::clause::{Broken, Clause};
 use crate::decimals::{is_number, sized_number};
+use crate::ranges::{group_within, is_between, is_group, natural_of, within};
+use crate::values::{is_null, whole_of};
 use body_handles::{Handle, NO_HANDLE, handle_of};
-use fixed_geom::{Box2, Vec2, ZERO_VECTOR, is_within};
 use serde_json::Value;
 
 /// Reads the values of keys, and keeps the first clause that any of them breaks. What is read in place of a value that
@@ -61,60 +42,6 @@ use serde_json::Value;
 #[derive(Clone, Copy)]
 pub struct Reader {
     pub broken: Option<Clause>,
-}
-
-/// The value of a key of an object.
-pub fn field<'a>(value: &'a Value, key: &str) -> Option<&'a Value>
-    ensures { seen result ≡ get key.now (view value.now) }
-{
-    value.get(key)
-}
-
-/// Whether a value is an object of so many keys.
-pub fn has_keys(value: &Value, count: usize) -> bool
-    ensures { result ≡ has_keys count (view value.now) }
-{
-    match value.as_object() {
-        Some(members) => members.len() == count,
-        None => false,
-    }
-}
-
-/// Whether there is a value, and it is an object of so many keys.
-pub(crate) fn has_keys_in(value: Option<&Value>, count: usize) -> bool
-    ensures { result ≡ has_keys_in count (seen value.entry) }
-{
-    match value {
-        Some(value) => has_keys(value, count),
-        None => false,
-    }
-}
-
-/// Whether there is a value, and it is null.
-pub(crate) fn is_null(value: Option<&Value>) -> bool
-    ensures { result ≡ is_null (seen value.entry) }
-{
-    match value {
-        Some(value) => value.is_null(),
-        None => false,
-    }
-}
-
-/// An item of a list.
-pub(crate) fn item_at(items: &[Value], place: usize) -> Option<&Value>
-    ensures { seen result ≡ get_item place (items_view items.now) }
-{
-    if place < items.len() {
-        Some(&items[place])
-    } else {
-        None
-    }
-}
-
-fn whole_of(value: Option<&Value>) -> Option<i128>
-    ensures { result ≡ whole_of (seen value.entry) }
-{
-    value?.as_number()?.as_i128()
 }
 
 impl Reader {
@@ -290,73 +217,12 @@ impl Reader {
         }
     }
 
-    /// The items of a list.
-    pub fn list<'a>(&mut self, value: Option<&'a Value>) -> &'a [Value]
-        ensures value { items_view result.now ≡ items_in (seen value.entry) }
-        ensures asked { self.new ≡ list_asks (seen value.entry) self.old }
-    {
-        match value.and_then(Value::as_array) {
-            Some(items) => items.as_slice(),
-            None => {
-                self.note(Clause::Form);
-                &[]
-            }
-        }
-    }
-
-    /// The items of a list of two.
-    pub fn pair<'a>(&mut self, value: Option<&'a Value>) -> &'a [Value]
-        ensures value { items_view result.now ≡ items_in (seen value.entry) }
-        ensures asked { self.new ≡ pair_asks (seen value.entry) self.old }
-    {
-        let items = self.list(value);
-        self.ask(items.len() == 2, Clause::Form);
-        items
-    }
-
     /// A number of 64 bits with a sign.
     pub fn number(&mut self, value: Option<&Value>) -> i64
         ensures value { result ≡ number_in (seen value.entry) }
         ensures asked { self.new ≡ number_asks (seen value.entry) self.old }
     {
         self.signed(value, i64::MIN, i64::MAX)
-    }
-
-    /// Two numbers of 64 bits with a sign.
-    pub fn vector(&mut self, value: Option<&Value>) -> Vec2
-        ensures value { result ≡ vector_in (seen value.entry) }
-        ensures asked { self.new ≡ vector_asks (seen value.entry) self.old }
-    {
-        let items = self.pair(value);
-        Vec2 {
-            x: self.number(item_at(items, 0)),
-            y: self.number(item_at(items, 1)),
-        }
-    }
-
-    /// Two whole numbers of sizes up to `most`.
-    pub fn vector_within(&mut self, value: Option<&Value>, most: u64) -> Vec2
-        ensures value { result ≡ vector_within most (seen value.entry) }
-        ensures asked { self.new ≡ vector_within_asks most (seen value.entry) self.old }
-    {
-        let vector = self.vector(value);
-        if is_within(vector, most) {
-            return vector;
-        }
-        self.note(Clause::Limits);
-        ZERO_VECTOR
-    }
-
-    /// A box by its two corners.
-    pub fn corners(&mut self, value: Option<&Value>, most: u64) -> Box2
-        ensures value { result ≡ corners_in most (seen value.entry) }
-        ensures asked { self.new ≡ ends_asks most (seen value.entry) self.old }
-    {
-        let items = self.pair(value);
-        Box2 {
-            lo: self.vector_within(item_at(items, 0), most),
-            hi: self.vector_within(item_at(items, 1), most),
-        }
     }
 }
 
@@ -377,48 +243,4 @@ fn narrow(handle: Handle) -> Handle
     ensures generation { handle.generation < 2 ^ 32 }
 {
     handle
-}
-
-/// Whether a number is from `low` to `high`.
-fn is_between(number: i128, low: i64, high: i64) -> bool
-    ensures { result ≡ is_between low high number }
-{
-    i128::from(low) <= number && number <= i128::from(high)
-}
-
-/// A number from `low` to `high`: `low` in place of any other.
-fn within(number: i128, low: i64, high: i64) -> i64
-    ensures { result ≡ cond (is_between low high number) number low }
-{
-    match i64::try_from(number) {
-        Ok(number) if low <= number && number <= high => number,
-        _ => low,
-    }
-}
-
-/// Whether 32 bits hold a number.
-fn is_group(number: i128) -> bool
-    ensures { result ≡ is_between least_group greatest_group number }
-{
-    i128::from(i32::MIN) <= number && number <= i128::from(i32::MAX)
-}
-
-/// A number that 32 bits hold: the least in place of any other.
-fn group_within(number: i128) -> i32
-    ensures { result ≡ cond (is_between least_group greatest_group number) number least_group }
-{
-    match i32::try_from(number) {
-        Ok(number) => number,
-        Err(_) => i32::MIN,
-    }
-}
-
-/// A number without a sign, up to `high`.
-fn natural_of(number: i128, high: u64) -> Option<u64>
-    ensures { result ≡ natural_of high number }
-{
-    match u64::try_from(number) {
-        Ok(number) if number <= high => Some(number),
-        _ => None,
-    }
 }

@@ -38,8 +38,9 @@ ghost use Rattle.serde_json.specs.View.{items_view, view};
 use crate::clause::{Broken, Clause};
 use crate::counts::{count, lesser};
 use crate::members::{Members, array_value, pair_value};
-use crate::reader::{Reader, field, has_keys, item_at};
+use crate::reader::Reader;
 use crate::saved::SavedContact;
+use crate::values::{field, has_keys, item_at};
 use crate::version::{Version, colour_value, read_colour};
 use contacts_base::{
     ContactEntry, ContactKey, ContactPoint, MAX_NORMAL, MAX_NORMAL_IMPULSE, MAX_OFFSET,

@@ -30,7 +30,8 @@ ghost use Rattle.serde_json.specs.View.{view};
 
 use crate::clause::Clause;
 use crate::members::{Members, corners_value, ends_value};
-use crate::reader::{Reader, field, has_keys, item_at};
+use crate::reader::Reader;
+use crate::values::{field, has_keys, item_at};
 use fixed_geom::{Box2, Refusal, Vec2};
 use serde_json::Value;
 use shapes::{Filter, Shape, ShapeDef};

@@ -13,7 +13,8 @@ ghost use Rattle.world_file_base.specs.AskedValues.{colour_asks};
 ghost use Rattle.serde_json.specs.View.{view};
 
 use crate::clause::Clause;
-use crate::reader::{Reader, is_null};
+use crate::reader::Reader;
+use crate::values::is_null;
 use body_handles::MAX_SLOTS;
 use graph_colours::OVERFLOW;
 use serde_json::Value;

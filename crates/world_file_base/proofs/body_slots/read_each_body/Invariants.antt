@@ -2,7 +2,7 @@ use Rattle.std.proofs.Common.{◌≡◌, ◌++◌, drop}
 use Rattle.serde_json.specs.View.{items_view}
 use Rattle.world_file_base.specs.SavedSlots.{bodies_in, body_key, memberships_in, slot_entries_in}
 use Rattle.world_file_base.specs.AskedSlots.{bodies_asks}
-use Rattle.world_file_base.proofs.slots.read_each_body.Given as goal
+use Rattle.world_file_base.proofs.body_slots.read_each_body.Given as goal
 
 abbrev pub invariant-loop-slot : goal.invariant-loop-slot
 invariant-loop-slot l = record {

@@ -1,7 +1,7 @@
 use Rattle.std.proofs.Common.{◌≡◌, ◌++◌, drop, map}
 use Rattle.serde_json.specs.View.{view}
 use Rattle.world_file_base.specs.SavedSlots.{joint_slots}
-use Rattle.world_file_base.proofs.slots.joints_value.Given as goal
+use Rattle.world_file_base.proofs.joint_slots.joints_value.Given as goal
 
 abbrev pub invariant-loop-slot : goal.invariant-loop-slot
 invariant-loop-slot l =

@@ -2,7 +2,7 @@ use Rattle.std.proofs.Common.{map, ap, ◌∙◌, arith}
 use Rattle.serde_json.specs.View.{view}
 use Rattle.world_file_base.specs.Written.{list_data}
 use Rattle.world_file_base.proofs.Listed.{joints_written}
-use Rattle.world_file_base.proofs.slots.joints_value.Goals as goal
+use Rattle.world_file_base.proofs.joint_slots.joints_value.Goals as goal
 
 pub returns-clause-value : goal.returns-clause-value
 returns-clause-value c =
