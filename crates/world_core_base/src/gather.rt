@@ -1,7 +1,6 @@
-//! What a step works on: the bodies by slot, and the joints and the touching contacts in solve order, gathered when it
-//! begins.
+//! The rows of the joints and of the touching contacts in solve order, gathered when a step begins.
 
-ghost use Rattle.std.specs.Prelude.{◌≡◌, ◌<◌, ◌≤◌, ◌≢◌, ◌⊎◌, ◌+◌, ◌^◌, ◌++◌, ◌∷◌, [], All, Option, Some, length, map, option_map, slice_index_or, take};
+ghost use Rattle.std.specs.Prelude.{◌≡◌, ◌<◌, ◌≤◌, ◌+◌, ◌^◌, ◌++◌, [], All, Some, length, map, option_map, slice_index_or, take};
 ghost use Rattle.std.specs.Option.{ForSome, option_to_list};
 ghost use Rattle.contacts_base.specs.Keys.{key_number};
 ghost use Rattle.contacts_base.specs.Split.{contacts_in};
@@ -15,20 +14,18 @@ ghost use Rattle.colour_solver.specs.declared.constraint_row.ConstraintRow.TheVa
 ghost use Rattle.graph_colours.specs.Colours.{all_members};
 ghost use Rattle.graph_colours.specs.Members.{AreRising};
 ghost use Rattle.contacts_base.specs.Surfaces.{IsSurface};
-ghost use Rattle.world_core_base.specs.Gather.{AreContactsOn, IsContactOn, IsContactRowBelow, HasMovable, bodies_of, ends_at, row_in, row_of, state_of};
+ghost use Rattle.world_core_base.specs.Gather.{AreContactsOn, IsContactOn, IsContactRowBelow, HasMovable, bodies_of, ends_at, row_in, row_of};
 ghost use Rattle.world_core_base.specs.ConstraintRows.{HasJointOn, HaveJointsOn, HaveMovable, IsMovable, constraint_row, rows_in, rows_of};
-ghost use Rattle.world_core_base.specs.Carried.{solver_mass, solver_motion};
 
 use crate::joint_row::joint_row_at;
 use colour_solver::Rows;
 use colour_solver_base::{Bodies, ContactRow, contact_row};
 use contacts::Constraint;
 use contacts_base::{ContactKey, Hint, PackedContact, PackedSurface, SplitContacts};
-use fixed_geom::UNIT;
 use graph_colours::{COLOURS, Colours, Member, OVERFLOW};
 use joint_rows::JointRow;
-use momenta::{BodyState, Ends, MassData, Motion, NOBODY, reciprocals_of};
-use plain_world::{Body, BodyJoint};
+use momenta::{BodyState, Ends};
+use plain_world::BodyJoint;
 
 /// What rows are gathered from: the bodies by slot as the solver works on them, and a world's joints and contacts.
 #[derive(Clone, Copy)]
@@ -36,73 +33,6 @@ pub struct RowSources<'a> {
     pub states: &'a [BodyState],
     pub joints: &'a [Option<BodyJoint>],
     pub contacts: &'a SplitContacts,
-}
-
-/// The mass of a body that is carried along: with it the momentum is the velocity itself, and the angular momentum the
-/// spin.
-const CARRIER: MassData = MassData {
-    mass: 1,
-    inertia: UNIT,
-};
-
-/// The mass of a body that stands: it never turns either.
-const STANDING: MassData = MassData {
-    mass: 1,
-    inertia: 0,
-};
-
-/// The body of a slot as the solver works on it; in an empty one, what nothing moves.
-#[inline(always)]
-pub(crate) fn state_of(entry: &Option<Body>) -> BodyState
-    ensures { result ≡ state_of entry.now }
-{
-    match entry {
-        None => NOBODY,
-        Some(body) => body_state(body),
-    }
-}
-
-/// The mass that a body shows the solver.
-fn solver_mass(body: &Body) -> MassData
-    ensures { result ≡ solver_mass body.now }
-{
-    if body.is_awake() {
-        body.mass
-    } else if body.is_carried() {
-        CARRIER
-    } else {
-        STANDING
-    }
-}
-
-/// The motion that a body shows the solver: of one that isn't an awake mover, its course.
-fn solver_motion(body: &Body) -> Motion
-    ensures { result ≡ solver_motion body.now }
-{
-    if body.is_awake() {
-        return body.motion;
-    }
-    let course = body.kind.carried_by();
-    Motion {
-        p: course.velocity,
-        l: i128::from(course.spin),
-        ..body.motion
-    }
-}
-
-/// A body as the solver works on it.
-#[inline(always)]
-pub(crate) fn body_state(body: &Body) -> BodyState
-    ensures { result ≡ state_of (Some body.now) }
-{
-    let mass = solver_mass(body);
-    BodyState {
-        movable: body.is_awake(),
-        mass,
-        motion: solver_motion(body),
-        start: body.motion.x,
-        reciprocals: reciprocals_of(mass),
-    }
 }
 
 /// Which contact it is, and the surface that meets there.

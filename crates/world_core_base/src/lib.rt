@@ -13,6 +13,7 @@
 #![tactic(auto)]
 
 mod asleep;
+mod body_state;
 mod body_table;
 mod contacts_asleep;
 mod covers;

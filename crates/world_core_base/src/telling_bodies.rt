@@ -12,7 +12,7 @@ ghost use Rattle.world_core_base.specs.Gather.{state_of, states_of};
 ghost use Rattle.world_core_base.specs.Listing.{AreListed};
 ghost use Rattle.world_core_base.specs.Telling.{AreToldBeside};
 
-use crate::gather::state_of;
+use crate::body_state::state_of;
 use crate::slot_list::{Group, SlotList};
 use body_handles::MAX_SLOTS;
 use fixed_geom::Vec2;

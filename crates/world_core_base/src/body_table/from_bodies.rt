@@ -4,9 +4,9 @@ ghost use Rattle.std.specs.Prelude.{◌≡◌, ◌≤◌, ℕ, true, IfOk, lengt
 ghost use Rattle.std.specs.Result.{IsOkUnless};
 ghost use Rattle.world_core_base.specs.Gather.{states_of};
 
+use crate::body_state::state_of;
 use crate::body_table::BodyTable;
 use crate::covers::cover_all;
-use crate::gather::state_of;
 use crate::slot_list::{Group, SlotList};
 use body_handles::MAX_SLOTS;
 use fixed_geom::Refusal;
