@@ -18,6 +18,7 @@ mod pen;
 mod reports;
 mod saved_forms;
 mod saved_keys;
+mod saved_object;
 mod saved_paths;
 mod saved_scan;
 mod saved_ways;
