@@ -88,6 +88,20 @@ pub record IsPassed {R : Type 0} (at : R → Slots) (is : R → Type 0) (f : R �
   pub same : AreSameStates before now
   pub momentum : total now ≡ plus (total before) given
 
+-- ---- a visit of one row
+
+-- the visit f of the row r, from the bodies before it on, leaves these bodies and this row, and the movers with so much
+-- more momentum
+pub record IsVisited {R : Type 0} (at : R → Slots) (is : R → Type 0) (f : R → Ends → RowAfter R) (before : List BodyState) (r : R) (now : List BodyState) (visited : R) (given : Vec2) : Type 0 where
+  pub states : now ≡ after at f before r
+  pub row_is : visited ≡ (visit_of at f before r).row
+  pub got_is : given ≡ got (ends_of at before r) (visit_of at f before r).ends
+  pub all_states : AreAllStates now
+  pub below : IsRowOn at is (length now) visited
+  pub long : length now ≡ length before
+  pub same : AreSameStates before now
+  pub momentum : total now ≡ plus (total before) given
+
 -- ---- a visit in 64 bits
 
 -- the visit t has left the row r, and the bodies a and b with the momenta n

@@ -2,9 +2,8 @@
 
 ghost use Rattle.std.specs.Prelude.{◌≡◌, ◌^◌, ◌<◌, None, length, IfSome};
 ghost use Rattle.momenta.specs.Gains.{IsGain};
-ghost use Rattle.fixed_geom.specs.Vectors.{plus};
-ghost use Rattle.colour_solver.specs.States.{AreAllStates, AreSameStates, as_vector, total};
-ghost use Rattle.colour_solver.specs.RowVisits.{IsCentreVisit64, IsRowOn, IsVisit64, after, ends_of, got, visit_of};
+ghost use Rattle.colour_solver.specs.States.{AreAllStates, as_vector};
+ghost use Rattle.colour_solver.specs.RowVisits.{IsCentreVisit64, IsRowOn, IsVisit64, IsVisited, ends_of, visit_of};
 
 use crate::write_back::{got, put_centres, put_momenta, put_visit};
 use crate::{Row, Slots, Visit};
@@ -17,14 +16,7 @@ use momenta::{BodyState, Ends, Gain, MomentaPair64, NOTHING};
 fn visit_bodies<R: Row, T: Visit<R>>(states: &mut Vec<BodyState>, row: &mut R, visit: &T) -> Gain
     requires states { AreAllStates states.old.items }
     requires row { IsRowOn R.slots R.is_row (length states.old.items) row.old }
-    ensures states { states.new.items ≡ after R.slots (T.visit visit.now) states.old.items row.old }
-    ensures row { row.new ≡ (visit_of R.slots (T.visit visit.now) states.old.items row.old).row }
-    ensures got { as_vector result ≡ got (ends_of R.slots states.old.items row.old) (visit_of R.slots (T.visit visit.now) states.old.items row.old).ends }
-    ensures all_states { AreAllStates states.new.items }
-    ensures below { IsRowOn R.slots R.is_row (length states.new.items) row.new }
-    ensures long { length states.new.items ≡ length states.old.items }
-    ensures same { AreSameStates states.old.items states.new.items }
-    ensures momentum { total states.new.items ≡ plus (total states.old.items) (as_vector result) }
+    ensures visited { IsVisited R.slots R.is_row (T.visit visit.now) states.old.items row.old states.new.items row.new (as_vector result) }
     ensures small { IsGain (2 ^ 62) result }
 {
     let slots = row.slots();
@@ -64,14 +56,7 @@ fn visit_row_64<R: Row, T: Visit<R>>(
 fn visit_in_place<R: Row, T: Visit<R>>(states: &mut Vec<BodyState>, row: &mut R, visit: &T) -> Gain
     requires states { AreAllStates states.old.items }
     requires row { IsRowOn R.slots R.is_row (length states.old.items) row.old }
-    ensures states { states.new.items ≡ after R.slots (T.visit visit.now) states.old.items row.old }
-    ensures row { row.new ≡ (visit_of R.slots (T.visit visit.now) states.old.items row.old).row }
-    ensures got { as_vector result ≡ got (ends_of R.slots states.old.items row.old) (visit_of R.slots (T.visit visit.now) states.old.items row.old).ends }
-    ensures all_states { AreAllStates states.new.items }
-    ensures below { IsRowOn R.slots R.is_row (length states.new.items) row.new }
-    ensures long { length states.new.items ≡ length states.old.items }
-    ensures same { AreSameStates states.old.items states.new.items }
-    ensures momentum { total states.new.items ≡ plus (total states.old.items) (as_vector result) }
+    ensures visited { IsVisited R.slots R.is_row (T.visit visit.now) states.old.items row.old states.new.items row.new (as_vector result) }
     ensures small { IsGain (2 ^ 62) result }
 {
     let slots = row.slots();
@@ -86,14 +71,7 @@ fn visit_in_place<R: Row, T: Visit<R>>(states: &mut Vec<BodyState>, row: &mut R,
 fn visit_others<R: Row, T: Visit<R>>(states: &mut Vec<BodyState>, row: &mut R, visit: &T) -> Gain
     requires states { AreAllStates states.old.items }
     requires row { IsRowOn R.slots R.is_row (length states.old.items) row.old }
-    ensures states { states.new.items ≡ after R.slots (T.visit visit.now) states.old.items row.old }
-    ensures row { row.new ≡ (visit_of R.slots (T.visit visit.now) states.old.items row.old).row }
-    ensures got { as_vector result ≡ got (ends_of R.slots states.old.items row.old) (visit_of R.slots (T.visit visit.now) states.old.items row.old).ends }
-    ensures all_states { AreAllStates states.new.items }
-    ensures below { IsRowOn R.slots R.is_row (length states.new.items) row.new }
-    ensures long { length states.new.items ≡ length states.old.items }
-    ensures same { AreSameStates states.old.items states.new.items }
-    ensures momentum { total states.new.items ≡ plus (total states.old.items) (as_vector result) }
+    ensures visited { IsVisited R.slots R.is_row (T.visit visit.now) states.old.items row.old states.new.items row.new (as_vector result) }
     ensures small { IsGain (2 ^ 62) result }
 {
     visit_in_place(states, row, visit)
@@ -120,14 +98,7 @@ fn are_turned_by_reciprocals(states: &[BodyState], slots: Slots) -> bool
 fn visit_turning<R: Row, T: Visit<R>>(states: &mut Vec<BodyState>, row: &mut R, visit: &T) -> Gain
     requires states { AreAllStates states.old.items }
     requires row { IsRowOn R.slots R.is_row (length states.old.items) row.old }
-    ensures states { states.new.items ≡ after R.slots (T.visit visit.now) states.old.items row.old }
-    ensures row { row.new ≡ (visit_of R.slots (T.visit visit.now) states.old.items row.old).row }
-    ensures got { as_vector result ≡ got (ends_of R.slots states.old.items row.old) (visit_of R.slots (T.visit visit.now) states.old.items row.old).ends }
-    ensures all_states { AreAllStates states.new.items }
-    ensures below { IsRowOn R.slots R.is_row (length states.new.items) row.new }
-    ensures long { length states.new.items ≡ length states.old.items }
-    ensures same { AreSameStates states.old.items states.new.items }
-    ensures momentum { total states.new.items ≡ plus (total states.old.items) (as_vector result) }
+    ensures visited { IsVisited R.slots R.is_row (T.visit visit.now) states.old.items row.old states.new.items row.new (as_vector result) }
     ensures small { IsGain (2 ^ 62) result }
 {
     let slots = row.slots();
@@ -161,14 +132,7 @@ fn visit_row_centres_64<R: Row, T: Visit<R>>(
 pub fn solve_one<R: Row, T: Visit<R>>(states: &mut Vec<BodyState>, row: &mut R, visit: &T) -> Gain
     requires states { AreAllStates states.old.items }
     requires row { IsRowOn R.slots R.is_row (length states.old.items) row.old }
-    ensures states { states.new.items ≡ after R.slots (T.visit visit.now) states.old.items row.old }
-    ensures row { row.new ≡ (visit_of R.slots (T.visit visit.now) states.old.items row.old).row }
-    ensures got { as_vector result ≡ got (ends_of R.slots states.old.items row.old) (visit_of R.slots (T.visit visit.now) states.old.items row.old).ends }
-    ensures all_states { AreAllStates states.new.items }
-    ensures below { IsRowOn R.slots R.is_row (length states.new.items) row.new }
-    ensures long { length states.new.items ≡ length states.old.items }
-    ensures same { AreSameStates states.old.items states.new.items }
-    ensures momentum { total states.new.items ≡ plus (total states.old.items) (as_vector result) }
+    ensures visited { IsVisited R.slots R.is_row (T.visit visit.now) states.old.items row.old states.new.items row.new (as_vector result) }
     ensures small { IsGain (2 ^ 62) result }
 {
     if visit.is_idle(row) {

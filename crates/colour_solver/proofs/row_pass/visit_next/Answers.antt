@@ -13,8 +13,8 @@ returns-then-are_movers-clause-passed g c =
     let f = g.T.Visit.visit c.args.visit.now in
     let ss = c.args.states.now.items in
     let r = c.args.row.now in
-    let made = c.solve_one.ensures in
-    passed_one at is f ss c.solve_one.new.states.items r c.solve_one.new.row (got (ends_of at ss r) (visit_of at f ss r).ends) made.states made.row refl made.all_states made.below made.same (made.momentum ∙ ap (plus (total ss)) made.got)
+    let made = c.solve_one.ensures.visited in
+    passed_one at is f ss c.solve_one.new.states.items r c.solve_one.new.row (got (ends_of at ss r) (visit_of at f ss r).ends) made.states made.row_is refl made.all_states made.below made.same (made.momentum ∙ ap (plus (total ss)) made.got_is)
 
 pub returns-then-are_movers-clause-given : goal.returns-then-are_movers-clause-given
 returns-then-are_movers-clause-given g c =

@@ -1,12 +1,11 @@
-use Rattle.std.proofs.Common.{◌<◌, ◌≢◌, ◌∙◌, ap, length, set, sym}
-use Rattle.std.proofs.lemmas.List.{length-set}
-use Rattle.fixed_geom.specs.Vectors.{plus}
-use Rattle.fixed_geom.specs.declared.vectors.Vec2.{Vec2}
+use Rattle.std.proofs.Common.{◌≡◌, ◌∙◌, ap, get_or, subst, sym}
 use Rattle.momenta.specs.declared.state.Ends.{Ends}
-use Rattle.colour_solver.specs.States.{as_vector, total}
-use Rattle.colour_solver.specs.RowVisits.{got}
-use Rattle.colour_solver.proofs.VisitLaws.{row_kept, state_at, states-set, total-after}
-use Rattle.colour_solver.proofs.SameLaws.{same_visited}
+use Rattle.momenta.specs.ImpulseBounds.{AreSameBodies, IsMomentumKept}
+use Rattle.momenta.specs.Line64.{both_ends}
+use Rattle.colour_solver.specs.States.{as_vector}
+use Rattle.colour_solver.specs.RowVisits.{ends_of, got}
+use Rattle.colour_solver.proofs.VisitLaws.{state_at}
+use Rattle.colour_solver.proofs.VisitedLaws.{ends_there, visited_by}
 use Rattle.colour_solver.proofs.visit_one.visit_bodies.Goals as goal
 
 pub visit-requires-clause-states : goal.visit-requires-clause-states
@@ -21,30 +20,19 @@ got-requires-clause-first g c = state_at c.args.states.now.items c.slots-slots.r
 pub got-requires-clause-second : goal.got-requires-clause-second
 got-requires-clause-second g c = state_at c.args.states.now.items c.slots-slots.result.b c.index-2.result.now c.index-2.result.now c.requires.states (rw c.slots-slots.ensures c.requires.row.b) c.index-2.ensures
 
-pub returns-clause-all_states : goal.returns-clause-all_states
-returns-clause-all_states g c =
-    rw (c.put_momenta.ensures, c.put_momenta-2.ensures) (states-set _ c.slots-slots.result.b c.visit.new.ends.b (states-set c.args.states.now.items c.slots-slots.result.a c.visit.new.ends.a c.requires.states c.visit.ensures.states.a) c.visit.ensures.states.b)
-
-pub returns-clause-same : goal.returns-clause-same
-returns-clause-same g c =
-    let a : c.slots-slots.result.a < length c.args.states.now.items = rw c.slots-slots.ensures c.requires.row.a in
-    let b : c.slots-slots.result.b < length c.args.states.now.items = rw c.slots-slots.ensures c.requires.row.b in
-    rw (c.put_momenta.ensures, c.put_momenta-2.ensures) (same_visited c.args.states.now.items c.slots-slots.result.a c.slots-slots.result.b (record { a = c.index.result.now; b = c.index-2.result.now }) c.visit.new.ends a b c.index.ensures c.index-2.ensures c.visit.ensures.same)
-
-pub returns-clause-momentum : goal.returns-clause-momentum
-returns-clause-momentum g c =
-    let a : c.slots-slots.result.a < length c.args.states.now.items = rw c.slots-slots.ensures c.requires.row.a in
-    let b : c.slots-slots.result.b < length c.args.states.now.items = rw c.slots-slots.ensures c.requires.row.b in
-    let apart : c.slots-slots.result.a ≢ c.slots-slots.result.b = rw c.slots-slots.ensures c.requires.row.apart in
-    let before : Ends = record { a = c.index.result.now; b = c.index-2.result.now } in
-    let given : Vec2 = got before c.visit.new.ends in
-    rw (c.put_momenta.ensures, c.put_momenta-2.ensures)
-    (total-after c.args.states.now.items c.slots-slots.result.a c.slots-slots.result.b before c.visit.new.ends a b apart c.index.ensures c.index-2.ensures c.visit.ensures.same c.visit.ensures.kept
-    ∙ ap (plus (total c.args.states.now.items)) (sym {a = as_vector c.got.result} {b = given} c.got.ensures.value))
-
-pub returns-clause-below : goal.returns-clause-below
-returns-clause-below g c =
+pub returns-clause-visited : goal.returns-clause-visited
+returns-clause-visited g c =
+    let at = g.R.Row.slots in
+    let f = g.T.Visit.visit c.args.visit.now in
     let ss = c.args.states.now.items in
-    row_kept g.R.Row.slots g.R.Row.is_row (length ss) _ c.args.row.now c.visit.new.row
-    (length-set (set ss c.slots-slots.result.a c.put_momenta.new.body) c.slots-slots.result.b c.put_momenta-2.new.body ∙ length-set ss c.slots-slots.result.a c.put_momenta.new.body)
-    c.requires.row c.visit.ensures.row c.visit.ensures.slots
+    let r = c.args.row.now in
+    let a = c.index.result.now in
+    let b = c.index-2.result.now in
+    let new = c.visit.new.ends in
+    let is_a : a ≡ get_or ss (at r).a a = rw c.slots-slots.ensures at c.index.ensures in
+    let is_b : b ≡ get_or ss (at r).b b = rw c.slots-slots.ensures at c.index-2.ensures in
+    let before : both_ends a b ≡ ends_of at ss r = ends_there at ss r a b c.requires.row.a c.requires.row.b is_a is_b in
+    let got_is : as_vector c.got.result ≡ got (both_ends a b) new = c.got.ensures.value in
+    rw (c.put_momenta.ensures, c.put_momenta-2.ensures, c.slots-slots.ensures)
+    (visited_by at g.R.Row.is_row f ss r c.visit.new.row new (as_vector c.got.result) c.requires.row c.requires.states (sym (c.visit.ensures.value ∙ ap (f r) before)) c.visit.ensures.row c.visit.ensures.slots c.visit.ensures.states
+    (subst (λ (e : Ends). AreSameBodies e new) before c.visit.ensures.same) (subst (λ (e : Ends). IsMomentumKept e new) before c.visit.ensures.kept) (got_is ∙ ap (λ (e : Ends). got e new) before))
