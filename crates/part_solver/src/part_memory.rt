@@ -6,7 +6,7 @@ ghost use Rattle.part_solver.specs.Stages.{AreStages, lists_of};
 
 use crate::dealing::{Counts, Deal};
 use crate::homes::are_dealt;
-use crate::parting::StepMemory;
+use crate::step_memory::StepMemory;
 use crate::sums::MOST_PARTS;
 use crate::work_guess::guess_work;
 use contacts::Constraint;

@@ -5,7 +5,7 @@ use Rattle.part_runs.specs.Runs.{Step, part_ran}
 use Rattle.part_solver.specs.Benches.{IsRoomyFor}
 use Rattle.part_solver.specs.Steps.{CanSolve}
 use Rattle.part_solver.proofs.OverLaws.{lent_can, lent_step}
-use Rattle.part_solver.proofs.parting.lend_to_parts.Goals as goal
+use Rattle.part_solver.proofs.lending.lend_to_parts.Goals as goal
 
 pub solve_parts-solved-requires-clause-can : goal.solve_parts-solved-requires-clause-can
 solve_parts-solved-requires-clause-can g c =

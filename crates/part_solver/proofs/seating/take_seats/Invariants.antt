@@ -2,7 +2,7 @@ use Rattle.std.proofs.Common.{◌≡◌, ◌+◌, ◌<◌, ℕ, All, length}
 use Rattle.std.specs.Arc.{arc_value}
 use Rattle.part_solver.specs.Benches.{IsRoomyFor}
 use Rattle.part_solver.specs.Parts.{AreRings, AreSeated, posts_at}
-use Rattle.part_solver.proofs.parting.take_seats.Given as goal
+use Rattle.part_solver.proofs.seating.take_seats.Given as goal
 
 abbrev pub invariant-loop-own : goal.invariant-loop-own
 invariant-loop-own l = record {

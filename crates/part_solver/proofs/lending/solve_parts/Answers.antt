@@ -2,7 +2,7 @@ use Rattle.std.proofs.Common.{◌≡◌, rules}
 use Rattle.std.specs.Arc.{arc_value}
 use Rattle.part_solver.specs.Lending.{step_of}
 use Rattle.part_solver.proofs.OverLaws.{lent_sources}
-use Rattle.part_solver.proofs.parting.solve_parts.Goals as goal
+use Rattle.part_solver.proofs.lending.solve_parts.Goals as goal
 
 pub run_parts-solved-requires-clause-has : goal.run_parts-solved-requires-clause-has
 run_parts-solved-requires-clause-has g c =

@@ -6,7 +6,7 @@ use Rattle.part_runs.specs.Laws.{AreHomes}
 use Rattle.part_solver.specs.Benches.{IsRoomyFor}
 use Rattle.part_solver.specs.Parts.{AreRings, AreSeated, IsSeated, posts_at}
 use Rattle.part_solver.proofs.SeatLaws.{ring_of, rings_of_rest, seated_more}
-use Rattle.part_solver.proofs.parting.take_seats.Goals as goal
+use Rattle.part_solver.proofs.seating.take_seats.Goals as goal
 
 pub loop-own-init : goal.loop-own-init
 loop-own-init c =

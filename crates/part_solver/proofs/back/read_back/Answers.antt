@@ -3,7 +3,7 @@ use Rattle.part_solver.specs.Parts.{Solved}
 use Rattle.part_solver.specs.PuttingBack.{contacts_by, joints_by}
 use Rattle.part_solver.proofs.LeftLaws.{AreRead, all_impulses, all_left}
 use Rattle.part_solver.proofs.SolvedLaws.{AreAdded}
-use Rattle.part_solver.proofs.parting.read_back.Goals as goal
+use Rattle.part_solver.proofs.back.read_back.Goals as goal
 
 pub returns-clause-left : goal.returns-clause-left
 returns-clause-left c = λ t is.

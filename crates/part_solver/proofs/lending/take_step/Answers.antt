@@ -2,7 +2,7 @@ use Rattle.std.proofs.Common.{◌≡◌, rules, subst, sym}
 use Rattle.part_runs.specs.Runs.{Step}
 use Rattle.part_solver.specs.Lending.{rows_from, step_of}
 use Rattle.part_solver.specs.Steps.{CanSolve}
-use Rattle.part_solver.proofs.parting.take_step.Goals as goal
+use Rattle.part_solver.proofs.lending.take_step.Goals as goal
 
 pub invariant_of-result : goal.invariant_of-result
 invariant_of-result c =

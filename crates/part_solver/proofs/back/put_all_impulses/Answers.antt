@@ -9,7 +9,7 @@ use Rattle.world_core_base.specs.Gather.{with_rows}
 use Rattle.part_solver.specs.Parts.{Solved, run_at}
 use Rattle.part_solver.specs.PuttingBack.{contacts_by, joints_by}
 use Rattle.part_solver.proofs.ReadLaws.{there_is}
-use Rattle.part_solver.proofs.parting.put_all_impulses.Goals as goal
+use Rattle.part_solver.proofs.back.put_all_impulses.Goals as goal
 
 pub loop-number-preserved : goal.loop-number-preserved
 loop-number-preserved c =

@@ -3,7 +3,7 @@ use Rattle.std.specs.Arc.{arc_value}
 use Rattle.std.proofs.lemmas.List.{length-map}
 use Rattle.part_solver.specs.Parts.{AreSeated, Solved, run_at, solved}
 use Rattle.part_solver.proofs.SeatLaws.{parts_run}
-use Rattle.part_solver.proofs.parting.run_parts.Goals as goal
+use Rattle.part_solver.proofs.seating.run_parts.Goals as goal
 
 pub returns-clause-runs : goal.returns-clause-runs
 returns-clause-runs g c = λ e k lt.

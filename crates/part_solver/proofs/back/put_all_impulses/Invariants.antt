@@ -1,6 +1,6 @@
 use Rattle.std.proofs.Common.{◌≡◌}
 use Rattle.part_solver.specs.PuttingBack.{contacts_by, joints_by}
-use Rattle.part_solver.proofs.parting.put_all_impulses.Given as goal
+use Rattle.part_solver.proofs.back.put_all_impulses.Given as goal
 
 abbrev pub invariant-loop-number : goal.invariant-loop-number
 invariant-loop-number l = record {
