@@ -7,6 +7,7 @@ pub mod EnableLaws
 pub mod LeavingLaws
 pub mod RisingLaws
 pub mod QuietSteps
+pub mod ReadyLaws
 pub mod RestLaws
 pub mod MovingBeside
 pub mod StepLaws

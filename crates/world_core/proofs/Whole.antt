@@ -42,7 +42,7 @@ use Rattle.world_rules.proofs.ActingLaws.{IsActed, acted, waking_kept}
 use Rattle.world_rules.proofs.KeptChanges.{can_pose, counted_acting, gravity_acting, gravity_kept, pose_acting, pose_kept, push_acting, push_kept, velocity_acting, velocity_kept, wake_kept}
 use Rattle.world_rules.proofs.KeptSleep.{sleep_kept, slept_acting}
 use Rattle.world_rules.proofs.SlotLemmas.{body_at-in}
-use Rattle.world_rules.proofs.ToldLaws.{body_told, told_is, told_stays}
+use Rattle.world_rules.proofs.ToldLaws.{body_told, told_is}
 use Rattle.world_rules.proofs.SoundLaws.{IsKept, kept_sound, sound_kept}
 use Rattle.world_core.specs.Inside.{IsWhole}
 use Rattle.world_core.specs.Stirring.{MayChange}
@@ -56,12 +56,6 @@ whole w acting k same = record { sound = sound_kept w k; same = same }
 labels_of : (w : Plain) → (acting_of w).labels ≡ w.islands
 unfolding acting_of
 labels_of w = refl
-
--- the bodies have been told
-pub told_whole : (w : World) (acting : Acting Constraint) → IsWhole w acting → told acting.labels w.plain.bodies ≡ w.plain.bodies
-told_whole w acting is =
-    let k = whole_kept w acting is in
-    ap (λ (s : Acting Constraint). told s.labels w.plain.bodies) is.same ∙ ap (λ (ls : Labels). told ls w.plain.bodies) (labels_of w.plain) ∙ told_stays w.plain.islands w.plain.bodies k.bodies k.told
 
 -- a body that is named is one of the bodies
 found_at : (live : Bool) (o : Option Body) (b : Body) → cond live o None ≡ Some b → o ≡ Some b

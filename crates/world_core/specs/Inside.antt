@@ -20,7 +20,7 @@ use Rattle.world_rules.specs.World.{World}
 
 abbrev pub world_of : Inside → World
 world_of a = record {
-  plain = record { slot_entries = a.handles.slot_entries; bodies = a.bodies.bodies; joint_entries = a.joint_handles.slot_entries; joints = a.joints.joints; contacts = a.contacts.contacts; islands = a.sets.acting.labels; colours = ids_of a.sets.acting.lists; gravity = a.gravity; steps = a.steps; calls = a.calls };
+  plain = record { slot_entries = a.handles.slot_entries; bodies = a.activity.bodies.bodies; joint_entries = a.joint_handles.slot_entries; joints = a.constraints.joints.joints; contacts = a.constraints.contacts.contacts; islands = a.activity.sets.acting.labels; colours = ids_of a.activity.sets.acting.lists; gravity = a.gravity; steps = a.steps; calls = a.calls };
   entries = a.ledger.entries;
   settled = a.ledger.settled;
   events = a.events;

@@ -9,4 +9,5 @@ pub mod Stirring
 pub mod Trees
 pub mod SavedAgain
 pub mod Grown
+pub mod Ready
 pub mod WorldTies

@@ -62,8 +62,8 @@ pub(crate) fn loss_of(v: Vec2) -> Gain
     }
 }
 
-/// Books what a step has added, for which there is room.
-fn book_step(ledger: &mut Ledger, call: u64, sums: StepSums)
+/// Books what the ticks of a step have added, for which there is room.
+fn book_ticks(ledger: &mut Ledger, call: u64, sums: StepSums)
     requires room { 3 ≤ ledger.old.room }
     requires roomy { IsRoomy ledger.old }
     requires small { AreSums (2 ^ 83) sums }
@@ -77,7 +77,7 @@ fn book_step(ledger: &mut Ledger, call: u64, sums: StepSums)
 }
 
 /// Books what the ticks of a step have added, and then what those that fell asleep have lost, for which there is room.
-fn book_rest(ledger: &mut Ledger, call: u64, sums: StepSums, rest: Gain)
+pub(crate) fn book_step(ledger: &mut Ledger, call: u64, sums: StepSums, rest: Gain)
     requires room { 4 ≤ ledger.old.room }
     requires roomy { IsRoomy ledger.old }
     requires small { AreSums (2 ^ 83) sums }
@@ -85,37 +85,21 @@ fn book_rest(ledger: &mut Ledger, call: u64, sums: StepSums, rest: Gain)
     ensures entries { ledger.new.entries ≡ ledger.old.entries ++ (step_entries call sums ++ booked call Cause.Rest rest.x rest.y) }
     ensures settled { ledger.new.settled ≡ ledger.old.settled }
 {
-    book_step(ledger, call, sums);
+    book_ticks(ledger, call, sums);
     book(ledger, call, Cause::Rest, rest);
 }
 
-/// Records a step: books what its ticks have added and what those that fell asleep have lost, for which there is room,
-/// and makes what began and ended and who slept and woke its events. Takes no memory.
-pub(crate) fn record_step(
-    ledger: &mut Ledger,
-    events: &mut Events,
-    scratch: &mut Scratch,
-    call: u64,
-    sums: StepSums,
-    rest: Gain,
-    touches: Touches,
-)
-    requires room { 4 ≤ ledger.old.room }
-    requires roomy { IsRoomy ledger.old }
-    requires small { AreSums (2 ^ 83) sums }
-    requires rest { IsGain (2 ^ 78) rest }
+/// Makes what began and ended to touch in a step, and who slept and woke in it, its events. Takes no memory.
+pub(crate) fn renew_events(events: &mut Events, scratch: &mut Scratch, touches: Touches)
     requires begin { AreRising touches.begin.items }
     requires end { AreRising touches.end.items }
     requires slept { IsStrictlyIncreasing (map slot_of scratch.old.slept.items) }
     requires woke { IsStrictlyIncreasing (map slot_of scratch.old.woke.items) }
-    ensures entries { ledger.new.entries ≡ ledger.old.entries ++ (step_entries call sums ++ booked call Cause.Rest rest.x rest.y) }
-    ensures settled { ledger.new.settled ≡ ledger.old.settled }
     ensures begin { events.new.begin ≡ touches.begin.items }
     ensures end { events.new.end ≡ touches.end.items }
     ensures slept { events.new.slept ≡ scratch.old.slept.items }
     ensures woke { events.new.woke ≡ scratch.old.woke.items }
 {
-    book_rest(ledger, call, sums, rest);
     events.renew(
         touches.begin,
         touches.end,

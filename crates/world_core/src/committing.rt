@@ -4,148 +4,114 @@
 ghost use Rattle.std.specs.Prelude.{◌≡◌, ◌≤◌, ◌+◌, false, length, replicate, vec_capacity};
 ghost use Rattle.std.specs.List.Sorted.{IsStrictlyIncreasing};
 ghost use Rattle.contacts.specs.Constraints.{constraint_number};
-ghost use Rattle.plain_world.specs.Bodies.{AreBodies};
 ghost use Rattle.plain_world.specs.Sleep.{told};
-ghost use Rattle.sleep_wake.specs.Acting.{IsConsistent};
 ghost use Rattle.sleep_wake.specs.Changes.{after_changes};
 ghost use Rattle.sleep_wake.specs.ChangeLists.{AreChanges, begin_count};
 ghost use Rattle.solver_sets.specs.SinceTold.{newly_awake};
+ghost use Rattle.world_core.specs.Ready.{IsReady};
 ghost use Rattle.world_core.specs.Waking.{HasSleepers, OfAll};
 ghost use Rattle.world_core_base.specs.Marked.{AreMarked, AreMarkedIn};
 ghost use Rattle.world_core_base.specs.Asleep.{AreContactSets, AreJointSets};
 ghost use Rattle.world_core_base.specs.Turned.{AreTurned};
-ghost use Rattle.world_rules.specs.Sound.{AreTold};
-ghost use Rattle.solver_sets.specs.Ties.{slots_of, ties_of};
-ghost use Rattle.world_core.specs.WorldTies.{CanTell};
 
+use crate::activity::Activity;
 use crate::preparing::Prepared;
 use crate::telling_movers::tell_movers;
 use crate::world_ties::WorldTies;
-use body_handles::{Handle, MAX_SLOTS, SlotEntry};
-use contacts::{Constraint, ContactTable};
-use sleep_wake::{Change, Sets};
+use body_handles::{Handle, SlotEntry};
 use solver_sets::fill_newly_awake;
-use world_core_base::{BodyTable, JointTable, SleepingSets};
+use world_core_base::Constraints;
 
 /// Lets constraints begin and end, one after another, flushes the colours, lists who has woken by that, tells those,
 /// whose joints and contacts follow, and flushes the bodies. All bodies had been told before. Those who wake are among
-/// the slots `asleep`, so that it takes time by these and by what begins and ends. It takes no memory.
+/// the slots that are prepared, so that it takes time by these and by what begins and ends. It takes no memory.
 fn apply_all_changes(
-    sets: &mut Sets<Constraint>,
-    bodies: &mut BodyTable,
+    activity: &mut Activity,
     joint_entries: &[SlotEntry],
-    joints: &JointTable,
-    joint_sets: &mut SleepingSets,
-    contacts: &ContactTable,
-    contact_sets: &mut SleepingSets,
+    constraints: &Constraints,
     woke: &mut Vec<Handle>,
     slot_entries: &[SlotEntry],
-    changes: &[Change<Constraint>],
-    asleep: &[u32],
+    prepared: &Prepared,
 )
-    requires can { AreChanges constraint_number sets.old.acting.labels sets.old.acting.ties changes.now }
-    requires consistent { IsConsistent constraint_number sets.old.acting }
-    requires room { length sets.old.acting.ties + begin_count changes.now ≤ sets.old.room }
-    requires few_bodies { length bodies.old.bodies ≤ MAX_SLOTS }
-    requires bodies { AreBodies bodies.old.bodies }
-    requires told { AreTold bodies.old.bodies sets.old.acting.labels }
-    requires standing { AreJointSets bodies.old.bodies joints.now.joints joint_sets.old }
-    requires contacts_standing { AreContactSets bodies.old.bodies contacts.now.numbered contact_sets.old }
-    requires can_tell { CanTell (slots_of joint_entries.now joints.now.joints) contacts.now.contacts }
-    requires ties { ties_of bodies.old.bodies (slots_of joint_entries.now joints.now.joints) contacts.now.contacts ≡ sets.old.acting.ties }
-    requires sleepers { OfAll (HasSleepers sets.old.acting.labels asleep.now) changes.now }
-    requires rising { IsStrictlyIncreasing asleep.now }
-    requires woke { length asleep.now ≤ vec_capacity woke.old }
-    ensures acting { sets.new.acting ≡ after_changes constraint_number changes.now sets.old.acting }
-    ensures bodies { bodies.new.bodies ≡ told sets.new.acting.labels bodies.old.bodies }
-    ensures woke { woke.new.items ≡ newly_awake slot_entries.now bodies.old.bodies sets.new.acting.labels }
-    ensures colours_flushed { sets.new.pending ≡ 0 }
-    ensures bodies_flushed { bodies.new.pending ≡ 0 }
-    ensures marked { AreMarked bodies.old bodies.new }
-    ensures standing { AreJointSets bodies.new.bodies joints.now.joints joint_sets.new }
-    ensures contacts_standing { AreContactSets bodies.new.bodies contacts.now.numbered contact_sets.new }
-    ensures contact_items { length contact_sets.new.names ≡ length contact_sets.old.names }
+    requires can { AreChanges constraint_number activity.old.sets.acting.labels activity.old.sets.acting.ties prepared.now.changes.items }
+    requires room { length activity.old.sets.acting.ties + begin_count prepared.now.changes.items ≤ activity.old.sets.room }
+    requires ready { IsReady activity.old joint_entries.now constraints.now }
+    requires sleepers { OfAll (HasSleepers activity.old.sets.acting.labels prepared.now.asleep.items) prepared.now.changes.items }
+    requires rising { IsStrictlyIncreasing prepared.now.asleep.items }
+    requires woke { length prepared.now.asleep.items ≤ vec_capacity woke.old }
+    ensures acting { activity.new.sets.acting ≡ after_changes constraint_number prepared.now.changes.items activity.old.sets.acting }
+    ensures bodies { activity.new.bodies.bodies ≡ told activity.new.sets.acting.labels activity.old.bodies.bodies }
+    ensures woke { woke.new.items ≡ newly_awake slot_entries.now activity.old.bodies.bodies activity.new.sets.acting.labels }
+    ensures colours_flushed { activity.new.sets.pending ≡ 0 }
+    ensures bodies_flushed { activity.new.bodies.pending ≡ 0 }
+    ensures marked { AreMarked activity.old.bodies activity.new.bodies }
+    ensures standing { AreJointSets activity.new.bodies.bodies constraints.now.joints.joints activity.new.joint_sets }
+    ensures contacts_standing { AreContactSets activity.new.bodies.bodies constraints.now.contacts.numbered activity.new.contact_sets }
+    ensures contact_items { length activity.new.contact_sets.names ≡ length activity.old.contact_sets.names }
 {
     let ties = WorldTies {
-        bodies: bodies.bodies(),
+        bodies: activity.bodies.bodies(),
         joint_entries,
-        joints,
-        joint_sets,
-        contacts,
-        contact_sets,
+        joints: &constraints.joints,
+        joint_sets: &activity.joint_sets,
+        contacts: &constraints.contacts,
+        contact_sets: &activity.contact_sets,
     };
-    sets.know_told(&ties);
-    sets.apply_changes(changes, &ties);
-    sets.flush();
-    fill_newly_awake(woke, slot_entries, bodies.bodies(), sets.islands(), asleep);
-    let _ = tell_movers(
-        bodies,
-        joints,
-        joint_sets,
-        contacts,
-        contact_sets,
-        asleep,
-        sets,
+    activity.sets.know_told(&ties);
+    activity.sets.apply_changes(&prepared.changes, &ties);
+    activity.sets.flush();
+    fill_newly_awake(
+        woke,
+        slot_entries,
+        activity.bodies.bodies(),
+        activity.sets.islands(),
+        &prepared.asleep,
     );
-    bodies.flush();
+    let _ = tell_movers(activity, constraints, &prepared.asleep);
+    activity.bodies.flush();
 }
 
 /// Carries out what the collide found: the contacts become what is pending, the constraints begin and end, and who
 /// wakes by that is told so. Nothing stays marked but what that changes, since the contacts tell all from now on. Takes
 /// no memory.
 pub(crate) fn commit_collide(
-    contacts: &mut ContactTable,
-    bodies: &mut BodyTable,
+    activity: &mut Activity,
     joint_entries: &[SlotEntry],
-    joints: &JointTable,
-    joint_sets: &mut SleepingSets,
-    contact_sets: &mut SleepingSets,
-    sets: &mut Sets<Constraint>,
+    constraints: &mut Constraints,
     woke: &mut Vec<Handle>,
     slot_entries: &[SlotEntry],
     prepared: &Prepared,
 )
-    requires can { AreChanges constraint_number sets.old.acting.labels sets.old.acting.ties prepared.now.changes.items }
-    requires consistent { IsConsistent constraint_number sets.old.acting }
-    requires room { length sets.old.acting.ties + begin_count prepared.now.changes.items ≤ sets.old.room }
-    requires few_bodies { length bodies.old.bodies ≤ MAX_SLOTS }
-    requires bodies { AreBodies bodies.old.bodies }
-    requires told { AreTold bodies.old.bodies sets.old.acting.labels }
-    requires standing { AreJointSets bodies.old.bodies joints.now.joints joint_sets.old }
-    requires contacts_standing { AreContactSets bodies.old.bodies contacts.old.numbered contact_sets.old }
-    requires can_tell { CanTell (slots_of joint_entries.now joints.now.joints) contacts.old.contacts }
-    requires ties { ties_of bodies.old.bodies (slots_of joint_entries.now joints.now.joints) contacts.old.contacts ≡ sets.old.acting.ties }
-    requires turned { AreTurned (told (after_changes constraint_number prepared.now.changes.items sets.old.acting).labels bodies.old.bodies) contacts.old.contacts contacts.old.pending }
-    requires numbers { contacts.old.bound ≤ length contact_sets.old.names }
-    requires sleepers { OfAll (HasSleepers sets.old.acting.labels prepared.now.asleep.items) prepared.now.changes.items }
+    requires can { AreChanges constraint_number activity.old.sets.acting.labels activity.old.sets.acting.ties prepared.now.changes.items }
+    requires room { length activity.old.sets.acting.ties + begin_count prepared.now.changes.items ≤ activity.old.sets.room }
+    requires ready { IsReady activity.old joint_entries.now constraints.old }
+    requires turned { AreTurned (told (after_changes constraint_number prepared.now.changes.items activity.old.sets.acting).labels activity.old.bodies.bodies) constraints.old.contacts.contacts constraints.old.contacts.pending }
+    requires numbers { constraints.old.contacts.bound ≤ length activity.old.contact_sets.names }
+    requires sleepers { OfAll (HasSleepers activity.old.sets.acting.labels prepared.now.asleep.items) prepared.now.changes.items }
     requires rising { IsStrictlyIncreasing prepared.now.asleep.items }
     requires woke { length prepared.now.asleep.items ≤ vec_capacity woke.old }
-    ensures contacts { contacts.new.contacts ≡ contacts.old.pending }
-    ensures acting { sets.new.acting ≡ after_changes constraint_number prepared.now.changes.items sets.old.acting }
-    ensures bodies { bodies.new.bodies ≡ told sets.new.acting.labels bodies.old.bodies }
-    ensures woke { woke.new.items ≡ newly_awake slot_entries.now bodies.old.bodies sets.new.acting.labels }
-    ensures colours_flushed { sets.new.pending ≡ 0 }
-    ensures bodies_flushed { bodies.new.pending ≡ 0 }
-    ensures marked { AreMarkedIn bodies.old.bodies (replicate (length bodies.old.marks) false) bodies.new.bodies bodies.new.marks }
-    ensures standing { AreJointSets bodies.new.bodies joints.now.joints joint_sets.new }
-    ensures contacts_standing { AreContactSets bodies.new.bodies contacts.new.numbered contact_sets.new }
+    ensures joints { constraints.new.joints ≡ constraints.old.joints }
+    ensures contacts { constraints.new.contacts.contacts ≡ constraints.old.contacts.pending }
+    ensures acting { activity.new.sets.acting ≡ after_changes constraint_number prepared.now.changes.items activity.old.sets.acting }
+    ensures bodies { activity.new.bodies.bodies ≡ told activity.new.sets.acting.labels activity.old.bodies.bodies }
+    ensures woke { woke.new.items ≡ newly_awake slot_entries.now activity.old.bodies.bodies activity.new.sets.acting.labels }
+    ensures colours_flushed { activity.new.sets.pending ≡ 0 }
+    ensures bodies_flushed { activity.new.bodies.pending ≡ 0 }
+    ensures marked { AreMarkedIn activity.old.bodies.bodies (replicate (length activity.old.bodies.marks) false) activity.new.bodies.bodies activity.new.bodies.marks }
+    ensures standing { AreJointSets activity.new.bodies.bodies constraints.new.joints.joints activity.new.joint_sets }
+    ensures contacts_standing { AreContactSets activity.new.bodies.bodies constraints.new.contacts.numbered activity.new.contact_sets }
 {
-    bodies.clear_marks();
+    activity.bodies.clear_marks();
     apply_all_changes(
-        sets,
-        bodies,
+        activity,
         joint_entries,
-        joints,
-        joint_sets,
-        contacts,
-        contact_sets,
+        constraints,
         woke,
         slot_entries,
-        &prepared.changes,
-        &prepared.asleep,
+        prepared,
     );
-    sets.know_consistent();
-    contacts.know_numbered();
-    contacts.commit_pending();
-    contacts.know_numbered();
+    activity.sets.know_consistent();
+    constraints.contacts.know_numbered();
+    constraints.contacts.commit_pending();
+    constraints.contacts.know_numbered();
 }

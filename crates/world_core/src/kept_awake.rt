@@ -14,6 +14,7 @@ use graph_colours::{Colours, Member, OVERFLOW};
 use islands::Islands;
 use plain_world::{Body, BodyJoint, item_at};
 use solver_sets::is_moving_at;
+use world_core_base::Constraints;
 
 /// Flags the island of the mover in a slot, if what is beside it moves.
 fn flag_if(flags: &mut Vec<bool>, islands: &Islands, moving: bool, slot: u32)
@@ -99,12 +100,11 @@ fn flag_by(
     flags: &mut Vec<bool>,
     islands: &Islands,
     bodies: &[Option<Body>],
-    joints: &[Option<BodyJoint>],
-    contacts: &SplitContacts,
+    constraints: &Constraints,
     hint: &mut Hint,
     id: Constraint,
 )
-    ensures { (names timers : List ℕ) → KeepFlags islands.now.labels bodies.now joints.now (contacts_in contacts.now) timers → HasFlagged names islands.now.labels timers flags.old.items → HasFlagged names islands.now.labels timers flags.new.items }
+    ensures { (names timers : List ℕ) → KeepFlags islands.now.labels bodies.now constraints.now.joints.joints constraints.now.contacts.contacts timers → HasFlagged names islands.now.labels timers flags.old.items → HasFlagged names islands.now.labels timers flags.new.items }
 {
     match id {
         Constraint::Joint(handle) => {
@@ -112,10 +112,19 @@ fn flag_by(
                 flags,
                 islands,
                 bodies,
-                item_at(joints, handle.slot as usize),
+                item_at(constraints.joints.joints(), handle.slot as usize),
             );
         }
-        Constraint::Contact(key) => flag_contact(flags, islands, bodies, contacts, hint, key),
+        Constraint::Contact(key) => {
+            flag_contact(
+                flags,
+                islands,
+                bodies,
+                constraints.contacts.split(),
+                hint,
+                key,
+            );
+        }
     }
 }
 
@@ -124,11 +133,10 @@ fn flag_colour(
     flags: &mut Vec<bool>,
     islands: &Islands,
     bodies: &[Option<Body>],
-    joints: &[Option<BodyJoint>],
-    contacts: &SplitContacts,
+    constraints: &Constraints,
     members: &[Member<Constraint>],
 )
-    ensures { (names timers : List ℕ) → KeepFlags islands.now.labels bodies.now joints.now (contacts_in contacts.now) timers → HasFlagged names islands.now.labels timers flags.old.items → HasFlagged names islands.now.labels timers flags.new.items }
+    ensures { (names timers : List ℕ) → KeepFlags islands.now.labels bodies.now constraints.now.joints.joints constraints.now.contacts.contacts timers → HasFlagged names islands.now.labels timers flags.old.items → HasFlagged names islands.now.labels timers flags.new.items }
 {
     let mut hint = Hint { long: 0, short: 0 };
     for place in 0..members.len() {
@@ -136,8 +144,7 @@ fn flag_colour(
             flags,
             islands,
             bodies,
-            joints,
-            contacts,
+            constraints,
             &mut hint,
             members[place].id,
         );
@@ -151,21 +158,13 @@ pub(crate) fn flag_beside(
     flags: &mut Vec<bool>,
     islands: &Islands,
     bodies: &[Option<Body>],
-    joints: &[Option<BodyJoint>],
-    contacts: &SplitContacts,
+    constraints: &Constraints,
     colours: &Colours<Constraint>,
 )
     requires { colours.now.pending ≡ 0 }
-    ensures { (names timers : List ℕ) → KeepFlags islands.now.labels bodies.now joints.now (contacts_in contacts.now) timers → HasFlagged names islands.now.labels timers flags.old.items → HasFlagged names islands.now.labels timers flags.new.items }
+    ensures { (names timers : List ℕ) → KeepFlags islands.now.labels bodies.now constraints.now.joints.joints constraints.now.contacts.contacts timers → HasFlagged names islands.now.labels timers flags.old.items → HasFlagged names islands.now.labels timers flags.new.items }
 {
     for colour in 0..OVERFLOW + 1 {
-        flag_colour(
-            flags,
-            islands,
-            bodies,
-            joints,
-            contacts,
-            colours.members(colour),
-        );
+        flag_colour(flags, islands, bodies, constraints, colours.members(colour));
     }
 }

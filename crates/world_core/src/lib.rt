@@ -1,6 +1,7 @@
 //! A world of bodies, changed by one command at a time.
 #![tactic(auto)]
 
+mod activity;
 mod booking;
 mod collide;
 mod colour_ids;

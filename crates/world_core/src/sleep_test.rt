@@ -3,7 +3,6 @@
 
 ghost use Rattle.std.specs.Prelude.{◌≡◌, ◌≤◌, ℕ, List, true, false, cond, length, slice_get, slice_set, vec_capacity};
 ghost use Rattle.colour_solver.specs.States.{places_from};
-ghost use Rattle.contacts_base.specs.Split.{contacts_in};
 ghost use Rattle.islands.specs.Labels.{label_at};
 ghost use Rattle.plain_world.specs.Changes.{is_awake_in};
 ghost use Rattle.plain_world.specs.Slots.{body_at};
@@ -13,13 +12,12 @@ ghost use Rattle.std.specs.List.{AllWithin};
 ghost use Rattle.world_core.specs.Quiet.{AreBusy, AreCleared, AreKeptUp, HasFlagged, ShortTimersAgree, is_flagged_in, is_open_by, is_short_in, flagged_by};
 ghost use Rattle.world_rules.specs.Sound.{AreTold};
 
+use crate::activity::Activity;
 use crate::kept_awake::flag_beside;
-use contacts::Constraint;
-use contacts_base::SplitContacts;
-use graph_colours::Colours;
 use islands::Islands;
-use plain_world::{Body, BodyJoint, item_at};
+use plain_world::{Body, item_at};
 use sleep_wake::TICKS_TO_SLEEP;
+use world_core_base::Constraints;
 
 /// Whether a body is in the slot that hasn't been slow for long enough to sleep.
 fn is_short_at(bodies: &[Option<Body>], slot: u32) -> bool
@@ -136,26 +134,25 @@ fn are_flagged(flags: &[bool], islands: &Islands, slots: &[u32]) -> bool
 /// slot.
 pub(crate) fn are_kept_up(
     flags: &mut Vec<bool>,
-    islands: &Islands,
-    bodies: &[Option<Body>],
-    awake: &[u32],
-    joints: &[Option<BodyJoint>],
-    contacts: &SplitContacts,
-    colours: &Colours<Constraint>,
+    activity: &Activity,
+    constraints: &Constraints,
 ) -> bool
-    requires room { length bodies.now ≤ vec_capacity flags.old }
-    requires awake { awake.now ≡ places_from is_awake_in 0 bodies.now }
-    requires tied { AreTied bodies.now islands.now.labels }
-    requires told { AreTold bodies.now islands.now.labels }
-    requires flushed { colours.now.pending ≡ 0 }
-    ensures { result ≡ true → AreKeptUp islands.now.labels (timers_of bodies.now joints.now (contacts_in contacts.now)) }
+    requires room { length activity.now.bodies.bodies ≤ vec_capacity flags.old }
+    requires tied { AreTied activity.now.bodies.bodies activity.now.sets.acting.labels }
+    requires told { AreTold activity.now.bodies.bodies activity.now.sets.acting.labels }
+    requires bodies_flushed { activity.now.bodies.pending ≡ 0 }
+    requires colours_flushed { activity.now.sets.pending ≡ 0 }
+    ensures { result ≡ true → AreKeptUp activity.now.sets.acting.labels (timers_of activity.now.bodies.bodies constraints.now.joints.joints constraints.now.contacts.contacts) }
 {
+    let islands = activity.sets.islands();
+    let bodies = activity.bodies.bodies();
+    let awake = activity.bodies.awake();
     if are_busy(bodies, awake) {
         return true;
     }
     lengthen(flags, bodies.len());
     clear_flags(flags, awake);
     flag_all(flags, islands, bodies, awake);
-    flag_beside(flags, islands, bodies, joints, contacts, colours);
+    flag_beside(flags, islands, bodies, constraints, activity.sets.colours());
     are_flagged(flags, islands, awake)
 }

@@ -1,6 +1,6 @@
 //! Islands that are woken or put to sleep, with their bodies.
 
-ghost use Rattle.std.specs.Prelude.{◌≡◌, ◌≤◌, ◌^◌, length, true, IfOk, OnOk};
+ghost use Rattle.std.specs.Prelude.{◌≡◌, ◌^◌, length, true, IfOk, OnOk};
 ghost use Rattle.std.specs.Result.{IsOkUnless};
 ghost use Rattle.fixed_geom.specs.Vectors.{plus};
 ghost use Rattle.contacts.specs.Constraints.{constraint_number};
@@ -9,23 +9,23 @@ ghost use Rattle.colour_solver.specs.States.{as_vector};
 ghost use Rattle.plain_world.specs.Bodies.{AreBodies};
 ghost use Rattle.plain_world.specs.Momentum.{momentum};
 ghost use Rattle.plain_world.specs.Sleep.{told};
-ghost use Rattle.sleep_wake.specs.Acting.{IsConsistent, is_mover_awake};
+ghost use Rattle.sleep_wake.specs.Acting.{is_mover_awake};
 ghost use Rattle.sleep_wake.specs.Sleeping.{islands_woken, sleeping_names, slept_at};
+ghost use Rattle.world_core.specs.Ready.{IsReady};
 ghost use Rattle.world_core.specs.Waking.{HasIsland, HasIslands, IsExtended};
 ghost use Rattle.world_core_base.specs.Marked.{AreMarked};
 ghost use Rattle.world_core_base.specs.Asleep.{AreContactSets, AreJointSets};
-ghost use Rattle.solver_sets.specs.Ties.{slots_of, ties_of};
-ghost use Rattle.world_core.specs.WorldTies.{CanTell};
 
+use crate::activity::Activity;
 use crate::telling_movers::tell_movers;
 use crate::world_ties::WorldTies;
-use body_handles::{MAX_SLOTS, SlotEntry};
-use contacts::{Constraint, ContactTable};
+use body_handles::SlotEntry;
+use contacts::Constraint;
 use fixed_geom::Refusal;
 use momenta::Gain;
 use sleep_wake::Sets;
 use std::alloc::Global;
-use world_core_base::{BodyTable, JointTable, SleepingSets};
+use world_core_base::Constraints;
 
 /// The sleeping islands that are to wake: their names, and the movers in them.
 #[derive(Drop)]
@@ -100,115 +100,77 @@ pub(crate) fn plan_waking(
 /// Wakes the islands that are to wake, and tells their movers, whose joints and contacts follow. All bodies had been
 /// told before. Where there are none, it takes no time.
 pub(crate) fn wake_planned(
-    sets: &mut Sets<Constraint>,
-    bodies: &mut BodyTable,
+    activity: &mut Activity,
     joint_entries: &[SlotEntry],
-    joints: &JointTable,
-    joint_sets: &mut SleepingSets,
-    contacts: &ContactTable,
-    contact_sets: &mut SleepingSets,
+    constraints: &Constraints,
     waking: &Waking,
 )
-    requires movers { HasIslands sets.old.acting.labels waking.now.names.items waking.now.movers.items }
-    requires few { length bodies.old.bodies ≤ MAX_SLOTS }
-    requires bodies { AreBodies bodies.old.bodies }
-    requires told { told sets.old.acting.labels bodies.old.bodies ≡ bodies.old.bodies }
-    requires standing { AreJointSets bodies.old.bodies joints.now.joints joint_sets.old }
-    requires contacts_standing { AreContactSets bodies.old.bodies contacts.now.numbered contact_sets.old }
-    requires can_tell { CanTell (slots_of joint_entries.now joints.now.joints) contacts.now.contacts }
-    requires ties { ties_of bodies.old.bodies (slots_of joint_entries.now joints.now.joints) contacts.now.contacts ≡ sets.old.acting.ties }
-    ensures acting { sets.new.acting ≡ islands_woken constraint_number waking.now.names.items sets.old.acting }
-    ensures told { bodies.new.bodies ≡ told sets.new.acting.labels bodies.old.bodies }
-    ensures count { length bodies.new.bodies ≡ length bodies.old.bodies }
-    ensures all_bodies { AreBodies bodies.new.bodies }
-    ensures room { sets.new.room ≡ sets.old.room }
-    ensures slots { sets.new.slots ≡ sets.old.slots }
-    ensures marked { AreMarked bodies.old bodies.new }
-    ensures standing { AreJointSets bodies.new.bodies joints.now.joints joint_sets.new }
-    ensures contacts_standing { AreContactSets bodies.new.bodies contacts.now.numbered contact_sets.new }
-    ensures items { length joint_sets.new.names ≡ length joint_sets.old.names }
+    requires movers { HasIslands activity.old.sets.acting.labels waking.now.names.items waking.now.movers.items }
+    requires ready { IsReady activity.old joint_entries.now constraints.now }
+    ensures acting { activity.new.sets.acting ≡ islands_woken constraint_number waking.now.names.items activity.old.sets.acting }
+    ensures told { activity.new.bodies.bodies ≡ told activity.new.sets.acting.labels activity.old.bodies.bodies }
+    ensures count { length activity.new.bodies.bodies ≡ length activity.old.bodies.bodies }
+    ensures all_bodies { AreBodies activity.new.bodies.bodies }
+    ensures room { activity.new.sets.room ≡ activity.old.sets.room }
+    ensures slots { activity.new.sets.slots ≡ activity.old.sets.slots }
+    ensures marked { AreMarked activity.old.bodies activity.new.bodies }
+    ensures standing { AreJointSets activity.new.bodies.bodies constraints.now.joints.joints activity.new.joint_sets }
+    ensures contacts_standing { AreContactSets activity.new.bodies.bodies constraints.now.contacts.numbered activity.new.contact_sets }
+    ensures items { length activity.new.joint_sets.names ≡ length activity.old.joint_sets.names }
 {
     if waking.names.is_empty() {
         return;
     }
-    sets.know_consistent();
     let ties = WorldTies {
-        bodies: bodies.bodies(),
+        bodies: activity.bodies.bodies(),
         joint_entries,
-        joints,
-        joint_sets,
-        contacts,
-        contact_sets,
+        joints: &constraints.joints,
+        joint_sets: &activity.joint_sets,
+        contacts: &constraints.contacts,
+        contact_sets: &activity.contact_sets,
     };
-    sets.know_told(&ties);
-    sets.wake_named(&waking.names, &ties);
-    let _ = tell_movers(
-        bodies,
-        joints,
-        joint_sets,
-        contacts,
-        contact_sets,
-        &waking.movers,
-        sets,
-    );
+    activity.sets.know_told(&ties);
+    activity.sets.wake_named(&waking.names, &ties);
+    let _ = tell_movers(activity, constraints, &waking.movers);
 }
 
 /// Puts the mover in a slot to sleep with its island, and tells the movers of the island in which it was, which are
 /// listed where it is awake. Their joints and contacts follow. All bodies had been told before. Answers what the
 /// movers' momentum gains. Where the mover sleeps already, it takes no time.
 pub(crate) fn put_to_sleep(
-    sets: &mut Sets<Constraint>,
-    bodies: &mut BodyTable,
+    activity: &mut Activity,
     joint_entries: &[SlotEntry],
-    joints: &JointTable,
-    joint_sets: &mut SleepingSets,
-    contacts: &ContactTable,
-    contact_sets: &mut SleepingSets,
+    constraints: &Constraints,
     slot: u32,
     movers: &[u32],
 ) -> Gain
-    requires movers { is_mover_awake sets.old.acting.labels slot ≡ true → HasIsland sets.old.acting.labels movers.now slot }
-    requires consistent { IsConsistent constraint_number sets.old.acting }
-    requires few { length bodies.old.bodies ≤ MAX_SLOTS }
-    requires bodies { AreBodies bodies.old.bodies }
-    requires told { told sets.old.acting.labels bodies.old.bodies ≡ bodies.old.bodies }
-    requires standing { AreJointSets bodies.old.bodies joints.now.joints joint_sets.old }
-    requires contacts_standing { AreContactSets bodies.old.bodies contacts.now.numbered contact_sets.old }
-    requires can_tell { CanTell (slots_of joint_entries.now joints.now.joints) contacts.now.contacts }
-    requires ties { ties_of bodies.old.bodies (slots_of joint_entries.now joints.now.joints) contacts.now.contacts ≡ sets.old.acting.ties }
-    ensures acting { sets.new.acting ≡ slept_at constraint_number slot sets.old.acting }
-    ensures told { bodies.new.bodies ≡ told sets.new.acting.labels bodies.old.bodies }
-    ensures count { length bodies.new.bodies ≡ length bodies.old.bodies }
-    ensures all_bodies { AreBodies bodies.new.bodies }
-    ensures momentum { momentum bodies.new.bodies ≡ plus (momentum bodies.old.bodies) (as_vector result) }
+    requires movers { is_mover_awake activity.old.sets.acting.labels slot ≡ true → HasIsland activity.old.sets.acting.labels movers.now slot }
+    requires ready { IsReady activity.old joint_entries.now constraints.now }
+    ensures acting { activity.new.sets.acting ≡ slept_at constraint_number slot activity.old.sets.acting }
+    ensures told { activity.new.bodies.bodies ≡ told activity.new.sets.acting.labels activity.old.bodies.bodies }
+    ensures count { length activity.new.bodies.bodies ≡ length activity.old.bodies.bodies }
+    ensures all_bodies { AreBodies activity.new.bodies.bodies }
+    ensures momentum { momentum activity.new.bodies.bodies ≡ plus (momentum activity.old.bodies.bodies) (as_vector result) }
     ensures small { IsGain (2 ^ 78) result }
-    ensures room { sets.new.room ≡ sets.old.room }
-    ensures slots { sets.new.slots ≡ sets.old.slots }
-    ensures marked { AreMarked bodies.old bodies.new }
-    ensures standing { AreJointSets bodies.new.bodies joints.now.joints joint_sets.new }
-    ensures contacts_standing { AreContactSets bodies.new.bodies contacts.now.numbered contact_sets.new }
+    ensures room { activity.new.sets.room ≡ activity.old.sets.room }
+    ensures slots { activity.new.sets.slots ≡ activity.old.sets.slots }
+    ensures marked { AreMarked activity.old.bodies activity.new.bodies }
+    ensures standing { AreJointSets activity.new.bodies.bodies constraints.now.joints.joints activity.new.joint_sets }
+    ensures contacts_standing { AreContactSets activity.new.bodies.bodies constraints.now.contacts.numbered activity.new.contact_sets }
 {
-    if !sets.is_awake(slot) {
+    if !activity.sets.is_awake(slot) {
         return Gain { x: 0, y: 0 };
     }
-    sets.sleep(
+    activity.sets.sleep(
         slot,
         &WorldTies {
-            bodies: bodies.bodies(),
+            bodies: activity.bodies.bodies(),
             joint_entries,
-            joints,
-            joint_sets,
-            contacts,
-            contact_sets,
+            joints: &constraints.joints,
+            joint_sets: &activity.joint_sets,
+            contacts: &constraints.contacts,
+            contact_sets: &activity.contact_sets,
         },
     );
-    tell_movers(
-        bodies,
-        joints,
-        joint_sets,
-        contacts,
-        contact_sets,
-        movers,
-        sets,
-    )
+    tell_movers(activity, constraints, movers)
 }

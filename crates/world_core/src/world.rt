@@ -25,6 +25,7 @@ ghost use Rattle.world_core.specs.Trees.{HoldsEnabled};
 ghost use Rattle.world_rules.specs.Sound.{IsSound};
 ghost use Rattle.world_rules.specs.Apply.{Answers, IsMade, empty_world, gravity_refusal, apply};
 
+use crate::activity::Activity;
 use crate::colour_ids::copy_ids;
 use crate::frame::{Frame, show_bodies};
 use crate::parts::{copy_body_parts, copy_constraint_parts, copy_joint_parts, copy_records};
@@ -44,7 +45,9 @@ use solver_sets::{Census, take_census};
 use std::alloc::Global;
 use std::marker::Model;
 pub use steps::is_tick_count;
-use world_core_base::{BodyTable, GatheredRows, JointTable, SleepingSets, list_contacts_asleep};
+use world_core_base::{
+    BodyTable, Constraints, GatheredRows, JointTable, SleepingSets, list_contacts_asleep,
+};
 use world_rules::{Command, MAX_CALLS, Reply};
 
 /// The greatest size of a component of gravity, in u/tick².
@@ -54,13 +57,10 @@ const MAX_GRAVITY: u64 = momenta::MAX_GRAVITY as u64;
 #[derive(Drop)]
 pub struct WorldCore {
     handles: Handles,
-    bodies: BodyTable,
     joint_handles: Handles,
-    joints: JointTable,
-    // The contacts. They tell which shapes are near, but for those of the bodies that the table marks.
-    contacts: ContactTable,
-    // The constraints, the islands of their movers, and the colours of those that act.
-    sets: Sets<Constraint>,
+    activity: Activity,
+    // The joints and the contacts. These tell which shapes are near, but for those of the bodies that the table marks.
+    constraints: Constraints,
     // The rows of a step by colour, and their memory, which is kept from step to step.
     gathered: GatheredRows,
     // Lists that a step fills, whose memory is kept from step to step.
@@ -70,10 +70,6 @@ pub struct WorldCore {
     calls: u64,
     ledger: Ledger,
     events: Events,
-    // The joints that sleep, by slot.
-    joint_sets: SleepingSets,
-    // The contacts that sleep, by number.
-    contact_sets: SleepingSets,
 }
 
 impl Model for WorldCore {
@@ -85,7 +81,7 @@ impl Model for WorldCore {
 
     ghost view = { λ a. world_of a };
 
-    ghost invariant = { λ a. IsWorldCore (world_of a) a.sets.acting a.bodies.marks a.joint_sets a.contacts.numbered a.contact_sets };
+    ghost invariant = { λ a. IsWorldCore (world_of a) a.activity.sets.acting a.activity.bodies.marks a.activity.joint_sets a.constraints.contacts.numbered a.activity.contact_sets };
 }
 
 impl WorldCore {
@@ -100,11 +96,17 @@ impl WorldCore {
         }
         Ok(WorldCore {
             handles: Handles::new(alloc),
-            bodies: BodyTable::new(alloc),
             joint_handles: Handles::new(alloc),
-            joints: JointTable::new(alloc),
-            contacts: ContactTable::new(alloc),
-            sets: Sets::new(alloc)?,
+            activity: Activity {
+                bodies: BodyTable::new(alloc),
+                sets: Sets::new(alloc)?,
+                joint_sets: SleepingSets::new(alloc),
+                contact_sets: SleepingSets::new(alloc),
+            },
+            constraints: Constraints {
+                joints: JointTable::new(alloc),
+                contacts: ContactTable::new(alloc),
+            },
             gathered: GatheredRows::new(alloc),
             scratch: Scratch::new(alloc),
             gravity,
@@ -112,8 +114,6 @@ impl WorldCore {
             calls: 0,
             ledger: Ledger::new(alloc),
             events: Events::new(alloc),
-            joint_sets: SleepingSets::new(alloc),
-            contact_sets: SleepingSets::new(alloc),
         })
     }
 
@@ -122,24 +122,38 @@ impl WorldCore {
         ensures copy { IfOk result (λ copied. copied ≡ self.now) }
         ensures memory_only { IsOkUnless result Refusal.NoMemory }
     {
-        let alloc = self.bodies.allocator();
+        let alloc = self.activity.bodies.allocator();
         let records = copy_records(&self.ledger, &self.events)?;
-        let joints = copy_joint_parts(&self.joint_handles, &self.joints, &self.bodies)?;
-        let bodies = copy_body_parts(&self.handles, &self.bodies)?;
-        let constraints = copy_constraint_parts(&self.contacts, &self.sets, alloc)?;
+        let joints = copy_joint_parts(
+            &self.joint_handles,
+            &self.constraints.joints,
+            &self.activity.bodies,
+        )?;
+        let bodies = copy_body_parts(&self.handles, &self.activity.bodies)?;
+        let constraints = copy_constraint_parts(
+            &self.constraints.contacts,
+            &self.activity.sets,
+            alloc,
+        )?;
         // The copy numbers its contacts anew, so that their sets are listed and not copied.
         let contact_sets = list_contacts_asleep(
             alloc,
-            self.bodies.bodies(),
+            self.activity.bodies.bodies(),
             &constraints.contacts,
         )?;
         Ok(WorldCore {
             handles: bodies.handles,
-            bodies: bodies.table,
             joint_handles: joints.handles,
-            joints: joints.table,
-            contacts: constraints.contacts,
-            sets: constraints.sets,
+            activity: Activity {
+                bodies: bodies.table,
+                sets: constraints.sets,
+                joint_sets: joints.sets,
+                contact_sets,
+            },
+            constraints: Constraints {
+                joints: joints.table,
+                contacts: constraints.contacts,
+            },
             gathered: GatheredRows::new(alloc),
             scratch: Scratch::new(alloc),
             gravity: self.gravity,
@@ -147,8 +161,6 @@ impl WorldCore {
             calls: self.calls,
             ledger: records.ledger,
             events: records.events,
-            joint_sets: joints.sets,
-            contact_sets,
         })
     }
 
@@ -217,7 +229,7 @@ impl WorldCore {
     pub fn body(&self, handle: Handle) -> Option<BodyView>
         ensures { result ≡ option_map view_of (body_named self.now.plain handle) }
     {
-        match body_of(&self.handles, self.bodies.bodies(), handle) {
+        match body_of(&self.handles, self.activity.bodies.bodies(), handle) {
             Some(body) => Some(body.view()),
             None => None,
         }
@@ -229,7 +241,7 @@ impl WorldCore {
         ensures bodies { result.now ≡ self.now.plain.bodies }
         ensures sound { IsSound self.now }
     {
-        self.bodies.bodies()
+        self.activity.bodies.bodies()
     }
 
     /// The slots that were ever used, with the generation of each and whether it is taken.
@@ -257,14 +269,14 @@ impl WorldCore {
     pub fn colour_of(&self, constraint: Constraint) -> Option<u8>
         ensures { result ≡ colour_of constraint self.now.plain.colours }
     {
-        self.sets.colours().colour_of(constraint)
+        self.activity.sets.colours().colour_of(constraint)
     }
 
     /// How many constraints act: joints and touching contacts between bodies that are awake.
     pub fn acting_constraints(&self) -> usize
         ensures { result ≡ length (solve_order self.now.plain.colours) }
     {
-        self.sets.colours().count()
+        self.activity.sets.colours().count()
     }
 
     /// The ledger. Its total is the movers' momentum.
@@ -290,7 +302,7 @@ impl WorldCore {
         ensures covered { AreCovered self.now.plain.bodies result.now }
         ensures sound { IsSound self.now }
     {
-        self.bodies.boxes()
+        self.activity.bodies.boxes()
     }
 
     /// The world is sound: its type keeps that. The function does nothing; its contract is the law.
@@ -306,17 +318,17 @@ impl WorldCore {
         ensures sound { IsSound self.now }
         ensures memory_only { IsOkUnless result Refusal.NoMemory }
     {
-        let alloc = self.bodies.allocator();
+        let alloc = self.activity.bodies.allocator();
         let mut slot_entries = Vec::new(alloc);
         slot_entries.extend_from_slice(self.handles.slot_entries())?;
-        let bodies = copy_bodies(alloc, self.bodies.bodies())?;
+        let bodies = copy_bodies(alloc, self.activity.bodies.bodies())?;
         let mut joint_entries = Vec::new(alloc);
         joint_entries.extend_from_slice(self.joint_handles.slot_entries())?;
         let mut joints = Vec::new(alloc);
-        joints.extend_from_slice(self.joints.joints())?;
-        let contacts = self.contacts.to_entries(alloc)?;
-        let islands = self.sets.islands().list_labels()?;
-        let colours = copy_ids(alloc, self.sets.colours())?;
+        joints.extend_from_slice(self.constraints.joints.joints())?;
+        let contacts = self.constraints.contacts.to_entries(alloc)?;
+        let islands = self.activity.sets.islands().list_labels()?;
+        let colours = copy_ids(alloc, self.activity.sets.colours())?;
         let gravity = self.gravity;
         let steps = self.steps;
         let calls = self.calls;
@@ -342,10 +354,13 @@ impl WorldCore {
         ensures each_once { IfOk result (λ census. ListsEachOnce self.now.plain.slot_entries self.now.plain.bodies (joints_in_slots self.now.plain) self.now.plain.contacts census) }
         ensures memory_only { IsOkUnless result Refusal.NoMemory }
     {
-        if let Some(contacts) = self.contacts.as_one() {
+        if let Some(contacts) = self.constraints.contacts.as_one() {
             return self.census_with(contacts);
         }
-        let contacts = self.contacts.to_entries(self.bodies.allocator())?;
+        let contacts = self
+            .constraints
+            .contacts
+            .to_entries(self.activity.bodies.allocator())?;
         self.census_with(&contacts)
     }
 
@@ -358,11 +373,11 @@ impl WorldCore {
         ensures memory_only { IsOkUnless result Refusal.NoMemory }
     {
         take_census(
-            self.bodies.allocator(),
+            self.activity.bodies.allocator(),
             self.handles.slot_entries(),
-            self.bodies.bodies(),
+            self.activity.bodies.bodies(),
             self.joint_handles.slot_entries(),
-            self.joints.joints(),
+            self.constraints.joints.joints(),
             contacts,
         )
     }
@@ -373,8 +388,12 @@ impl WorldCore {
         ensures frame { IfOk result (λ frame. frame ≡ frame_of self.now) }
         ensures memory_only { IsOkUnless result Refusal.NoMemory }
     {
-        let bodies = self.bodies.bodies();
-        let shown = show_bodies(self.bodies.allocator(), self.handles.slot_entries(), bodies)?;
+        let bodies = self.activity.bodies.bodies();
+        let shown = show_bodies(
+            self.activity.bodies.allocator(),
+            self.handles.slot_entries(),
+            bodies,
+        )?;
         let total = self.ledger.total();
         Ok(Frame::new(shown, total, total, self.calls))
     }

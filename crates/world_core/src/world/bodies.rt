@@ -30,18 +30,20 @@ impl WorldCore {
         if self.handles.is_full() {
             return Err(Refusal::TooMany);
         }
-        let body = def.make(self.bodies.allocator())?;
+        let body = def.make(self.activity.bodies.allocator())?;
         self.handles.reserve_one()?;
-        self.bodies.reserve_one(self.handles.next_slot(), &body)?;
-        self.sets.reserve(0, self.bodies.bodies().len() + 1)?;
-        self.joint_sets.reserve(0, self.bodies.bodies().len() + 1)?;
-        self.contact_sets
-            .reserve(0, self.bodies.bodies().len() + 1)?;
-        self.contacts.know_numbered();
+        self.activity
+            .bodies
+            .reserve_one(self.handles.next_slot(), &body)?;
+        let slots = self.activity.bodies.bodies().len() + 1;
+        self.activity.sets.reserve(0, slots)?;
+        self.activity.joint_sets.reserve(0, slots)?;
+        self.activity.contact_sets.reserve(0, slots)?;
+        self.constraints.contacts.know_numbered();
         let handle = self.handles.insert()?;
-        come(&mut self.sets, handle.slot, body.is_mover());
-        self.sets.widen(handle.slot);
-        self.bodies.put(handle.slot, body);
+        come(&mut self.activity.sets, handle.slot, body.is_mover());
+        self.activity.sets.widen(handle.slot);
+        self.activity.bodies.put(handle.slot, body);
         self.calls += 1;
         Ok(Reply::Body(handle))
     }
@@ -50,31 +52,32 @@ impl WorldCore {
         requires { self.old.plain.calls < 2 ^ 40 }
         ensures { Answers (apply_destroy self.old.plain handle) self.old result self.new }
     {
-        let Some(body) = body_of(&self.handles, self.bodies.bodies(), handle) else {
+        let Some(body) = body_of(&self.handles, self.activity.bodies.bodies(), handle) else {
             return Err(Refusal::StaleHandle);
         };
         let mover = body.is_mover();
         let p = mover_momentum(body);
         let ties = self.ties_at(handle.slot)?;
         let waking = self.plan_stir_by_ties(handle.slot, &ties)?;
-        let own = self.joints.slots_of(handle.slot)?;
+        let own = self.constraints.joints.slots_of(handle.slot)?;
         self.ledger.reserve(1)?;
         wake_planned(
-            &mut self.sets,
-            &mut self.bodies,
+            &mut self.activity,
             self.joint_handles.slot_entries(),
-            &self.joints,
-            &mut self.joint_sets,
-            &self.contacts,
-            &mut self.contact_sets,
+            &self.constraints,
             &waking,
         );
-        leave(&mut self.sets, handle.slot, mover, &ties);
-        drop_joints(&mut self.joint_handles, &mut self.joints, handle.slot, &own);
-        self.bodies.clear(handle.slot);
-        self.contacts.know_numbered();
-        self.contacts.drop_of_body(handle.slot);
-        self.contacts.know_numbered();
+        leave(&mut self.activity.sets, handle.slot, mover, &ties);
+        drop_joints(
+            &mut self.joint_handles,
+            &mut self.constraints.joints,
+            handle.slot,
+            &own,
+        );
+        self.activity.bodies.clear(handle.slot);
+        self.constraints.contacts.know_numbered();
+        self.constraints.contacts.drop_of_body(handle.slot);
+        self.constraints.contacts.know_numbered();
         self.handles.remove(handle);
         book(
             &mut self.ledger,
@@ -90,20 +93,22 @@ impl WorldCore {
         requires { self.old.plain.calls < 2 ^ 40 }
         ensures { Answers (apply_push self.old.plain handle by offset) self.old result self.new }
     {
-        let momenta = momenta_after(&self.handles, self.bodies.bodies(), handle, by, offset)?;
+        let momenta = momenta_after(
+            &self.handles,
+            self.activity.bodies.bodies(),
+            handle,
+            by,
+            offset,
+        )?;
         let waking = self.plan_waking(&[handle.slot])?;
         self.ledger.reserve(1)?;
         wake_planned(
-            &mut self.sets,
-            &mut self.bodies,
+            &mut self.activity,
             self.joint_handles.slot_entries(),
-            &self.joints,
-            &mut self.joint_sets,
-            &self.contacts,
-            &mut self.contact_sets,
+            &self.constraints,
             &waking,
         );
-        self.bodies.change(handle.slot, &momenta);
+        self.activity.bodies.change(handle.slot, &momenta);
         book(
             &mut self.ledger,
             self.calls + 1,
@@ -118,7 +123,7 @@ impl WorldCore {
         requires { self.old.plain.calls < 2 ^ 40 }
         ensures { Answers (apply_pose self.old.plain handle pose) self.old result self.new }
     {
-        let pose = pose_after(&self.handles, self.bodies.bodies(), handle, pose)?;
+        let pose = pose_after(&self.handles, self.activity.bodies.bodies(), handle, pose)?;
         self.change_stirred(handle, &pose)
     }
 
@@ -126,7 +131,7 @@ impl WorldCore {
         requires { self.old.plain.calls < 2 ^ 40 }
         ensures { Answers (apply_velocity self.old.plain handle course) self.old result self.new }
     {
-        let course = course_after(&self.handles, self.bodies.bodies(), handle, course)?;
+        let course = course_after(&self.handles, self.activity.bodies.bodies(), handle, course)?;
         self.change_stirred(handle, &course)
     }
 
@@ -144,16 +149,12 @@ impl WorldCore {
     {
         let waking = self.plan_stir(handle.slot)?;
         wake_planned(
-            &mut self.sets,
-            &mut self.bodies,
+            &mut self.activity,
             self.joint_handles.slot_entries(),
-            &self.joints,
-            &mut self.joint_sets,
-            &self.contacts,
-            &mut self.contact_sets,
+            &self.constraints,
             &waking,
         );
-        self.bodies.change(handle.slot, change);
+        self.activity.bodies.change(handle.slot, change);
         self.calls += 1;
         Ok(Reply::Done)
     }

@@ -20,7 +20,7 @@ impl WorldCore {
         requires { self.old.plain.calls < 2 ^ 40 }
         ensures { Answers (apply_disable self.old.plain handle) self.old result self.new }
     {
-        let Some(body) = body_of(&self.handles, self.bodies.bodies(), handle) else {
+        let Some(body) = body_of(&self.handles, self.activity.bodies.bodies(), handle) else {
             return Err(Refusal::StaleHandle);
         };
         if !body.enabled {
@@ -32,21 +32,17 @@ impl WorldCore {
         let waking = self.plan_stir_by_ties(handle.slot, &ties)?;
         self.ledger.reserve(1)?;
         wake_planned(
-            &mut self.sets,
-            &mut self.bodies,
+            &mut self.activity,
             self.joint_handles.slot_entries(),
-            &self.joints,
-            &mut self.joint_sets,
-            &self.contacts,
-            &mut self.contact_sets,
+            &self.constraints,
             &waking,
         );
-        leave(&mut self.sets, handle.slot, mover, &ties);
-        self.bodies.disable(handle.slot);
-        self.joints.idle(handle.slot);
-        self.contacts.know_numbered();
-        self.contacts.drop_of_body(handle.slot);
-        self.contacts.know_numbered();
+        leave(&mut self.activity.sets, handle.slot, mover, &ties);
+        self.activity.bodies.disable(handle.slot);
+        self.constraints.joints.idle(handle.slot);
+        self.constraints.contacts.know_numbered();
+        self.constraints.contacts.drop_of_body(handle.slot);
+        self.constraints.contacts.know_numbered();
         book(
             &mut self.ledger,
             self.calls + 1,
@@ -61,7 +57,7 @@ impl WorldCore {
         requires { self.old.plain.calls < 2 ^ 40 }
         ensures { Answers (apply_enable self.old.plain handle) self.old result self.new }
     {
-        let Some(body) = body_of(&self.handles, self.bodies.bodies(), handle) else {
+        let Some(body) = body_of(&self.handles, self.activity.bodies.bodies(), handle) else {
             return Err(Refusal::StaleHandle);
         };
         if body.enabled {
@@ -69,41 +65,42 @@ impl WorldCore {
             return Ok(Reply::Done);
         }
         let mover = body.kind.is_dynamic();
-        let own = self.joints.slots_of(handle.slot)?;
+        let own = self.constraints.joints.slots_of(handle.slot)?;
         let joined = list_joined(
-            self.bodies.allocator(),
-            self.bodies.bodies(),
-            self.joints.joints(),
+            self.activity.bodies.allocator(),
+            self.activity.bodies.bodies(),
+            self.constraints.joints.joints(),
             &own,
             handle.slot,
         )?;
         let waking = self.plan_waking(&joined)?;
-        let mut ties = Vec::with_capacity(self.bodies.allocator(), own.len())?;
-        self.sets.reserve(own.len(), self.bodies.bodies().len())?;
+        let mut ties = Vec::with_capacity(self.activity.bodies.allocator(), own.len())?;
+        self.activity
+            .sets
+            .reserve(own.len(), self.activity.bodies.bodies().len())?;
         wake_planned(
-            &mut self.sets,
-            &mut self.bodies,
+            &mut self.activity,
             self.joint_handles.slot_entries(),
-            &self.joints,
-            &mut self.joint_sets,
-            &self.contacts,
-            &mut self.contact_sets,
+            &self.constraints,
             &waking,
         );
-        self.contacts.know_numbered();
-        self.bodies.enable(handle.slot);
+        self.constraints.contacts.know_numbered();
+        self.activity.bodies.enable(handle.slot);
         fill_joint_ties(
             &mut ties,
-            self.bodies.bodies(),
+            self.activity.bodies.bodies(),
             self.joint_handles.slot_entries(),
-            self.joints.joints(),
+            self.constraints.joints.joints(),
             &own,
             handle.slot,
         );
-        come(&mut self.sets, handle.slot, mover);
-        self.sets.begin_each(&ties);
-        self.joints
-            .follow(&mut self.joint_sets, self.bodies.bodies(), &[handle.slot]);
+        come(&mut self.activity.sets, handle.slot, mover);
+        self.activity.sets.begin_each(&ties);
+        self.constraints.joints.follow(
+            &mut self.activity.joint_sets,
+            self.activity.bodies.bodies(),
+            &[handle.slot],
+        );
         self.calls += 1;
         Ok(Reply::Done)
     }

@@ -18,31 +18,29 @@ impl WorldCore {
         requires { self.old.plain.calls < 2 ^ 40 }
         ensures { Answers (apply_join self.old.plain def.now) self.old result self.new }
     {
-        check_join(&self.handles, self.bodies.bodies(), def)?;
+        check_join(&self.handles, self.activity.bodies.bodies(), def)?;
         if self.joint_handles.is_full() {
             return Err(Refusal::TooMany);
         }
         let joint = def.make();
         let waking = self.plan_waking(&[joint.a, joint.b])?;
         self.joint_handles.reserve_one()?;
-        self.joints.reserve_for(&joint)?;
-        self.sets.reserve(1, 0)?;
-        self.joint_sets.reserve(self.joints.joints().len() + 1, 0)?;
+        self.constraints.joints.reserve_for(&joint)?;
+        self.activity.sets.reserve(1, 0)?;
+        self.activity
+            .joint_sets
+            .reserve(self.constraints.joints.joints().len() + 1, 0)?;
         wake_planned(
-            &mut self.sets,
-            &mut self.bodies,
+            &mut self.activity,
             self.joint_handles.slot_entries(),
-            &self.joints,
-            &mut self.joint_sets,
-            &self.contacts,
-            &mut self.contact_sets,
+            &self.constraints,
             &waking,
         );
         let handle = self.joint_handles.insert()?;
-        let movers = joint_movers(self.bodies.bodies(), &joint);
-        begin_with(&mut self.sets, Constraint::Joint(handle), movers);
-        self.bodies.mark(joint.a);
-        self.joints.put(handle.slot, joint);
+        let movers = joint_movers(self.activity.bodies.bodies(), &joint);
+        begin_with(&mut self.activity.sets, Constraint::Joint(handle), movers);
+        self.activity.bodies.mark(joint.a);
+        self.constraints.joints.put(handle.slot, joint);
         self.calls += 1;
         Ok(Reply::Joint(handle))
     }
@@ -51,24 +49,20 @@ impl WorldCore {
         requires { self.old.plain.calls < 2 ^ 40 }
         ensures { Answers (apply_unjoin self.old.plain handle) self.old result self.new }
     {
-        let Some(joint) = joint_of(&self.joint_handles, &self.joints, handle) else {
+        let Some(joint) = joint_of(&self.joint_handles, &self.constraints.joints, handle) else {
             return Err(Refusal::StaleHandle);
         };
         let waking = self.plan_waking(&[joint.a, joint.b])?;
         wake_planned(
-            &mut self.sets,
-            &mut self.bodies,
+            &mut self.activity,
             self.joint_handles.slot_entries(),
-            &self.joints,
-            &mut self.joint_sets,
-            &self.contacts,
-            &mut self.contact_sets,
+            &self.constraints,
             &waking,
         );
-        let movers = joint_movers(self.bodies.bodies(), &joint);
-        end_with(&mut self.sets, Constraint::Joint(handle), movers);
-        self.bodies.mark(joint.b);
-        self.joints.clear(handle.slot);
+        let movers = joint_movers(self.activity.bodies.bodies(), &joint);
+        end_with(&mut self.activity.sets, Constraint::Joint(handle), movers);
+        self.activity.bodies.mark(joint.b);
+        self.constraints.joints.clear(handle.slot);
         self.joint_handles.remove(handle);
         self.calls += 1;
         Ok(Reply::Done)

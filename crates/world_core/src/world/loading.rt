@@ -17,6 +17,7 @@ ghost use Rattle.world_rules.specs.Sound.{IsSound};
 ghost use Rattle.world_rules.specs.Settled.{settled_world};
 
 use super::WorldCore;
+use crate::activity::Activity;
 use crate::parts::{BodyParts, ConstraintParts, JointParts};
 use crate::scratch::Scratch;
 use body_handles::Handles;
@@ -30,7 +31,7 @@ use serde_json::Value;
 use sleep_wake::Sets;
 use solver_sets::{count_members, list_all_ties, list_members};
 use std::alloc::Global;
-use world_core_base::{BodyTable, GatheredRows, JointTable, list_contacts_asleep};
+use world_core_base::{BodyTable, Constraints, GatheredRows, JointTable, list_contacts_asleep};
 use world_file::{Broken, read};
 
 /// The contacts of a plain world.
@@ -130,11 +131,17 @@ impl WorldCore {
         )?;
         Ok(WorldCore {
             handles: bodies.handles,
-            bodies: bodies.table,
             joint_handles: joints.handles,
-            joints: joints.table,
-            contacts: constraints.contacts,
-            sets: constraints.sets,
+            activity: Activity {
+                bodies: bodies.table,
+                sets: constraints.sets,
+                joint_sets: joints.sets,
+                contact_sets,
+            },
+            constraints: Constraints {
+                joints: joints.table,
+                contacts: constraints.contacts,
+            },
             gathered: GatheredRows::new(alloc),
             scratch: Scratch::new(alloc),
             gravity: plain.gravity(),
@@ -142,8 +149,6 @@ impl WorldCore {
             calls: plain.calls(),
             ledger: Ledger::from_totals(alloc, totals),
             events: Events::new(alloc),
-            joint_sets: joints.sets,
-            contact_sets,
         })
     }
 

@@ -22,21 +22,21 @@ impl WorldCore {
     pub fn joints(&self) -> &JointTable
         ensures { result.now.joints ≡ self.now.plain.joints }
     {
-        &self.joints
+        &self.constraints.joints
     }
 
     /// The contacts of near shapes, all and by number.
     pub fn contacts(&self) -> &ContactTable
         ensures { result.now.contacts ≡ self.now.plain.contacts }
     {
-        &self.contacts
+        &self.constraints.contacts
     }
 
     /// The islands of the movers.
     pub fn islands(&self) -> &Islands
         ensures { result.now.labels ≡ self.now.plain.islands }
     {
-        self.sets.islands()
+        self.activity.sets.islands()
     }
 
     /// How many calls were accepted.
@@ -50,6 +50,6 @@ impl WorldCore {
     pub fn colours(&self) -> &Colours<Constraint>
         ensures { ids_of result.now.lists ≡ self.now.plain.colours }
     {
-        self.sets.colours()
+        self.activity.sets.colours()
     }
 }

@@ -24,6 +24,10 @@ impl WorldCore {
         ensures memory_only { IsOkUnless result Refusal.NoMemory }
     {
         let plain = self.plain()?;
-        write(self.bodies.allocator(), &plain, &self.ledger.totals())
+        write(
+            self.activity.bodies.allocator(),
+            &plain,
+            &self.ledger.totals(),
+        )
     }
 }

@@ -32,7 +32,7 @@ impl WorldCore {
         ensures movers { IfOk result (λ waking. HasIslands self.now.plain.islands waking.names.items waking.movers.items) }
         ensures memory_only { IsOkUnless result Refusal.NoMemory }
     {
-        plan_waking(self.bodies.allocator(), &self.sets, slots)
+        plan_waking(self.activity.bodies.allocator(), &self.activity.sets, slots)
     }
 
     /// Which islands wake when the body in a slot is changed.
@@ -41,7 +41,7 @@ impl WorldCore {
         ensures movers { IfOk result (λ waking. HasIslands self.now.plain.islands waking.names.items waking.movers.items) }
         ensures memory_only { IsOkUnless result Refusal.NoMemory }
     {
-        if is_mover_at(self.bodies.bodies(), slot) {
+        if is_mover_at(self.activity.bodies.bodies(), slot) {
             return self.plan_waking(&[slot]);
         }
         let ties = self.ties_at(slot)?;
@@ -59,10 +59,10 @@ impl WorldCore {
         ensures movers { IfOk result (λ waking. HasIslands self.now.plain.islands waking.names.items waking.movers.items) }
         ensures memory_only { IsOkUnless result Refusal.NoMemory }
     {
-        if is_mover_at(self.bodies.bodies(), slot) {
+        if is_mover_at(self.activity.bodies.bodies(), slot) {
             return self.plan_waking(&[slot]);
         }
-        let slots = list_first(self.bodies.allocator(), ties)?;
+        let slots = list_first(self.activity.bodies.allocator(), ties)?;
         self.plan_waking(&slots)
     }
 
@@ -72,15 +72,20 @@ impl WorldCore {
         ensures ties { IfOk result (λ ties. ties.items ≡ ties_at slot self.now.plain.bodies (joints_in_slots self.now.plain) self.now.plain.contacts) }
         ensures memory_only { IsOkUnless result Refusal.NoMemory }
     {
-        let alloc = self.bodies.allocator();
+        let alloc = self.activity.bodies.allocator();
         let mut ties = joint_ties(
             alloc,
-            self.bodies.bodies(),
+            self.activity.bodies.bodies(),
             self.joint_handles.slot_entries(),
-            &self.joints,
+            &self.constraints.joints,
             slot,
         )?;
-        let contacts = contact_ties(alloc, self.bodies.bodies(), &self.contacts, slot)?;
+        let contacts = contact_ties(
+            alloc,
+            self.activity.bodies.bodies(),
+            &self.constraints.contacts,
+            slot,
+        )?;
         ties.extend_from_slice(&contacts)?;
         Ok(ties)
     }
@@ -89,16 +94,12 @@ impl WorldCore {
         requires { self.old.plain.calls < 2 ^ 40 }
         ensures { Answers (apply_wake self.old.plain handle) self.old result self.new }
     {
-        check_mover(&self.handles, self.bodies.bodies(), handle)?;
+        check_mover(&self.handles, self.activity.bodies.bodies(), handle)?;
         let waking = self.plan_waking(&[handle.slot])?;
         wake_planned(
-            &mut self.sets,
-            &mut self.bodies,
+            &mut self.activity,
             self.joint_handles.slot_entries(),
-            &self.joints,
-            &mut self.joint_sets,
-            &self.contacts,
-            &mut self.contact_sets,
+            &self.constraints,
             &waking,
         );
         self.calls += 1;
@@ -109,17 +110,17 @@ impl WorldCore {
         requires { self.old.plain.calls < 2 ^ 40 }
         ensures { Answers (apply_sleep self.old.plain handle) self.old result self.new }
     {
-        check_mover(&self.handles, self.bodies.bodies(), handle)?;
+        check_mover(&self.handles, self.activity.bodies.bodies(), handle)?;
         self.ledger.reserve(1)?;
-        let movers = plan_rest(self.bodies.allocator(), &self.sets, handle.slot)?;
+        let movers = plan_rest(
+            self.activity.bodies.allocator(),
+            &self.activity.sets,
+            handle.slot,
+        )?;
         let rest = put_to_sleep(
-            &mut self.sets,
-            &mut self.bodies,
+            &mut self.activity,
             self.joint_handles.slot_entries(),
-            &self.joints,
-            &mut self.joint_sets,
-            &self.contacts,
-            &mut self.contact_sets,
+            &self.constraints,
             handle.slot,
             &movers,
         );

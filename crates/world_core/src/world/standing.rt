@@ -32,23 +32,23 @@ impl WorldCore {
     fn stand_of_body(&self, handle: Handle) -> Option<SetName>
         ensures { result ≡ option_map standing_of (body_of self.now.plain.slot_entries self.now.plain.bodies handle) }
     {
-        let body = body_of(&self.handles, self.bodies.bodies(), handle)?;
+        let body = body_of(&self.handles, self.activity.bodies.bodies(), handle)?;
         Some(body.standing())
     }
 
     fn stand_of_joint(&self, handle: Handle) -> Option<SetName>
         ensures { result ≡ option_map (standing_of_joint self.now.plain.bodies) (joint_of self.now.plain.joint_entries self.now.plain.joints handle) }
     {
-        let joint = joint_of(&self.joint_handles, &self.joints, handle)?;
-        Some(standing_of_joint(self.bodies.bodies(), &joint))
+        let joint = joint_of(&self.joint_handles, &self.constraints.joints, handle)?;
+        Some(standing_of_joint(self.activity.bodies.bodies(), &joint))
     }
 
     fn stand_of_contact(&self, key: ContactKey) -> Option<SetName>
         ensures { result ≡ option_map (standing_of_contact self.now.plain.bodies) (find (has_key key) self.now.plain.contacts) }
     {
-        self.contacts.know_numbered();
-        let number = self.contacts.number_of(key)?;
-        let contact = self.contacts.contact(number)?;
-        Some(standing_by_key(self.bodies.bodies(), contact.key, contact.touching))
+        self.constraints.contacts.know_numbered();
+        let number = self.constraints.contacts.number_of(key)?;
+        let contact = self.constraints.contacts.contact(number)?;
+        Some(standing_by_key(self.activity.bodies.bodies(), contact.key, contact.touching))
     }
 }

@@ -5,11 +5,11 @@ ghost use Rattle.shapes.specs.Shapes.{is_between};
 ghost use Rattle.world_rules.specs.Apply.{Answers, apply_gravity, apply_step};
 
 use super::{MAX_GRAVITY, WorldCore};
-use crate::booking::record_step;
+use crate::booking::{book_step, renew_events};
 use crate::committing::commit_collide;
 use crate::preparing::prepare;
 use crate::sleep_phase::rest_after_ticks;
-use crate::solving::{Acting, solve};
+use crate::solving::solve;
 use crate::step_worker::{StepWorker, WorldLook};
 use crew::PieceMap;
 use fixed_geom::{Refusal, Vec2, is_within};
@@ -59,63 +59,42 @@ impl WorldCore {
         let prepared = prepare(
             worker,
             &mut self.ledger,
-            &mut self.bodies,
-            &mut self.joints,
-            &mut self.contacts,
-            &mut self.sets,
+            &mut self.activity,
+            &mut self.constraints,
             &mut self.gathered,
             &mut self.scratch,
         )?;
-        self.contact_sets.reserve(self.contacts.number_bound(), 0)?;
         commit_collide(
-            &mut self.contacts,
-            &mut self.bodies,
+            &mut self.activity,
             self.joint_handles.slot_entries(),
-            &self.joints,
-            &mut self.joint_sets,
-            &mut self.contact_sets,
-            &mut self.sets,
+            &mut self.constraints,
             &mut self.scratch.woke,
             self.handles.slot_entries(),
             &prepared,
         );
         let sums = solve(
             worker,
-            &mut self.bodies,
-            &mut self.joints,
-            &mut self.contacts,
+            &mut self.activity.bodies,
+            &mut self.constraints,
             &mut self.gathered,
-            Acting {
-                colours: self.sets.colours(),
-                pace: Pace {
-                    gravity: self.gravity,
-                    count: ticks,
-                },
+            self.activity.sets.colours(),
+            Pace {
+                gravity: self.gravity,
+                count: ticks,
             },
         );
         let rest = rest_after_ticks(
-            &mut self.bodies,
+            &mut self.activity,
             self.joint_handles.slot_entries(),
-            &self.joints,
-            &mut self.joint_sets,
-            &mut self.contact_sets,
-            &mut self.sets,
+            &self.constraints,
             &mut self.scratch,
             self.handles.slot_entries(),
-            &self.contacts,
             ticks,
         );
         self.steps += 1;
         self.calls += 1;
-        record_step(
-            &mut self.ledger,
-            &mut self.events,
-            &mut self.scratch,
-            self.calls,
-            sums,
-            rest,
-            prepared.touches,
-        );
+        book_step(&mut self.ledger, self.calls, sums, rest);
+        renew_events(&mut self.events, &mut self.scratch, prepared.touches);
         Ok(Reply::Stepped(self.steps))
     }
 }

@@ -1,3 +1,5 @@
+use Rattle.std.proofs.Common.{arith}
+use Rattle.world_core.proofs.WorldSourceLaws.{contacts_more}
 use Rattle.world_core.proofs.preparing.prepare.Goals as goal
 
 pub collide-requires-clause-few : goal.collide-requires-clause-few
@@ -11,3 +13,14 @@ collide-requires-clause-known g c = rw (c.flush.ensures.bodies, c.flush.ensures.
 
 pub list_sleepers-requires : goal.list_sleepers-requires
 list_sleepers-requires g c = rw c.in_ok-reserve-2.ensures.acting c.requires.consistent
+
+pub returns-clause-contacts_standing : goal.returns-clause-contacts_standing
+returns-clause-contacts_standing g c = contacts_more c.args.activity.now.bodies.bodies c.args.constraints.now.contacts.numbered c.args.activity.now.contact_sets c.reserve-3.new.self c.reserve-3.ensures.same c.reserve-3.ensures.more_items c.reserve-3.ensures.more_sets c.requires.contacts_standing
+
+pub returns-in_err-reserve-3-clause-contacts_standing : goal.returns-in_err-reserve-3-clause-contacts_standing
+returns-in_err-reserve-3-clause-contacts_standing g c = contacts_more c.args.activity.now.bodies.bodies c.args.constraints.now.contacts.numbered c.args.activity.now.contact_sets c.reserve-3.new.self c.reserve-3.ensures.same c.reserve-3.ensures.more_items c.reserve-3.ensures.more_sets c.requires.contacts_standing
+
+pub returns-clause-for_numbers : goal.returns-clause-for_numbers
+returns-clause-for_numbers g c =
+    let room = c.in_ok-reserve-3.ensures.items in
+    rw (← c.number_bound.ensures.bound) (omega (arith, room))

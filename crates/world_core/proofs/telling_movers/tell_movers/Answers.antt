@@ -16,26 +16,26 @@ tell_some-gain-requires-clause-others c = rw c.islands.ensures c.requires.others
 
 pub follow-requires-clause-can : goal.follow-requires-clause-can
 follow-requires-clause-can c =
-    let labels = c.args.sets.now.acting.labels in
-    let bodies = c.args.bodies.now.bodies in
+    let labels = c.args.activity.now.sets.acting.labels in
+    let bodies = c.args.activity.now.bodies.bodies in
     let keep : KeepSets labels bodies = record {
       together = c.requires.together;
-      named = λ slot name lt h. named_low c.args.sets.now.acting (length bodies) slot name c.know_consistent.ensures lt h;
+      named = λ slot name lt h. named_low c.args.activity.now.sets.acting (length bodies) slot name c.know_consistent.ensures lt h;
     } in
     rw (c.bodies.ensures, c.tell_some-gain.ensures.bodies, c.islands.ensures)
-    (joints_can_follow labels bodies c.args.joints.now.joints c.args.joint_sets.now c.requires.standing keep)
+    (joints_can_follow labels bodies c.args.constraints.now.joints.joints c.args.activity.now.joint_sets c.requires.standing keep)
 
 pub follow-requires-clause-others : goal.follow-requires-clause-others
 follow-requires-clause-others c slot =
-    let labels = c.args.sets.now.acting.labels in
-    let bodies = c.args.bodies.now.bodies in
+    let labels = c.args.activity.now.sets.acting.labels in
+    let bodies = c.args.activity.now.bodies.bodies in
     rw (c.bodies.ensures, c.tell_some-gain.ensures.bodies, c.islands.ensures)
-    (λ off. joint_beside bodies (told labels bodies) c.args.slots.now (joint_at c.args.joints.now.joints slot) (told_beside labels bodies c.args.slots.now c.requires.others) off ∙ sym (c.requires.standing.asleep slot))
+    (λ off. joint_beside bodies (told labels bodies) c.args.slots.now (joint_at c.args.constraints.now.joints.joints slot) (told_beside labels bodies c.args.slots.now c.requires.others) off ∙ sym (c.requires.standing.asleep slot))
 
 pub returns-clause-standing : goal.returns-clause-standing
 returns-clause-standing c =
-    let labels = c.args.sets.now.acting.labels in
-    let bodies = c.args.bodies.now.bodies in
+    let labels = c.args.activity.now.sets.acting.labels in
+    let bodies = c.args.activity.now.bodies.bodies in
     record {
       asleep = rw c.bodies.ensures at c.follow.ensures.asleep;
       items = λ slot on. let lt = c.requires.standing.items slot on in omega (arith, lt, c.follow.ensures.items);
@@ -50,27 +50,27 @@ returns-clause-items c = c.follow.ensures.items
 
 pub follow_contacts-requires-clause-can : goal.follow_contacts-requires-clause-can
 follow_contacts-requires-clause-can c =
-    let labels = c.args.sets.now.acting.labels in
-    let bodies = c.args.bodies.now.bodies in
+    let labels = c.args.activity.now.sets.acting.labels in
+    let bodies = c.args.activity.now.bodies.bodies in
     let keep : KeepSets labels bodies = record {
       together = c.requires.together;
-      named = λ slot name lt h. named_low c.args.sets.now.acting (length bodies) slot name c.know_consistent.ensures lt h;
+      named = λ slot name lt h. named_low c.args.activity.now.sets.acting (length bodies) slot name c.know_consistent.ensures lt h;
     } in
     rw (c.bodies-2.ensures, c.tell_some-gain.ensures.bodies, c.islands.ensures)
-    (contacts_can_follow labels bodies c.args.contacts.now.numbered c.args.contact_sets.now c.requires.contacts_standing keep)
+    (contacts_can_follow labels bodies c.args.constraints.now.contacts.numbered c.args.activity.now.contact_sets c.requires.contacts_standing keep)
 
 pub follow_contacts-requires-clause-others : goal.follow_contacts-requires-clause-others
 follow_contacts-requires-clause-others c number =
-    let labels = c.args.sets.now.acting.labels in
-    let bodies = c.args.bodies.now.bodies in
-    let numbered = c.args.contacts.now.numbered in
+    let labels = c.args.activity.now.sets.acting.labels in
+    let bodies = c.args.activity.now.bodies.bodies in
+    let numbered = c.args.constraints.now.contacts.numbered in
     rw (c.bodies-2.ensures, c.tell_some-gain.ensures.bodies, c.islands.ensures)
     (λ off. contact_beside bodies (told labels bodies) c.args.slots.now (contact_at numbered number) (told_beside labels bodies c.args.slots.now c.requires.others) off ∙ sym (c.requires.contacts_standing.asleep number))
 
 pub returns-clause-contacts_standing : goal.returns-clause-contacts_standing
 returns-clause-contacts_standing c =
-    let labels = c.args.sets.now.acting.labels in
-    let bodies = c.args.bodies.now.bodies in
+    let labels = c.args.activity.now.sets.acting.labels in
+    let bodies = c.args.activity.now.bodies.bodies in
     record {
       asleep = rw c.bodies-2.ensures at c.follow_contacts.ensures.asleep;
       items = λ number on. let lt = c.requires.contacts_standing.items number on in omega (arith, lt, c.follow_contacts.ensures.items);

@@ -62,11 +62,11 @@ put-requires-clause-free c =
 -- room that was made for no body leaves the world as it was
 pub invariant_of-self-in_err-reserve-3 : goal.invariant_of-self-in_err-reserve-3
 invariant_of-self-in_err-reserve-3 c =
-    core_bodies (the_view c.self.inside) _ _ _ c.self.inside.bodies c.reserve_one-2.new.self c.self.invariant
+    core_bodies (the_view c.self.inside) _ _ _ c.self.inside.activity.bodies c.reserve_one-2.new.self c.self.invariant
     (rw (c.in_ok-reserve_one.ensures.kept, c.in_ok-reserve_one-2.ensures.bodies, c.in_ok-reserve.ensures.acting) c.self.invariant.whole)
     refl refl refl refl c.in_ok-reserve_one-2.ensures.marked
-    c.reserve-2.new.self (rw c.in_ok-reserve_one-2.ensures.bodies (joints_more c.self.inside.bodies.bodies c.self.inside.joints.joints c.self.inside.joint_sets c.reserve-2.new.self c.reserve-2.ensures.same c.reserve-2.ensures.more_items c.reserve-2.ensures.more_sets c.self.invariant.standing))
-    c.self.inside.contacts.numbered c.reserve-3.new.self (rw c.in_ok-reserve_one-2.ensures.bodies (contacts_more c.self.inside.bodies.bodies c.self.inside.contacts.numbered c.self.inside.contact_sets c.reserve-3.new.self c.reserve-3.ensures.same c.reserve-3.ensures.more_items c.reserve-3.ensures.more_sets c.self.invariant.contacts_standing))
+    c.reserve-2.new.self (rw c.in_ok-reserve_one-2.ensures.bodies (joints_more c.self.inside.activity.bodies.bodies c.self.inside.constraints.joints.joints c.self.inside.activity.joint_sets c.reserve-2.new.self c.reserve-2.ensures.same c.reserve-2.ensures.more_items c.reserve-2.ensures.more_sets c.self.invariant.standing))
+    c.self.inside.constraints.contacts.numbered c.reserve-3.new.self (rw c.in_ok-reserve_one-2.ensures.bodies (contacts_more c.self.inside.activity.bodies.bodies c.self.inside.constraints.contacts.numbered c.self.inside.activity.contact_sets c.reserve-3.new.self c.reserve-3.ensures.same c.reserve-3.ensures.more_items c.reserve-3.ensures.more_sets c.self.invariant.contacts_standing))
 
 pub invariant_of-self-2 : goal.invariant_of-self-2
 invariant_of-self-2 c =
@@ -75,27 +75,27 @@ invariant_of-self-2 c =
     let free : lowest c.self.inside.handles.slot_entries < MAX_SLOTS = rw (c.in_ok-handle.ensures.slot, c.in_ok-reserve_one.ensures.kept) at c.in_ok-handle.ensures.slot_below in
     let body : IsBody (made c.args.def.now) = rw c.in_ok-body.ensures.made at c.in_ok-body.ensures.body in
     let filters : HaveFilters c.args.def.now.shapes = rw c.as_slice.ensures at c.know_filters_fit.ensures in
-    core_bodies (the_view c.self.inside) _ _ _ c.self.inside.bodies c.put.new.self c.self.invariant
+    core_bodies (the_view c.self.inside) _ _ _ c.self.inside.activity.bodies c.put.new.self c.self.invariant
     (rw (c.widen.ensures.acting, c.come.ensures.acting, c.is_mover.ensures, c.in_ok-handle.ensures.given_out, c.put.ensures.bodies, c.in_ok-handle.ensures.slot, c.in_ok-reserve_one.ensures.kept, c.in_ok-body.ensures.made, c.in_ok-reserve_one-2.ensures.bodies, c.in_ok-reserve.ensures.acting)
-    (whole w _ _ _ (create_left w c.self.inside.sets.acting c.args.def.now (kept_of _ _ c.self.invariant.whole) c.self.invariant.whole.same calls free body filters)))
+    (whole w _ _ _ (create_left w c.self.inside.activity.sets.acting c.args.def.now (kept_of _ _ c.self.invariant.whole) c.self.invariant.whole.same calls free body filters)))
     refl refl refl refl
-    (marked_after c.self.inside.bodies c.reserve_one-2.new.self c.put.new.self c.in_ok-reserve_one-2.ensures.marked c.put.ensures.marked)
+    (marked_after c.self.inside.activity.bodies c.reserve_one-2.new.self c.put.new.self c.in_ok-reserve_one-2.ensures.marked c.put.ensures.marked)
     c.reserve-2.new.self
     (rw (c.put.ensures.bodies, c.in_ok-handle.ensures.slot, c.in_ok-reserve_one.ensures.kept, c.in_ok-body.ensures.made, c.in_ok-reserve_one-2.ensures.bodies)
-    (body_comes w.plain.bodies w.plain.joints (lowest w.plain.slot_entries) (made c.args.def.now) c.self.inside.joint_sets c.reserve-2.new.self (kept_of _ _ c.self.invariant.whole).joints (free_slot w (kept_of _ _ c.self.invariant.whole))
+    (body_comes w.plain.bodies w.plain.joints (lowest w.plain.slot_entries) (made c.args.def.now) c.self.inside.activity.joint_sets c.reserve-2.new.self (kept_of _ _ c.self.invariant.whole).joints (free_slot w (kept_of _ _ c.self.invariant.whole))
     (let least : lowest w.plain.slot_entries ≤ length w.plain.slot_entries = lowest-le-length w.plain.slot_entries in let slots : length w.plain.slot_entries ≡ length w.plain.bodies = (kept_of _ _ c.self.invariant.whole).matched.slots in omega (arith, least, slots))
     c.reserve-2.ensures.same c.reserve-2.ensures.more_items
     (let least : lowest w.plain.slot_entries ≤ length w.plain.slot_entries = lowest-le-length w.plain.slot_entries in let slots : length w.plain.slot_entries ≡ length w.plain.bodies = (kept_of _ _ c.self.invariant.whole).matched.slots in
-    let more = length-with_body w.plain.bodies (lowest w.plain.slot_entries) (made c.args.def.now) (omega (arith, least, slots)) in let room = rw (c.bodies-2.ensures, c.in_ok-reserve_one-2.ensures.bodies) at c.in_ok-reserve-2.ensures.sets in omega (arith, more, room))
+    let more = length-with_body w.plain.bodies (lowest w.plain.slot_entries) (made c.args.def.now) (omega (arith, least, slots)) in let room = rw (c.bodies.ensures, c.in_ok-reserve_one-2.ensures.bodies) at c.in_ok-reserve-2.ensures.sets in omega (arith, more, room))
     c.self.invariant.standing))
-    c.self.inside.contacts.numbered c.reserve-3.new.self
+    c.self.inside.constraints.contacts.numbered c.reserve-3.new.self
     (rw (c.put.ensures.bodies, c.in_ok-handle.ensures.slot, c.in_ok-reserve_one.ensures.kept, c.in_ok-body.ensures.made, c.in_ok-reserve_one-2.ensures.bodies)
     (let slot = lowest w.plain.slot_entries in
     let least : slot ≤ length w.plain.slot_entries = lowest-le-length w.plain.slot_entries in
     let slots : length w.plain.slot_entries ≡ length w.plain.bodies = (kept_of _ _ c.self.invariant.whole).matched.slots in
     let more = length-with_body w.plain.bodies slot (made c.args.def.now) (omega (arith, least, slots)) in
-    let room = rw (c.bodies-3.ensures, c.in_ok-reserve_one-2.ensures.bodies) at c.in_ok-reserve-3.ensures.sets in
-    contacts_stay w.plain.bodies (with_body w.plain.bodies slot (made c.args.def.now)) slot w.plain.contacts c.self.inside.contacts.numbered c.self.inside.contact_sets c.reserve-3.new.self (kept_of _ _ c.self.invariant.whole).there (ap is_enabled_in (free_slot w (kept_of _ _ c.self.invariant.whole))) c.know_numbered.ensures.numbered
+    let room = rw (c.bodies.ensures, c.in_ok-reserve_one-2.ensures.bodies) at c.in_ok-reserve-3.ensures.sets in
+    contacts_stay w.plain.bodies (with_body w.plain.bodies slot (made c.args.def.now)) slot w.plain.contacts c.self.inside.constraints.contacts.numbered c.self.inside.activity.contact_sets c.reserve-3.new.self (kept_of _ _ c.self.invariant.whole).there (ap is_enabled_in (free_slot w (kept_of _ _ c.self.invariant.whole))) c.know_numbered.ensures.numbered
     (λ other ne. made_beside w.plain.bodies slot (made c.args.def.now) other (omega (arith, least, slots)) ne) c.reserve-3.ensures.same c.reserve-3.ensures.more_items (omega (arith, more, room)) c.self.invariant.contacts_standing))
 
 pub returns : goal.returns
@@ -110,7 +110,7 @@ returns c =
     rw (← c.self.view_is)
     (create_answers w c.args.def.now c.in_ok-handle.handle _ c.widen.new.self.acting c.in_ok-check.ensures.refusal free (same_handle _ (handle_at w.plain.slot_entries (lowest w.plain.slot_entries)) slot generation)
     (rw (c.widen.ensures.acting, c.come.ensures.acting, c.is_mover.ensures, c.in_ok-handle.ensures.given_out, c.put.ensures.bodies, c.in_ok-handle.ensures.slot, c.in_ok-reserve_one.ensures.kept, c.in_ok-body.ensures.made, c.in_ok-reserve_one-2.ensures.bodies, c.in_ok-reserve.ensures.acting)
-    (create_left w c.self.inside.sets.acting c.args.def.now (kept_of _ _ c.self.invariant.whole) c.self.invariant.whole.same calls free body filters)))
+    (create_left w c.self.inside.activity.sets.acting c.args.def.now (kept_of _ _ c.self.invariant.whole) c.self.invariant.whole.same calls free body filters)))
 
 pub widen-requires : goal.widen-requires
 widen-requires c =

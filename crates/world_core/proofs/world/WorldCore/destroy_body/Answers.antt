@@ -3,7 +3,6 @@ use Rattle.solver_sets.specs.Ties.{JointSlots}
 use Rattle.world_rules.specs.World.{World, body_named, joints_in_slots}
 use Rattle.world_rules.proofs.KeptChanges.{named_at}
 use Rattle.world_core.specs.contracts.world.WorldCore.{the_view}
-use Rattle.world_core.proofs.Whole.{told_whole}
 use Rattle.world_core.proofs.GoingLaws.{IsGoing, is_going, there_still}
 use Rattle.world_core.proofs.UpJointLaws.{own_stirred_up}
 use Rattle.world_core.proofs.ChangedJointLaws.{body_leaves, set_beside}
@@ -14,7 +13,7 @@ use Rattle.plain_world.specs.Slots.{body_at}
 use Rattle.solver_sets.proofs.SlotLemmas.{item_at-set_none}
 use Rattle.world_core.proofs.CoreLaws.{core_destroyed}
 use Rattle.world_core.proofs.KnownLaws.{marked_after}
-use Rattle.world_core.proofs.WorldSourceLaws.{world_can_tell, world_ties}
+use Rattle.world_core.proofs.ReadyLaws.{core_ready}
 use Rattle.std.proofs.lemmas.List.{length-set}
 use Rattle.world_core.proofs.UpContactLaws.{contacts_leave, own_contact_up}
 use Rattle.world_core.proofs.world.WorldCore.destroy_body.Goals as goal
@@ -23,21 +22,15 @@ use Rattle.world_core.proofs.world.WorldCore.destroy_body.Goals.{After-deref-2}
 pub wake_planned-requires-clause-movers : goal.wake_planned-requires-clause-movers
 wake_planned-requires-clause-movers c = rw (← c.self.view_is) at c.in_ok-waking.ensures.movers
 
-pub wake_planned-requires-clause-told : goal.wake_planned-requires-clause-told
-wake_planned-requires-clause-told c = (told_whole (the_view c.self.inside) _ c.self.invariant.whole)
-
-pub wake_planned-requires-clause-can_tell : goal.wake_planned-requires-clause-can_tell
-wake_planned-requires-clause-can_tell c = rw c.slot_entries.ensures (world_can_tell (the_view c.self.inside) c.self.inside.sets.acting c.self.invariant.whole)
-
-pub wake_planned-requires-clause-ties : goal.wake_planned-requires-clause-ties
-wake_planned-requires-clause-ties c = rw c.slot_entries.ensures (world_ties (the_view c.self.inside) c.self.inside.sets.acting c.self.invariant.whole)
+pub wake_planned-requires-clause-ready : goal.wake_planned-requires-clause-ready
+wake_planned-requires-clause-ready c = rw c.slot_entries.ensures (core_ready c.self.inside c.self.invariant)
 
 named : (c : After-deref-2) → body_named (the_view c.self.inside).plain c.args.handle ≡ Some c.in-Some.body.now
 named c = rw (← c.bodies.ensures) (sym c.in-Some.ensures)
 
-going : (c : After-deref-2) → IsGoing (the_view c.self.inside) c.self.inside.sets.acting c.wake_planned.new.sets.acting c.args.handle c.in-Some.body.now c.is_mover-mover.result c.deref-2.result.now
+going : (c : After-deref-2) → IsGoing (the_view c.self.inside) c.self.inside.activity.sets.acting c.wake_planned.new.activity.sets.acting c.args.handle c.in-Some.body.now c.is_mover-mover.result c.deref-2.result.now
 going c =
-    is_going (the_view c.self.inside) c.self.inside.sets.acting _ c.args.handle c.in-Some.body.now _ _ c.in_ok-waking.waking.names.items c.self.invariant.whole (named c) c.is_mover-mover.ensures (c.deref-2.ensures.value ∙ rw (← c.self.view_is) at c.in_ok-ties.ensures.ties) (rw (← c.self.view_is) at c.in_ok-waking.ensures.names)
+    is_going (the_view c.self.inside) c.self.inside.activity.sets.acting _ c.args.handle c.in-Some.body.now _ _ c.in_ok-waking.waking.names.items c.self.invariant.whole (named c) c.is_mover-mover.ensures (c.deref-2.ensures.value ∙ rw (← c.self.view_is) at c.in_ok-ties.ensures.ties) (rw (← c.self.view_is) at c.in_ok-waking.ensures.names)
     c.wake_planned.ensures.acting
 
 pub leave-requires-clause-can : goal.leave-requires-clause-can
@@ -61,26 +54,26 @@ invariant_of-self-2 c =
     let w : World = the_view c.self.inside in
     let left = (goal.at.invariant_of-self-2 c).After-deref-2 in
     let is_named : body_named w.plain c.args.handle ≡ Some c.in-Some.body.now = named left in
-    let leaving : IsGoing w c.self.inside.sets.acting c.wake_planned.new.sets.acting c.args.handle c.in-Some.body.now c.is_mover-mover.result c.deref-2.result.now = going left in
+    let leaving : IsGoing w c.self.inside.activity.sets.acting c.wake_planned.new.activity.sets.acting c.args.handle c.in-Some.body.now c.is_mover-mover.result c.deref-2.result.now = going left in
     let calls : c.self.inside.calls < 2 ^ 40 = rw (← c.self.view_is) at c.requires in
     let slot_entries = ap (λ (s : JointSlots). s.slot_entries) c.drop_joints.ensures.gone in
     let joints = ap (λ (s : JointSlots). s.joints) c.drop_joints.ensures.gone in
-    let none : body_at c.clear.new.self.bodies c.args.handle.slot ≡ None = ap (λ (bs : List (Option Body)). body_at bs c.args.handle.slot) c.clear.ensures.bodies ∙ item_at-set_none c.wake_planned.new.bodies.bodies c.args.handle.slot in
-    core_destroyed w _ _ _ c.self.inside.bodies c.clear.new.self c.args.handle.slot c.in-Some.body.now c.self.invariant
+    let none : body_at c.clear.new.self.bodies c.args.handle.slot ≡ None = ap (λ (bs : List (Option Body)). body_at bs c.args.handle.slot) c.clear.ensures.bodies ∙ item_at-set_none c.wake_planned.new.activity.bodies.bodies c.args.handle.slot in
+    core_destroyed w _ _ _ c.self.inside.activity.bodies c.clear.new.self c.args.handle.slot c.in-Some.body.now c.self.invariant
     (rw (c.book.ensures.entries, c.book.ensures.settled, c.loss_of.ensures.x, c.loss_of.ensures.y, c.mover_momentum-p.ensures, c.in_ok-reserve.ensures.entries, c.in_ok-reserve.ensures.settled, c.clear.ensures.bodies, slot_entries, joints, c.drop_of_body.ensures.contacts, c.remove.ensures.taken_back, c.wake_planned.ensures.told, leaving.bodies, c.leave.ensures.acting, leaving.gone)
-    (whole w _ _ _ (destroyed_quietly w c.self.inside.sets.acting c.args.handle c.in-Some.body.now (kept_of _ _ c.self.invariant.whole) c.self.invariant.whole.same calls is_named)))
+    (whole w _ _ _ (destroyed_quietly w c.self.inside.activity.sets.acting c.args.handle c.in-Some.body.now (kept_of _ _ c.self.invariant.whole) c.self.invariant.whole.same calls is_named)))
     refl refl (named_at w.plain c.args.handle c.in-Some.body.now is_named) none
-    (marked_after c.self.inside.bodies c.wake_planned.new.bodies c.clear.new.self c.wake_planned.ensures.marked c.clear.ensures.marked) joints c.drop_of_body.ensures.contacts
-    c.wake_planned.new.joint_sets
+    (marked_after c.self.inside.activity.bodies c.wake_planned.new.activity.bodies c.clear.new.self c.wake_planned.ensures.marked c.clear.ensures.marked) joints c.drop_of_body.ensures.contacts
+    c.wake_planned.new.activity.joint_sets
     (rw (c.clear.ensures.bodies, joints)
-    (body_leaves c.wake_planned.new.bodies.bodies c.args.handle.slot (joints_in_slots w.plain) c.wake_planned.new.joint_sets
-    (λ k own. rw (c.wake_planned.ensures.told, leaving.bodies) (own_stirred_up w c.self.inside.sets.acting c.args.handle.slot k c.self.invariant.whole own)) c.wake_planned.ensures.standing))
-    c.drop_of_body.new.self.numbered c.wake_planned.new.contact_sets
-    (contacts_leave c.wake_planned.new.bodies.bodies c.clear.new.self.bodies c.args.handle.slot w.plain.contacts c.self.inside.contacts.numbered c.drop_of_body.new.self.numbered c.drop_of_body.new.self.made c.drop_of_body.new.self.gone c.wake_planned.new.contact_sets c.know_numbered.ensures.numbered (rw c.drop_of_body.ensures.contacts at c.know_numbered-2.ensures.numbered)
+    (body_leaves c.wake_planned.new.activity.bodies.bodies c.args.handle.slot (joints_in_slots w.plain) c.wake_planned.new.activity.joint_sets
+    (λ k own. rw (c.wake_planned.ensures.told, leaving.bodies) (own_stirred_up w c.self.inside.activity.sets.acting c.args.handle.slot k c.self.invariant.whole own)) c.wake_planned.ensures.standing))
+    c.drop_of_body.new.self.numbered c.wake_planned.new.activity.contact_sets
+    (contacts_leave c.wake_planned.new.activity.bodies.bodies c.clear.new.self.bodies c.args.handle.slot w.plain.contacts c.self.inside.constraints.contacts.numbered c.drop_of_body.new.self.numbered c.drop_of_body.new.self.made c.drop_of_body.new.self.gone c.wake_planned.new.activity.contact_sets c.know_numbered.ensures.numbered (rw c.drop_of_body.ensures.contacts at c.know_numbered-2.ensures.numbered)
     c.drop_of_body.ensures.turnover c.drop_of_body.ensures.none
-    (λ e there own touch. rw (c.wake_planned.ensures.told, leaving.bodies) (own_contact_up w c.self.inside.sets.acting c.args.handle.slot e c.self.invariant.whole there own touch))
-    (λ other ne. rw c.clear.ensures.bodies (set_beside c.wake_planned.new.bodies.bodies c.args.handle.slot None other ne))
-    (let long = ap (λ (os : List (Option Body)). length os) c.clear.ensures.bodies ∙ length-set c.wake_planned.new.bodies.bodies c.args.handle.slot None in omega (arith, long))
+    (λ e there own touch. rw (c.wake_planned.ensures.told, leaving.bodies) (own_contact_up w c.self.inside.activity.sets.acting c.args.handle.slot e c.self.invariant.whole there own touch))
+    (λ other ne. rw c.clear.ensures.bodies (set_beside c.wake_planned.new.activity.bodies.bodies c.args.handle.slot None other ne))
+    (let long = ap (λ (os : List (Option Body)). length os) c.clear.ensures.bodies ∙ length-set c.wake_planned.new.activity.bodies.bodies c.args.handle.slot None in omega (arith, long))
     c.wake_planned.ensures.contacts_standing)
 
 pub returns : goal.returns
@@ -88,11 +81,11 @@ returns c =
     let w : World = the_view c.self.inside in
     let left = (goal.at.returns c).After-deref-2 in
     let is_named : body_named w.plain c.args.handle ≡ Some c.in-Some.body.now = named left in
-    let leaving : IsGoing w c.self.inside.sets.acting c.wake_planned.new.sets.acting c.args.handle c.in-Some.body.now c.is_mover-mover.result c.deref-2.result.now = going left in
+    let leaving : IsGoing w c.self.inside.activity.sets.acting c.wake_planned.new.activity.sets.acting c.args.handle c.in-Some.body.now c.is_mover-mover.result c.deref-2.result.now = going left in
     let calls : c.self.inside.calls < 2 ^ 40 = rw (← c.self.view_is) at c.requires in
     let slot_entries = ap (λ (s : JointSlots). s.slot_entries) c.drop_joints.ensures.gone in
     let joints = ap (λ (s : JointSlots). s.joints) c.drop_joints.ensures.gone in
     rw (← c.self.view_is)
     (destroy_answers w c.args.handle c.in-Some.body.now _ c.leave.new.sets.acting is_named
     (rw (c.book.ensures.entries, c.book.ensures.settled, c.loss_of.ensures.x, c.loss_of.ensures.y, c.mover_momentum-p.ensures, c.in_ok-reserve.ensures.entries, c.in_ok-reserve.ensures.settled, c.clear.ensures.bodies, slot_entries, joints, c.drop_of_body.ensures.contacts, c.remove.ensures.taken_back, c.wake_planned.ensures.told, leaving.bodies, c.leave.ensures.acting, leaving.gone)
-    (destroyed_quietly w c.self.inside.sets.acting c.args.handle c.in-Some.body.now (kept_of _ _ c.self.invariant.whole) c.self.invariant.whole.same calls is_named)))
+    (destroyed_quietly w c.self.inside.activity.sets.acting c.args.handle c.in-Some.body.now (kept_of _ _ c.self.invariant.whole) c.self.invariant.whole.same calls is_named)))

@@ -10,13 +10,12 @@ use Rattle.world_core.proofs.UpJointLaws.{off_up, own_stirred_up}
 use Rattle.world_rules.specs.World.{World, body_named}
 use Rattle.world_rules.proofs.KeptChanges.{named_at}
 use Rattle.world_core.specs.contracts.world.WorldCore.{the_view}
-use Rattle.world_core.proofs.Whole.{told_whole}
 use Rattle.world_core.proofs.GoingLaws.{IsGoing, is_going, there_still}
 use Rattle.world_core.proofs.LeavingLaws.{disabled_quietly}
 use Rattle.world_core.proofs.PartLaws.{disable_answers, entry_fits, kept_of, whole}
 use Rattle.world_core.proofs.CoreLaws.{core_disabled}
 use Rattle.world_core.proofs.KnownLaws.{marked_after}
-use Rattle.world_core.proofs.WorldSourceLaws.{world_can_tell, world_ties}
+use Rattle.world_core.proofs.ReadyLaws.{core_ready}
 use Rattle.world_core.proofs.UpContactLaws.{contacts_leave, own_contact_up}
 use Rattle.world_core.proofs.world.WorldCore.disable.Goals as goal
 use Rattle.world_core.proofs.world.WorldCore.disable.Goals.{After-deref-2}
@@ -24,21 +23,15 @@ use Rattle.world_core.proofs.world.WorldCore.disable.Goals.{After-deref-2}
 pub wake_planned-requires-clause-movers : goal.wake_planned-requires-clause-movers
 wake_planned-requires-clause-movers c = rw (← c.self.view_is) at c.in_ok-waking.ensures.movers
 
-pub wake_planned-requires-clause-told : goal.wake_planned-requires-clause-told
-wake_planned-requires-clause-told c = (told_whole (the_view c.self.inside) _ c.self.invariant.whole)
-
-pub wake_planned-requires-clause-can_tell : goal.wake_planned-requires-clause-can_tell
-wake_planned-requires-clause-can_tell c = rw c.slot_entries.ensures (world_can_tell (the_view c.self.inside) c.self.inside.sets.acting c.self.invariant.whole)
-
-pub wake_planned-requires-clause-ties : goal.wake_planned-requires-clause-ties
-wake_planned-requires-clause-ties c = rw c.slot_entries.ensures (world_ties (the_view c.self.inside) c.self.inside.sets.acting c.self.invariant.whole)
+pub wake_planned-requires-clause-ready : goal.wake_planned-requires-clause-ready
+wake_planned-requires-clause-ready c = rw c.slot_entries.ensures (core_ready c.self.inside c.self.invariant)
 
 named : (c : After-deref-2) → body_named (the_view c.self.inside).plain c.args.handle ≡ Some c.in-Some.body.now
 named c = rw (← c.bodies.ensures) (sym c.in-Some.ensures)
 
-going : (c : After-deref-2) → IsGoing (the_view c.self.inside) c.self.inside.sets.acting c.wake_planned.new.sets.acting c.args.handle c.in-Some.body.now c.is_mover-mover.result c.deref-2.result.now
+going : (c : After-deref-2) → IsGoing (the_view c.self.inside) c.self.inside.activity.sets.acting c.wake_planned.new.activity.sets.acting c.args.handle c.in-Some.body.now c.is_mover-mover.result c.deref-2.result.now
 going c =
-    is_going (the_view c.self.inside) c.self.inside.sets.acting _ c.args.handle c.in-Some.body.now _ _ c.in_ok-waking.waking.names.items c.self.invariant.whole (named c) c.is_mover-mover.ensures (c.deref-2.ensures.value ∙ rw (← c.self.view_is) at c.in_ok-ties.ensures.ties) (rw (← c.self.view_is) at c.in_ok-waking.ensures.names)
+    is_going (the_view c.self.inside) c.self.inside.activity.sets.acting _ c.args.handle c.in-Some.body.now _ _ c.in_ok-waking.waking.names.items c.self.invariant.whole (named c) c.is_mover-mover.ensures (c.deref-2.ensures.value ∙ rw (← c.self.view_is) at c.in_ok-ties.ensures.ties) (rw (← c.self.view_is) at c.in_ok-waking.ensures.names)
     c.wake_planned.ensures.acting
 
 pub leave-requires-clause-can : goal.leave-requires-clause-can
@@ -62,28 +55,28 @@ invariant_of-self-2 c =
     let w : World = the_view c.self.inside in
     let left = (goal.at.invariant_of-self-2 c).After-deref-2 in
     let is_named : body_named w.plain c.args.handle ≡ Some c.in-Some.body.now = named left in
-    let leaving : IsGoing w c.self.inside.sets.acting c.wake_planned.new.sets.acting c.args.handle c.in-Some.body.now c.is_mover-mover.result c.deref-2.result.now = going left in
+    let leaving : IsGoing w c.self.inside.activity.sets.acting c.wake_planned.new.activity.sets.acting c.args.handle c.in-Some.body.now c.is_mover-mover.result c.deref-2.result.now = going left in
     let calls : c.self.inside.calls < 2 ^ 40 = rw (← c.self.view_is) at c.requires in
-    core_disabled w _ _ _ c.self.inside.bodies c.disable.new.self c.args.handle.slot c.in-Some.body.now c.wake_planned.new.bodies.bodies c.self.invariant
+    core_disabled w _ _ _ c.self.inside.activity.bodies c.disable.new.self c.args.handle.slot c.in-Some.body.now c.wake_planned.new.activity.bodies.bodies c.self.invariant
     (rw (c.book.ensures.entries, c.book.ensures.settled, c.loss_of.ensures.x, c.loss_of.ensures.y, c.mover_momentum-p.ensures, c.in_ok-reserve.ensures.entries, c.in_ok-reserve.ensures.settled, c.disable.ensures.bodies, c.idle.ensures, c.drop_of_body.ensures.contacts, c.wake_planned.ensures.told, leaving.bodies, c.leave.ensures.acting, leaving.gone)
-    (whole w _ _ _ (disabled_quietly w c.self.inside.sets.acting c.args.handle c.in-Some.body.now (kept_of _ _ c.self.invariant.whole) c.self.invariant.whole.same calls is_named)))
+    (whole w _ _ _ (disabled_quietly w c.self.inside.activity.sets.acting c.args.handle c.in-Some.body.now (kept_of _ _ c.self.invariant.whole) c.self.invariant.whole.same calls is_named)))
     refl refl (named_at w.plain c.args.handle c.in-Some.body.now is_named) c.if-not-body.false c.disable.ensures.bodies
-    (marked_after c.self.inside.bodies c.wake_planned.new.bodies c.disable.new.self c.wake_planned.ensures.marked c.disable.ensures.marked) c.idle.ensures c.drop_of_body.ensures.contacts
-    c.wake_planned.new.joint_sets
+    (marked_after c.self.inside.activity.bodies c.wake_planned.new.activity.bodies c.disable.new.self c.wake_planned.ensures.marked c.disable.ensures.marked) c.idle.ensures c.drop_of_body.ensures.contacts
+    c.wake_planned.new.activity.joint_sets
     (let slot = c.args.handle.slot in
-    let woke = c.wake_planned.new.bodies.bodies in
+    let woke = c.wake_planned.new.activity.bodies.bodies in
     let there : slot < length woke = there_still w c.args.handle c.in-Some.body.now _ _ (rw (← c.bodies.ensures) (sym c.in-Some.ensures)) c.wake_planned.ensures.told in
     let long = length-set woke slot (option_map disabled_body (body_at woke slot)) in
     rw (c.disable.ensures.bodies, c.idle.ensures)
-    (body_changed woke (changed_at disabled_body woke slot) w.plain.joints (idle_joints slot w.plain.joints) slot c.wake_planned.new.joint_sets (omega (arith, long)) (idle_ends slot w.plain.joints) (set_beside woke slot (option_map disabled_body (body_at woke slot)))
-    (λ k own. rw (c.wake_planned.ensures.told, leaving.bodies) (own_stirred_up w c.self.inside.sets.acting slot k c.self.invariant.whole own))
+    (body_changed woke (changed_at disabled_body woke slot) w.plain.joints (idle_joints slot w.plain.joints) slot c.wake_planned.new.activity.joint_sets (omega (arith, long)) (idle_ends slot w.plain.joints) (set_beside woke slot (option_map disabled_body (body_at woke slot)))
+    (λ k own. rw (c.wake_planned.ensures.told, leaving.bodies) (own_stirred_up w c.self.inside.activity.sets.acting slot k c.self.invariant.whole own))
     (λ k own. off_up (changed_at disabled_body woke slot) slot (joint_at w.plain.joints k) (disabled_off woke slot there) own) c.wake_planned.ensures.standing))
-    c.drop_of_body.new.self.numbered c.wake_planned.new.contact_sets
-    (contacts_leave c.wake_planned.new.bodies.bodies c.disable.new.self.bodies c.args.handle.slot w.plain.contacts c.self.inside.contacts.numbered c.drop_of_body.new.self.numbered c.drop_of_body.new.self.made c.drop_of_body.new.self.gone c.wake_planned.new.contact_sets c.know_numbered.ensures.numbered (rw c.drop_of_body.ensures.contacts at c.know_numbered-2.ensures.numbered)
+    c.drop_of_body.new.self.numbered c.wake_planned.new.activity.contact_sets
+    (contacts_leave c.wake_planned.new.activity.bodies.bodies c.disable.new.self.bodies c.args.handle.slot w.plain.contacts c.self.inside.constraints.contacts.numbered c.drop_of_body.new.self.numbered c.drop_of_body.new.self.made c.drop_of_body.new.self.gone c.wake_planned.new.activity.contact_sets c.know_numbered.ensures.numbered (rw c.drop_of_body.ensures.contacts at c.know_numbered-2.ensures.numbered)
     c.drop_of_body.ensures.turnover c.drop_of_body.ensures.none
-    (λ e there own touch. rw (c.wake_planned.ensures.told, leaving.bodies) (own_contact_up w c.self.inside.sets.acting c.args.handle.slot e c.self.invariant.whole there own touch))
-    (rw c.disable.ensures.bodies (set_beside c.wake_planned.new.bodies.bodies c.args.handle.slot (option_map disabled_body (body_at c.wake_planned.new.bodies.bodies c.args.handle.slot))))
-    (let woke = c.wake_planned.new.bodies.bodies in let long = ap (λ (os : List (Option Body)). length os) c.disable.ensures.bodies ∙ length-set woke c.args.handle.slot (option_map disabled_body (body_at woke c.args.handle.slot)) in omega (arith, long))
+    (λ e there own touch. rw (c.wake_planned.ensures.told, leaving.bodies) (own_contact_up w c.self.inside.activity.sets.acting c.args.handle.slot e c.self.invariant.whole there own touch))
+    (rw c.disable.ensures.bodies (set_beside c.wake_planned.new.activity.bodies.bodies c.args.handle.slot (option_map disabled_body (body_at c.wake_planned.new.activity.bodies.bodies c.args.handle.slot))))
+    (let woke = c.wake_planned.new.activity.bodies.bodies in let long = ap (λ (os : List (Option Body)). length os) c.disable.ensures.bodies ∙ length-set woke c.args.handle.slot (option_map disabled_body (body_at woke c.args.handle.slot)) in omega (arith, long))
     c.wake_planned.ensures.contacts_standing)
 
 pub returns : goal.returns
@@ -91,9 +84,9 @@ returns c =
     let w : World = the_view c.self.inside in
     let left = (goal.at.returns c).After-deref-2 in
     let is_named : body_named w.plain c.args.handle ≡ Some c.in-Some.body.now = named left in
-    let leaving : IsGoing w c.self.inside.sets.acting c.wake_planned.new.sets.acting c.args.handle c.in-Some.body.now c.is_mover-mover.result c.deref-2.result.now = going left in
+    let leaving : IsGoing w c.self.inside.activity.sets.acting c.wake_planned.new.activity.sets.acting c.args.handle c.in-Some.body.now c.is_mover-mover.result c.deref-2.result.now = going left in
     let calls : c.self.inside.calls < 2 ^ 40 = rw (← c.self.view_is) at c.requires in
     rw (← c.self.view_is)
     (disable_answers w c.args.handle c.in-Some.body.now _ c.leave.new.sets.acting is_named c.if-not-body.false
     (rw (c.book.ensures.entries, c.book.ensures.settled, c.loss_of.ensures.x, c.loss_of.ensures.y, c.mover_momentum-p.ensures, c.in_ok-reserve.ensures.entries, c.in_ok-reserve.ensures.settled, c.disable.ensures.bodies, c.idle.ensures, c.drop_of_body.ensures.contacts, c.wake_planned.ensures.told, leaving.bodies, c.leave.ensures.acting, leaving.gone)
-    (disabled_quietly w c.self.inside.sets.acting c.args.handle c.in-Some.body.now (kept_of _ _ c.self.invariant.whole) c.self.invariant.whole.same calls is_named)))
+    (disabled_quietly w c.self.inside.activity.sets.acting c.args.handle c.in-Some.body.now (kept_of _ _ c.self.invariant.whole) c.self.invariant.whole.same calls is_named)))

@@ -8,4 +8,4 @@ pub invariant_of-self : goal.invariant_of-self
 invariant_of-self c =
     let calls : c.self.inside.calls < 2 ^ 40 = rw (← c.self.view_is) at c.requires in
     let small : IsWithin (2 ^ 16) c.args.gravity = search (rules, tests) in
-    record { whole = gravity_whole (the_view c.self.inside) c.args.gravity c.self.inside.sets.acting c.self.invariant.whole calls small; known = c.self.invariant.known; standing = c.self.invariant.standing; contacts_standing = c.self.invariant.contacts_standing }
+    record { whole = gravity_whole (the_view c.self.inside) c.args.gravity c.self.inside.activity.sets.acting c.self.invariant.whole calls small; known = c.self.invariant.known; standing = c.self.invariant.standing; contacts_standing = c.self.invariant.contacts_standing }

@@ -9,10 +9,10 @@ pub change_stirred-requires-clause-present : goal.change_stirred-requires-clause
 change_stirred-requires-clause-present c = rw (← c.self.view_is, ← c.bodies.ensures) c.in_ok-pose.ensures.present
 
 pub change_stirred-requires-clause-fits : goal.change_stirred-requires-clause-fits
-change_stirred-requires-clause-fits c = rw (← c.self.view_is) (pose_fits (the_view c.self.inside) c.args.handle.slot c.in_ok-pose.pose c.self.inside.sets.acting c.self.invariant.whole c.in_ok-pose.ensures.pose)
+change_stirred-requires-clause-fits c = rw (← c.self.view_is) (pose_fits (the_view c.self.inside) c.args.handle.slot c.in_ok-pose.pose c.self.inside.activity.sets.acting c.self.invariant.whole c.in_ok-pose.ensures.pose)
 
 pub change_stirred-requires-clause-may : goal.change_stirred-requires-clause-may
 change_stirred-requires-clause-may c =
     let calls : c.self.inside.calls < 2 ^ 40 = rw (← c.self.view_is) at c.requires in
-    let due : posed (slots.body_of c.self.inside.handles.slot_entries c.self.inside.bodies.bodies c.args.handle) c.args.pose ≡ Ok c.in_ok-pose.pose = rw (← c.bodies.ensures) (sym c.in_ok-pose.ensures.value) in
-    rw (← c.self.view_is) (may_pose (the_view c.self.inside) c.args.handle c.args.pose c.in_ok-pose.pose c.self.inside.sets.acting c.self.invariant.whole calls due c.in_ok-pose.ensures.pose)
+    let due : posed (slots.body_of c.self.inside.handles.slot_entries c.self.inside.activity.bodies.bodies c.args.handle) c.args.pose ≡ Ok c.in_ok-pose.pose = rw (← c.bodies.ensures) (sym c.in_ok-pose.ensures.value) in
+    rw (← c.self.view_is) (may_pose (the_view c.self.inside) c.args.handle c.args.pose c.in_ok-pose.pose c.self.inside.activity.sets.acting c.self.invariant.whole calls due c.in_ok-pose.ensures.pose)

@@ -9,10 +9,10 @@ pub change_stirred-requires-clause-present : goal.change_stirred-requires-clause
 change_stirred-requires-clause-present c = rw (← c.self.view_is, ← c.bodies.ensures) c.in_ok-course.ensures.present
 
 pub change_stirred-requires-clause-fits : goal.change_stirred-requires-clause-fits
-change_stirred-requires-clause-fits c = rw (← c.self.view_is) (course_fits (the_view c.self.inside) c.args.handle.slot c.self.inside.sets.acting c.self.invariant.whole (rw (← c.bodies.ensures) c.in_ok-course.ensures.kinematic))
+change_stirred-requires-clause-fits c = rw (← c.self.view_is) (course_fits (the_view c.self.inside) c.args.handle.slot c.self.inside.activity.sets.acting c.self.invariant.whole (rw (← c.bodies.ensures) c.in_ok-course.ensures.kinematic))
 
 pub change_stirred-requires-clause-may : goal.change_stirred-requires-clause-may
 change_stirred-requires-clause-may c =
     let calls : c.self.inside.calls < 2 ^ 40 = rw (← c.self.view_is) at c.requires in
-    let due : steered (slots.body_of c.self.inside.handles.slot_entries c.self.inside.bodies.bodies c.args.handle) c.args.course ≡ Ok c.in_ok-course.course = rw (← c.bodies.ensures) (sym c.in_ok-course.ensures.value) in
-    rw (← c.self.view_is) (may_steer (the_view c.self.inside) c.args.handle c.args.course c.in_ok-course.course c.self.inside.sets.acting c.self.invariant.whole calls due)
+    let due : steered (slots.body_of c.self.inside.handles.slot_entries c.self.inside.activity.bodies.bodies c.args.handle) c.args.course ≡ Ok c.in_ok-course.course = rw (← c.bodies.ensures) (sym c.in_ok-course.ensures.value) in
+    rw (← c.self.view_is) (may_steer (the_view c.self.inside) c.args.handle c.args.course c.in_ok-course.course c.self.inside.activity.sets.acting c.self.invariant.whole calls due)

@@ -10,10 +10,10 @@ use Rattle.world_rules.specs.World.{World, joints_in_slots}
 use Rattle.world_core.proofs.world.WorldCore.ties_at.Goals as goal
 
 pub contact_ties-requires-clause-rising : goal.contact_ties-requires-clause-rising
-contact_ties-requires-clause-rising c = (world_can_tell (the_view c.self.inside) c.self.inside.sets.acting c.self.invariant.whole).rising
+contact_ties-requires-clause-rising c = (world_can_tell (the_view c.self.inside) c.self.inside.activity.sets.acting c.self.invariant.whole).rising
 
 pub contact_ties-requires-clause-two : goal.contact_ties-requires-clause-two
-contact_ties-requires-clause-two c = (world_can_tell (the_view c.self.inside) c.self.inside.sets.acting c.self.invariant.whole).two
+contact_ties-requires-clause-two c = (world_can_tell (the_view c.self.inside) c.self.inside.activity.sets.acting c.self.invariant.whole).two
 
 pub returns-clause-ties : goal.returns-clause-ties
 returns-clause-ties c =

@@ -6,10 +6,10 @@ use Rattle.world_core.proofs.Refusals.{handed_on}
 use Rattle.world_core.proofs.world.WorldCore.try_copy.Goals as goal
 
 pub copy_joint_parts-requires : goal.copy_joint_parts-requires
-copy_joint_parts-requires c = whole_named (the_view c.self.inside) c.self.inside.sets.acting c.self.invariant.whole
+copy_joint_parts-requires c = whole_named (the_view c.self.inside) c.self.inside.activity.sets.acting c.self.invariant.whole
 
 pub list_contacts_asleep-requires : goal.list_contacts_asleep-requires
-list_contacts_asleep-requires c = rw c.bodies.ensures (whole_named (the_view c.self.inside) c.self.inside.sets.acting c.self.invariant.whole)
+list_contacts_asleep-requires c = rw c.bodies.ensures (whole_named (the_view c.self.inside) c.self.inside.activity.sets.acting c.self.invariant.whole)
 
 pub invariant_of-result : goal.invariant_of-result
 invariant_of-result c =
@@ -30,11 +30,11 @@ invariant_of-result c =
     })
     (record {
       slot_entries = c.self.inside.handles.slot_entries;
-      bodies = c.self.inside.bodies.bodies;
+      bodies = c.self.inside.activity.bodies.bodies;
       joint_entries = c.self.inside.joint_handles.slot_entries;
-      joints = c.self.inside.joints.joints;
-      contacts = c.self.inside.contacts.contacts;
-      acts = c.self.inside.sets.acting;
+      joints = c.self.inside.constraints.joints.joints;
+      contacts = c.self.inside.constraints.contacts.contacts;
+      acts = c.self.inside.activity.sets.acting;
       gravity = c.self.inside.gravity;
       steps = c.self.inside.steps;
       calls = c.self.inside.calls;

@@ -1,4 +1,4 @@
-use Rattle.world_core.proofs.booking.record_step.Goals as goal
+use Rattle.world_core.proofs.booking.renew_events.Goals as goal
 
 pub returns-clause-begin : goal.returns-clause-begin
 returns-clause-begin c = c.renew.ensures.begin_kept c.requires.begin

@@ -1,5 +1,0 @@
-use Rattle.world_rules.proofs.StepParts.{Fits-rest}
-use Rattle.world_core.proofs.booking.book_rest.Goals as goal
-
-pub book-requires-clause-fits : goal.book-requires-clause-fits
-book-requires-clause-fits c = Fits-rest c.args.ledger.now c.book_step.new.ledger _ c.args.call c.args.sums c.requires.roomy c.requires.small c.book_step.ensures.entries c.book_step.ensures.settled c.requires.rest.x c.requires.rest.y
