@@ -14,13 +14,7 @@ use Rattle.rtrb.specs.contracts.end.End as End
 use Rattle.rtrb.specs.contracts.producer.Producer as Producer
 use Rattle.rtrb.proofs.end.End.TheSendSync as ends
 use Rattle.momenta.specs.contracts.state.BodyState as BodyState
-use Rattle.contacts_base.specs.contracts.split.SplitContacts as SplitContacts
-use Rattle.contacts.specs.contracts.survey_pieces.LookedPlaces as LookedPlaces
-use Rattle.contacts.specs.contracts.pair_pieces.EvaluatedPairs as EvaluatedPairs
-use Rattle.contacts.specs.contracts.pair_sweep.PairSweep as PairSweep
-use Rattle.contacts.specs.contracts.contact_table.ContactTable as ContactTable
-use Rattle.world_core_base.specs.contracts.joint_table.JointTable as JointTable
-use Rattle.colour_solver.specs.contracts.colour_rows.Rows as Rows
+use Rattle.world_core_base.proofs.CrossingLaws.{contacts_send, contacts_sync, joints_send, joints_sync, rows_send}
 use Rattle.part_solver.specs.contracts.alarm.Alarm as Alarm
 use Rattle.part_solver.specs.contracts.lent.Lent as Lent
 use Rattle.part_solver.specs.contracts.mail.Item as Item
@@ -56,42 +50,6 @@ item_send = search (letter_send, crosses, sendable) depth 60 fits 60000
 
 -- ---- what is lent
 
-joints_send : IsSend JointTable.the_row
-joints_send = search (crosses, sendable) depth 60 fits 60000
-
-joints_sync : IsSync JointTable.the_row
-joints_sync = search (crosses, sendable) depth 60 fits 60000
-
-split_send : IsSend SplitContacts.the_row
-split_send = search (crosses, sendable) depth 60 fits 60000
-
-split_sync : IsSync SplitContacts.the_row
-split_sync = search (crosses, sendable) depth 60 fits 60000
-
-places_send : IsSend LookedPlaces.the_row
-places_send = search (crosses, sendable) depth 60 fits 60000
-
-places_sync : IsSync LookedPlaces.the_row
-places_sync = search (crosses, sendable) depth 60 fits 60000
-
-evaluated_send : IsSend EvaluatedPairs.the_row
-evaluated_send = search (crosses, sendable) depth 60 fits 60000
-
-evaluated_sync : IsSync EvaluatedPairs.the_row
-evaluated_sync = search (crosses, sendable) depth 60 fits 60000
-
-sweep_send : IsSend PairSweep.the_row
-sweep_send = search (evaluated_send, crosses, sendable) depth 60 fits 60000
-
-sweep_sync : IsSync PairSweep.the_row
-sweep_sync = search (evaluated_sync, crosses, sendable) depth 60 fits 60000
-
-contacts_send : IsSend ContactTable.the_row
-contacts_send = search (split_send, places_send, sweep_send, crosses, sendable) depth 90 fits 400000
-
-contacts_sync : IsSync ContactTable.the_row
-contacts_sync = search (split_sync, places_sync, sweep_sync, crosses, sendable) depth 90 fits 400000
-
 lent_send : IsSend Lent.the_row
 lent_send = search (joints_send, contacts_send, crosses, sendable) depth 60 fits 60000
 
@@ -99,9 +57,6 @@ lent_sync : IsSync Lent.the_row
 lent_sync = search (joints_sync, contacts_sync, crosses, sendable) depth 60 fits 60000
 
 -- ---- a seat
-
-rows_send : IsSend Rows.the_row
-rows_send = search (crosses, sendable) depth 60 fits 60000
 
 step_send : IsSend StepLists.the_row
 step_send = search (letter_send, crosses, sendable) depth 60 fits 60000

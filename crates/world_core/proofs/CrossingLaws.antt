@@ -5,13 +5,6 @@ use Rattle.std.proofs.Crossing.{crosses}
 use Rattle.box_tree.specs.contracts.boxes.BoxTree as BoxTree
 use Rattle.world_core_base.specs.contracts.body_table.BodyTable as BodyTable
 use Rattle.body_handles.specs.contracts.handles.Handles as Handles
-use Rattle.world_core_base.specs.contracts.joint_table.JointTable as JointTable
-use Rattle.contacts_base.specs.contracts.split.SplitContacts as SplitContacts
-use Rattle.contacts.specs.contracts.survey_pieces.LookedPlaces as LookedPlaces
-use Rattle.contacts.specs.contracts.pair_pieces.EvaluatedPairs as EvaluatedPairs
-use Rattle.contacts.specs.contracts.pair_sweep.PairSweep as PairSweep
-use Rattle.contacts.specs.contracts.contact_table.ContactTable as ContactTable
-use Rattle.colour_solver.specs.contracts.colour_rows.Rows as Rows
 use Rattle.impulse_ledger.specs.contracts.ledger.Ledger as Ledger
 use Rattle.event_feed.specs.contracts.events.Events as Events
 use Rattle.world_core.specs.contracts.world.WorldCore as World
@@ -25,6 +18,7 @@ use Rattle.contacts.specs.contracts.constraint.Constraint as Constraint
 use Rattle.sleep_wake.specs.contracts.sets.Sets as Sets
 use Rattle.world_core.specs.contracts.collide.BodyShapes as BodyShapes
 use Rattle.box_tree_base.proofs.CrossingLemmas.{tree_send, tree_sync}
+use Rattle.world_core_base.proofs.CrossingLaws.{contacts_send, joints_send, rows_send}
 
 boxes_send : IsSend BoxTree.the_row
 boxes_send = search (tree_send, crosses, sendable) depth 40 fits 60000
@@ -34,27 +28,6 @@ table_send = search (boxes_send, crosses, sendable) depth 60 fits 60000
 
 handles_send : IsSend Handles.the_row
 handles_send = search (crosses, sendable) depth 60 fits 60000
-
-pub joints_send : IsSend JointTable.the_row
-joints_send = search (crosses, sendable) depth 60 fits 60000
-
-pub split_send : IsSend SplitContacts.the_row
-split_send = search (crosses, sendable) depth 60 fits 60000
-
-places_send : IsSend LookedPlaces.the_row
-places_send = search (crosses, sendable) depth 60 fits 60000
-
-evaluated_send : IsSend EvaluatedPairs.the_row
-evaluated_send = search (crosses, sendable) depth 60 fits 60000
-
-sweep_send : IsSend PairSweep.the_row
-sweep_send = search (evaluated_send, crosses, sendable) depth 60 fits 60000
-
-contacts_send : IsSend ContactTable.the_row
-contacts_send = search (split_send, sweep_send, places_send, crosses, sendable) depth 90 fits 400000
-
-rows_send : IsSend Rows.the_row
-rows_send = search (crosses, sendable) depth 60 fits 60000
 
 ledger_send : IsSend Ledger.the_row
 ledger_send = search (crosses, sendable) depth 60 fits 60000
@@ -91,12 +64,6 @@ boxes_sync = search (tree_sync, crosses, sendable) depth 40 fits 60000
 
 table_sync : IsSync BodyTable.the_row
 table_sync = search (boxes_sync, crosses, sendable) depth 60 fits 60000
-
-pub joints_sync : IsSync JointTable.the_row
-joints_sync = search (crosses, sendable) depth 60 fits 60000
-
-pub split_sync : IsSync SplitContacts.the_row
-split_sync = search (crosses, sendable) depth 60 fits 60000
 
 pub shapes_send : IsSend BodyShapes.the_row
 shapes_send = search (table_send, crosses, sendable) depth 60 fits 60000

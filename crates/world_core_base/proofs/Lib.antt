@@ -1,6 +1,7 @@
 pub mod SlotLaws
 pub mod RenewalLaws
 pub mod GatherLaws
+pub mod CrossingLaws
 pub mod MovingLaws
 pub mod ContactLaws
 pub mod AwakeLaws

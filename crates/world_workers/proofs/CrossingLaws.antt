@@ -6,7 +6,8 @@ use Rattle.contacts.specs.contracts.pair_pieces.PairPiece as PairPiece
 use Rattle.contacts.specs.contracts.survey_pieces.Survey as Survey
 use Rattle.contacts.specs.contracts.survey_pieces.SurveyPiece as SurveyPiece
 use Rattle.part_solver.proofs.CrossingLaws.{seat_send}
-use Rattle.world_core.proofs.CrossingLaws.{joints_send, joints_sync, shapes_send, shapes_sync, split_send, split_sync}
+use Rattle.world_core.proofs.CrossingLaws.{shapes_send, shapes_sync}
+use Rattle.world_core_base.proofs.CrossingLaws.{joints_send, joints_sync, split_send, split_sync}
 use Rattle.world_core.specs.contracts.collide.BodyShapes as BodyShapes
 use Rattle.world_core.specs.contracts.collide.BodyShapesShapesById.TheImpl as shapes
 use Rattle.world_core_base.specs.contracts.joint_table.JointTable as JointTable
