@@ -225,7 +225,7 @@ PARTS = {
             "The events that are kept of step after step, and the tags of bodies.",
             "world_desk/Logs world_desk/Tags dillmonth/Events",
         ),
-        Chapter("library_questions", "Questions of the library", "What each call that only asks answers.", "dillmonth/src/questions.rt dillmonth/Questions"),
+        Chapter("library_questions", "Questions of the library", "What each call that only asks answers.", "dillmonth/src/filters.rt dillmonth/src/rays.rt dillmonth/Questions"),
         Chapter("library_on_shape", "A ray on one shape, by the library", "What a call answers that asks for one shape's hit.", "dillmonth/src/on_shape.rt dillmonth/OnShape"),
         Chapter("library_lists", "Lists of the library", "The lists that the library keeps for a world, and what is left of each.", "dillmonth/Lists"),
         Chapter("library_getters", "Getters of the library", "What each call answers that asks for one body, joint or count.", "dillmonth/Getters"),

@@ -10,7 +10,7 @@ use Rattle.dillmonth.specs.declared.forms.CHandle.{CHandle}
 use Rattle.dillmonth.specs.declared.forms.CPose.{CPose}
 use Rattle.dillmonth.specs.declared.forms.CShapeId.{CShapeId}
 use Rattle.dillmonth.specs.declared.getter_forms.CSum.{CSum}
-use Rattle.dillmonth.specs.declared.questions.CHit.{CHit}
+use Rattle.dillmonth.specs.declared.rays.CHit.{CHit}
 use Rattle.dillmonth.specs.declared.statuses.TheConstants.{NO_WORLD}
 use Rattle.shape_rays.specs.Hits.{first_hit, region}
 use Rattle.shapes.specs.Rays.{IsBeam, beam_of}

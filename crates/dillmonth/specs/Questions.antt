@@ -7,8 +7,8 @@ use Rattle.fixed_geom.specs.declared.refusal.Refusal.{Refusal}
 use Rattle.dillmonth.specs.Forms.{handle_said, id_shown}
 use Rattle.dillmonth.specs.Statuses.{status_of}
 use Rattle.dillmonth.specs.declared.forms.CHandle.{CHandle}
-use Rattle.dillmonth.specs.declared.questions.CFilter.{CFilter}
-use Rattle.dillmonth.specs.declared.questions.CHit.{CHit}
+use Rattle.dillmonth.specs.declared.filters.CFilter.{CFilter}
+use Rattle.dillmonth.specs.declared.rays.CHit.{CHit}
 use Rattle.dillmonth.specs.declared.statuses.TheConstants.{NO_WORLD, OUT_OF_RANGE}
 use Rattle.shape_rays.specs.Hits.{first_hit, region}
 use Rattle.shape_rays.specs.declared.hits.Hit.{Hit}

@@ -5,9 +5,8 @@ ghost use Rattle.dillmonth.specs.Batch.{IsAnsweredAs, Ran, RanAll, command_said,
 ghost use Rattle.dillmonth.specs.Forms.{IsUnmade, joint_said};
 
 use crate::commands::{answer_to, bare};
-use crate::forms::{
-    CAnswer, CCommand, CShape, course_of, def_of, handle_of, joint_of, pose_of, vector_of,
-};
+use crate::conversions::{course_of, def_of, handle_of, joint_of, pose_of, vector_of};
+use crate::forms::{CAnswer, CCommand, CShape};
 use crate::held::{CWorld, put, take};
 use crate::statuses::{BAD_KIND, BAD_SPAN, OUT_OF_RANGE};
 use std::alloc::Global;

@@ -4,10 +4,8 @@ ghost use Rattle.std.specs.Prelude.{◌≡◌, ◌==◌, cond};
 ghost use Rattle.dillmonth.specs.Calls.{Creates, Does, DoesAs, IsAnswered, Joins, Steps};
 ghost use Rattle.dillmonth.specs.Forms.{answer_said, bare, course_said, def_said, handle_said, joint_said, pose_said, vector_said};
 
-use crate::forms::{
-    CAnswer, CBodyDef, CFacing, CHandle, CJointDef, CShape, CVector, course_of, def_of, handle_of,
-    joint_of, pose_of, show_handle, vector_of,
-};
+use crate::conversions::{course_of, def_of, handle_of, joint_of, pose_of, show_handle, vector_of};
+use crate::forms::{CAnswer, CBodyDef, CFacing, CHandle, CJointDef, CShape, CVector};
 use crate::held::{CWorld, put, take};
 use crate::statuses::{DONE, NO_WORLD, status_of};
 use fixed_geom::Refusal;

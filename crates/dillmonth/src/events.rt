@@ -5,7 +5,8 @@ ghost use Rattle.dillmonth.specs.Events.{AreTold, AreToldIn, Clears, IsCleared, 
 ghost use Rattle.dillmonth.specs.Forms.{handle_said};
 ghost use Rattle.world_rules.specs.World.{body_named};
 
-use crate::forms::{CEvent, CHandle, handle_of};
+use crate::conversions::handle_of;
+use crate::forms::{CEvent, CHandle};
 use crate::held::{CWorld, put, take};
 use crate::shown::write_all;
 use crate::statuses::{DONE, NO_WORLD, status_of};

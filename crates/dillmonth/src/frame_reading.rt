@@ -8,11 +8,10 @@ ghost use Rattle.dillmonth.specs.Frames.{FindsFramed, HitsFramed, IsPosed, IsTot
 ghost use Rattle.dillmonth.specs.Loans.{Loan, is_lent};
 ghost use Rattle.dillmonth.specs.Lists.{written};
 
-use crate::forms::{
-    CBox, CFacing, CHandle, CPose, CShapeId, CVector, box_of, handle_of, show_vector, vector_of,
-};
+use crate::conversions::{box_of, handle_of, show_vector, vector_of};
+use crate::forms::{CBox, CFacing, CHandle, CPose, CShapeId, CVector};
 use crate::getter_forms::CSum;
-use crate::questions::{CHit, show_hit};
+use crate::rays::{CHit, show_hit};
 use crate::shown::write_all;
 use crate::statuses::{DONE, NO_WORLD, status_of};
 use crate::tallies::show_sum;

@@ -1,6 +1,11 @@
 //! What is read of bodies and joints, of how much there is, and of the ledger, as C has it.
 
-use crate::forms::CJointDef;
+ghost use Rattle.std.specs.Prelude.{◌≡◌, cond};
+ghost use Rattle.dillmonth.specs.Getters.{id_shown, number_or_none};
+
+use crate::conversions::show_handle;
+use crate::forms::{CHandle, CJointDef};
+use world_core::Handle;
 
 /// What a body is.
 #[repr(C)]
@@ -56,4 +61,38 @@ pub struct CSum {
     pub x_high: i64,
     pub y_low: u64,
     pub y_high: i64,
+}
+
+/// What stands for a number of 32 bits where there is none.
+pub(crate) const NONE: u32 = 4_294_967_295;
+
+pub(crate) const NOBODY: CHandle = CHandle {
+    slot: 0,
+    generation: 0,
+};
+
+/// 1 for what holds, and 0 for what doesn't.
+pub(crate) fn number_of(holds: bool) -> u32
+    ensures { result ≡ cond holds 1 0 }
+{
+    if holds { 1 } else { 0 }
+}
+
+pub(crate) fn number_or_none(number: Option<u32>) -> u32
+    ensures { result ≡ number_or_none number }
+{
+    match number {
+        None => NONE,
+        Some(number) => number,
+    }
+}
+
+/// The id of what is in a slot, or one that names nothing.
+pub(crate) fn id_or_nobody(handle: Option<Handle>) -> CHandle
+    ensures { result ≡ id_shown handle }
+{
+    match handle {
+        None => NOBODY,
+        Some(handle) => show_handle(handle),
+    }
 }

@@ -5,7 +5,8 @@ ghost use Rattle.dillmonth.specs.Forms.{vector_said};
 ghost use Rattle.dillmonth.specs.Keeping.{Copies, Digests, IsHeld, IsOpened, Loads, Opens, Saves, SavesAt, Settles, saved_in};
 ghost use Rattle.dillmonth.specs.Lists.{written};
 
-use crate::forms::{CVector, vector_of};
+use crate::conversions::vector_of;
+use crate::forms::CVector;
 use crate::held::{CWorld, put, take};
 use crate::shown::write_all;
 use crate::statuses::{DONE, NO_WORLD, status_of, unread_status};

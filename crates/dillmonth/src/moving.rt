@@ -9,10 +9,12 @@ ghost use Rattle.dillmonth.specs.Moving.{AnswersAs, DoesBy, IsMoving, IsMovingIn
 ghost use Rattle.world_rules.specs.World.{body_named};
 
 use crate::commands::answer_to;
-use crate::forms::{CFacing, CHandle, CVector, handle_of, pose_of, show_vector, vector_of};
+use crate::conversions::{handle_of, pose_of, show_vector, vector_of};
+use crate::forms::{CFacing, CHandle, CVector};
 use crate::held::{CWorld, put, take};
-use crate::motions::{course_to, lever, motion_of, push_to, twist_push, twist_to};
+use crate::motions::{lever, motion_of, push_to, twist_push, twist_to};
 use crate::statuses::{DONE, NO_WORLD};
+use crate::targets::course_to;
 use fixed_geom::Vec2;
 use plain_world::{Body, Course};
 use shapes::Pose;

@@ -5,7 +5,8 @@ ghost use Rattle.shapes.specs.Rays.{IsBeam, beam_of};
 ghost use Rattle.dillmonth.specs.Forms.{vector_said};
 ghost use Rattle.dillmonth.specs.OnShape.{HitsShape, HitsShapeIn, hit_said, id_said, shape_hit_shown};
 
-use crate::forms::{CShapeId, CVector, show_vector, vector_of};
+use crate::conversions::{show_vector, vector_of};
+use crate::forms::{CShapeId, CVector};
 use crate::held::{CWorld, put, take};
 use crate::statuses::{DONE, NO_WORLD, status_of};
 use contacts_base::ShapeId;

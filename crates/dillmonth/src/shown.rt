@@ -6,10 +6,8 @@ ghost use Rattle.dillmonth.specs.Getters.{form_shown, shape_shown};
 ghost use Rattle.dillmonth.specs.Events.{event_shown};
 ghost use Rattle.dillmonth.specs.Lists.{contact_shown, count_points, list_of, normal_shown, point_shown, points_shown, put_at, put_list, written};
 
-use crate::forms::{
-    CContact, CContactPoint, CEvent, CHandle, CPair, CShape, CShapeId, CVector, show_handle,
-    show_id, show_pair, show_vector,
-};
+use crate::conversions::{show_handle, show_id, show_pair, show_vector};
+use crate::forms::{CContact, CContactPoint, CEvent, CHandle, CPair, CShape, CShapeId, CVector};
 use contacts_base::{ContactEntry, ContactKey, ContactPoint, ShapeId};
 use shapes::{Shape, ShapeDef};
 use world_core::Handle;

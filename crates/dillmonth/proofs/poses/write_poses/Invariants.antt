@@ -1,6 +1,6 @@
 use Rattle.std.proofs.Common.{◌≡◌, ◌≤◌, length}
 use Rattle.dillmonth.specs.Lists.{poses_up, written}
-use Rattle.dillmonth.proofs.reading.write_poses.Given as goal
+use Rattle.dillmonth.proofs.poses.write_poses.Given as goal
 
 abbrev pub invariant-loop-slot : goal.invariant-loop-slot
 invariant-loop-slot l = record {

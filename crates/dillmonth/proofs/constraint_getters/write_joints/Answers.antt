@@ -1,5 +1,5 @@
 use Rattle.std.proofs.Common.{◌≡◌, ◌≤◌, ap, length, arith}
-use Rattle.dillmonth.proofs.getters.write_joints.Goals as goal
+use Rattle.dillmonth.proofs.constraint_getters.write_joints.Goals as goal
 
 pub write_ids-requires : goal.write_ids-requires
 write_ids-requires c =

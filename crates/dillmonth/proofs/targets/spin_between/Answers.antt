@@ -2,7 +2,7 @@ use Rattle.std.proofs.Common.{arith}
 use Rattle.std.proofs.lemmas.Int.{to_z-of_z}
 use Rattle.std.specs.Int.{w128}
 use mir.Val.{SFits}
-use Rattle.dillmonth.proofs.motions.spin_between.Goals as goal
+use Rattle.dillmonth.proofs.targets.spin_between.Goals as goal
 
 pub spin_of-requires-clause-across : goal.spin_of-requires-clause-across
 spin_of-requires-clause-across c =

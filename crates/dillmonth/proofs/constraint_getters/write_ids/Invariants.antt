@@ -1,7 +1,7 @@
 use Rattle.std.proofs.Common.{◌≡◌, ◌≤◌, length}
 use Rattle.dillmonth.specs.Getters.{ids_up}
 use Rattle.dillmonth.specs.Lists.{written}
-use Rattle.dillmonth.proofs.getters.write_ids.Given as goal
+use Rattle.dillmonth.proofs.constraint_getters.write_ids.Given as goal
 
 abbrev pub invariant-loop-slot : goal.invariant-loop-slot
 invariant-loop-slot l = record {

@@ -6,7 +6,7 @@ use Rattle.dillmonth.specs.Lists.{list_of, written}
 use Rattle.dillmonth.specs.declared.forms.CHandle.{CHandle}
 use Rattle.dillmonth.proofs.ListLaws.{counted_next, few_next, written_next}
 use Rattle.world_core.specs.Walks.{handle_in}
-use Rattle.dillmonth.proofs.getters.write_ids.Goals as goal
+use Rattle.dillmonth.proofs.constraint_getters.write_ids.Goals as goal
 
 pub loop-slot-preserved : goal.loop-slot-preserved
 loop-slot-preserved c =

@@ -3,7 +3,7 @@ use Rattle.dillmonth.specs.Lists.{list_of, poses_up, written}
 use Rattle.dillmonth.specs.declared.forms.CPose.{CPose}
 use Rattle.dillmonth.proofs.ListLaws.{counted_next, few_next, written_next}
 use Rattle.dillmonth.proofs.PoseLaws.{pose_here}
-use Rattle.dillmonth.proofs.reading.write_poses.Goals as goal
+use Rattle.dillmonth.proofs.poses.write_poses.Goals as goal
 
 pub loop-slot-preserved : goal.loop-slot-preserved
 loop-slot-preserved c =

@@ -3,7 +3,7 @@ use Rattle.std.proofs.lemmas.Int.{to_z-of_z}
 use Rattle.std.proofs.lemmas.Nat.{mul-le}
 use Rattle.std.specs.Int.{w64}
 use mir.Val.{SFits}
-use Rattle.dillmonth.proofs.motions.by_square.Goals as goal
+use Rattle.dillmonth.proofs.targets.by_square.Goals as goal
 
 pub scaled-requires : goal.scaled-requires
 scaled-requires c =
