@@ -4,7 +4,8 @@ use crate::calls::{
     Stepper, apply, bodies_of, body_of, digest, events_of, filtered_ray, ledger_of, load, plain_of,
     ray, region, save, slot_entries_of, step,
 };
-use crate::crowds::{CrowdPlan, crowd};
+use crate::crowd_threads::CrowdPlan;
+use crate::crowds::crowd;
 use crate::extended::{Extended, RayRequest};
 use crate::joints::joints_of;
 use crate::requests::{CrowdDef, Request};

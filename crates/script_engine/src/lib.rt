@@ -3,6 +3,7 @@
 
 mod answers;
 mod calls;
+mod crowd_threads;
 mod crowds;
 mod engine;
 mod explanation;

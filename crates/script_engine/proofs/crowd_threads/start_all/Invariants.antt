@@ -1,4 +1,4 @@
-use Rattle.script_engine.proofs.crowds.start_all.Given as goal
+use Rattle.script_engine.proofs.crowd_threads.start_all.Given as goal
 
 abbrev pub invariant-loop-seat : goal.invariant-loop-seat
 invariant-loop-seat g l = Unit {0}
