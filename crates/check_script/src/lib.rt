@@ -5,11 +5,15 @@
 #[cfg(test)]
 mod assertions;
 #[cfg(test)]
+mod bad_lines;
+#[cfg(test)]
 mod faults;
 #[cfg(test)]
 mod forms;
 #[cfg(test)]
-mod lines;
+mod refusals;
+#[cfg(test)]
+mod saved_worlds;
 #[cfg(test)]
 mod streams;
 #[cfg(test)]
