@@ -19,6 +19,10 @@ mod contacts_base_split;
 #[cfg(test)]
 mod contacts_forbidden;
 #[cfg(test)]
+mod contacts_near_pairs;
+#[cfg(test)]
+mod contacts_numbers;
+#[cfg(test)]
 mod contacts_scenes;
 #[cfg(test)]
 mod contacts_table;
@@ -47,14 +51,23 @@ mod packed_sets_lists;
 #[cfg(test)]
 mod packed_sets_marks;
 #[cfg(test)]
-#[cfg(test)]
 mod seat_book_seats;
 #[cfg(test)]
 mod shape_rays_hits;
 #[cfg(test)]
+mod shape_rays_model;
+#[cfg(test)]
+mod shapes_manifolds;
+#[cfg(test)]
+mod shapes_meeting_cores;
+#[cfg(test)]
 mod shapes_outlines;
 #[cfg(test)]
 mod shapes_placements;
+#[cfg(test)]
+mod shapes_rays;
+#[cfg(test)]
+mod shapes_separate_cores;
 #[cfg(test)]
 mod sleep_wake_sleep;
 #[cfg(test)]
