@@ -27,7 +27,11 @@ mod contacts_scenes;
 #[cfg(test)]
 mod contacts_table;
 #[cfg(test)]
+mod crew_gates;
+#[cfg(test)]
 mod crew_maps;
+#[cfg(test)]
+mod crew_staying;
 #[cfg(test)]
 mod definitions;
 #[cfg(test)]
