@@ -7,7 +7,7 @@
 //! |---|---|
 //! | `gravity X Y` | another gravity |
 //! | `floor X Y HALF` | a static body with a segment of twice that length |
-//! | `circle MASS INERTIA X Y RADIUS FRICTION MORE` | a dynamic body of a circle, and of so many more beside it; a static one where the mass is 0 |
+//! | `circle MASS INERTIA X Y RADIUS FRICTION MORE` | a body of a circle and MORE beside it, static if MASS is 0 |
 //! | `lift RADIUS X Y ACROSS UP` | a kinematic circle, with this velocity |
 //! | `joint A B LENGTH X Y` | a joint of the first body's centre and of this point of the second |
 //! | `unjoin`, `destroy`, `disable`, `enable`, `wake`, `sleep` | the command on the joint or the body of a slot |

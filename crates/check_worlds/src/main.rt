@@ -1,8 +1,8 @@
 //! Checks worlds in two parts: worlds that were worked by hand, and steps by workers.
 //!
 //! Without a word it makes the checks of both parts, one after another, each under its name. It prints the same lines
-//! whatever the schedule, which the gate compares. Most checks of worlds are a script on standard input. `check_worlds PART` makes those of one part: `worlds` or `workers`.
-//! Further words go to the part.
+//! whatever the schedule, which the gate compares. Most checks of worlds are a script on standard input.
+//! `check_worlds PART` makes those of one part: `worlds` or `workers`. Further words go to the part.
 //!
 //! `check_worlds worlds WORLD CALL` makes one call while memory may be refused to it, in the world that the commands of
 //! a text make, and says in a line what came of it: `kept` where a refused call left everything as it was and then
