@@ -20,8 +20,8 @@ pub(crate) enum Kind {
     Parts,
 }
 
-/// A key, what its value has to be, whether each object of the form has it, and texts of JSON that would do as its value:
-/// none where no search tries the key, two or three where bodies of other kinds want other values.
+/// A key, what its value has to be, whether each object of the form has it, and texts of JSON that would do as its
+/// value: none where no search tries the key, two or three where bodies of other kinds want other values.
 pub(crate) type Key = (&'static str, Kind, bool, &'static [&'static str]);
 
 const ALL: bool = true;

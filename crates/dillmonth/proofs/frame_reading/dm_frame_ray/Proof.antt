@@ -33,7 +33,7 @@ use Rattle.dillmonth.specs.Forms.{vector_said}
 use Rattle.dillmonth.specs.Frames.{HitsFramed}
 use Rattle.dillmonth.specs.contracts.forms.CVector.{the_row as Vector}
 use Rattle.dillmonth.proofs.forms.CVector.TheLaws as vector
-use Rattle.dillmonth.specs.contracts.questions.CHit.{the_row as Hit}
+use Rattle.dillmonth.specs.contracts.rays.CHit.{the_row as Hit}
 use Rattle.dillmonth.specs.Loans.{lent_as}
 use Rattle.world_core.specs.Frames.{View}
 use Rattle.dillmonth.proofs.LoanSteps.{all_gave, all_go, either_lent, lent_again}
