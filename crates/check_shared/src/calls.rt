@@ -5,7 +5,5 @@
 mod of_mirrors;
 mod of_seats;
 
-pub use of_mirrors::{Reads, Shows, Told, publish_until};
-pub use of_seats::{
-    Called, Left, SeatAnswer, Seen, Shared, Shown, Shut, close, give_back, shown_by,
-};
+pub use of_mirrors::{Feed, Reads, Shows, Told, publish_until};
+pub use of_seats::{Called, Left, SeatAnswer, Seen, Shared, Shown, Shut, close, shown_by};

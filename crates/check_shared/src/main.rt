@@ -13,6 +13,7 @@ mod replay;
 mod scenes;
 mod shared;
 mod sharing;
+mod stage;
 mod tasks;
 mod texts;
 mod timing;

@@ -2,16 +2,17 @@
 
 ghost use Rattle.std.specs.Prelude.{◌≡◌};
 
-use crate::calls::{Left, Shared, Shut, close, give_back};
+use crate::calls::{Feed, Left, Shared, Shut, close};
 use crate::locks::{SeatWork, work_all};
 use crate::mirrors::{MirrorWork, do_work};
 use crate::shared::Round;
+use crate::stage::Stage;
 use check_scenes::{CallMark, World};
 use frame_mirror::{Mirror, Mirrored};
 use seat_book::Roster;
 use std::alloc::Global;
 use std::marker::Brand;
-use std::sync::{Mutex, Wait};
+use std::sync::Wait;
 use std::thread::Threads;
 use std::time::Clock;
 use world_core::{Command, Refusal, Reply, WorldCore};
@@ -36,6 +37,14 @@ impl Work {
     }
 }
 
+/// How a world is shared: what is done with it, and the world of which it is a copy.
+#[derive(Clone, Copy)]
+struct Sharing<'a> {
+    alloc: Global,
+    work: Work,
+    reference: &'a WorldCore,
+}
+
 /// The mark of a call, if memory may be refused to it.
 fn mark_if(alloc: Global, is_tried: bool) -> Option<CallMark> {
     if is_tried {
@@ -52,44 +61,36 @@ fn end_mark(mark: &Option<CallMark>) {
     }
 }
 
-/// Opens the mirror, lets the work be done, and ends the publisher. All seats are given back. Answers what there is to
+/// Opens the mirror, lets the work be done, and ends the publisher. Its seat is given back. Answers what there is to
 /// tell.
 fn mirror_to<N: Opened + Mirrored + Send + Sync, R: Threads + Wait + Clock + Sync>(
     rt: &R,
-    alloc: Global,
+    stage: &Stage<'_, SharedWorld<N>, Seat<N>>,
     work: MirrorWork,
-    shared: &SharedWorld<N>,
-    mut seats: Vec<Seat<N>>,
-    back: &Mutex<Vec<Seat<N>>>,
     mirror: Mirror,
-    round: &Round,
     reference: &WorldCore,
 ) -> Result<String, Refusal>
     requires { mirror ≡ N.book }
 {
-    let Some(mut seat) = seats.pop() else {
-        return Err(Refusal::WrongSeats);
-    };
-    let frame = shared.frame(rt, &mut seat)?;
-    let mark = mark_if(alloc, work.tries_open());
-    let opened = mirror.open::<N>(alloc, frame, work.readers());
+    let mut seat = stage.take_seat(rt)?;
+    let frame = stage.shared.frame(rt, &mut seat)?;
+    let mark = mark_if(stage.alloc, work.tries_open());
+    let opened = mirror.open::<N>(stage.alloc, frame, work.readers());
     end_mark(&mark);
-    let (mut publisher, readers) = opened?;
-    let told = do_work(
-        rt,
-        alloc,
-        work,
-        shared,
-        seats,
-        back,
-        &mut seat,
-        &mut publisher,
-        readers,
-        round,
-        reference,
-    );
+    let (publisher, readers) = opened?;
+    let mut feed = Feed {
+        shared: stage.shared,
+        seat,
+        publisher,
+    };
+    let told = do_work(rt, stage, work, &mut feed, readers, reference);
+    let Feed {
+        shared: _,
+        seat,
+        publisher,
+    } = feed;
     publisher.close(rt);
-    give_back(rt, seat, back);
+    stage.give_back(rt, seat);
     told
 }
 
@@ -111,37 +112,33 @@ fn close_told<T: Drop, S: Shared<T>>(
 /// Lets a mirror of an open world be fed, and closes the world.
 fn mirror_all<N: Opened + Mirrored + Send + Sync, R: Threads + Wait + Clock + Sync>(
     rt: &R,
-    alloc: Global,
+    sharing: Sharing<'_>,
     work: MirrorWork,
     shared: SharedWorld<N>,
     seats: Vec<Seat<N>>,
     mirror: Mirror,
-    reference: &WorldCore,
 ) -> Result<Left<WorldCore>, Refusal>
     requires { mirror ≡ N.book }
 {
-    let (round, back) = (Round::new(), Mutex::new(Vec::new(alloc)));
-    let told = mirror_to(
-        rt, alloc, work, &shared, seats, &back, mirror, &round, reference,
-    );
-    close_told(shared, back.into_inner(), told, round)
+    let stage = Stage::new(sharing.alloc, &shared, seats);
+    let told = mirror_to(rt, &stage, work, mirror, sharing.reference);
+    let (seats, round) = stage.into_parts();
+    close_told(shared, seats, told, round)
 }
 
 /// Does the work with an open world, and closes it.
 fn work_with<N: Opened + Mirrored + Send + Sync, R: Threads + Wait + Clock + Sync>(
     rt: &R,
-    alloc: Global,
-    work: Work,
+    sharing: Sharing<'_>,
     shared: SharedWorld<N>,
     seats: Vec<Seat<N>>,
     mirror: Mirror,
-    reference: &WorldCore,
 ) -> Result<Left<WorldCore>, Refusal>
     requires { mirror ≡ N.book }
 {
-    match work {
-        Work::Seats(work) => work_all(rt, alloc, shared, seats, work),
-        Work::Mirror(work) => mirror_all(rt, alloc, work, shared, seats, mirror, reference),
+    match sharing.work {
+        Work::Seats(work) => work_all(rt, sharing.alloc, shared, seats, work),
+        Work::Mirror(work) => mirror_all(rt, sharing, work, shared, seats, mirror),
     }
 }
 
@@ -157,23 +154,19 @@ fn shut_by<W: World>(left: Result<Left<W>, Refusal>) -> Shut<W> {
 /// world's name. Where it can't be opened the world comes back as it was.
 fn share<N: Opened + Mirrored + Send + Sync, R: Threads + Wait + Clock + Sync>(
     rt: &R,
-    alloc: Global,
-    work: Work,
+    sharing: Sharing<'_>,
     world: WorldCore,
     roster: Roster<Command, Reply>,
     mirror: Mirror,
-    reference: &WorldCore,
 ) -> Shut<WorldCore>
     requires world { (roster.table ≡ N.table) × (roster.seats ≡ N.seats) × (world ≡ N.opening) }
     requires mirror { mirror ≡ N.book }
 {
-    let mark = mark_if(alloc, work.tries_open());
-    let opened = SharedWorld::<N>::open(alloc, world, roster);
+    let mark = mark_if(sharing.alloc, sharing.work.tries_open());
+    let opened = SharedWorld::<N>::open(sharing.alloc, world, roster);
     end_mark(&mark);
     match opened {
-        Ok((shared, seats)) => {
-            shut_by(work_with(rt, alloc, work, shared, seats, mirror, reference))
-        }
+        Ok((shared, seats)) => shut_by(work_with(rt, sharing, shared, seats, mirror)),
         Err((world, refusal)) => Shut::Unopened(world, refusal),
     }
 }
@@ -188,8 +181,13 @@ pub fn open_to<R: Threads + Wait + Clock + Sync>(
     seats: u64,
     work: Work,
 ) -> Shut<WorldCore> {
+    let sharing = Sharing {
+        alloc,
+        work,
+        reference,
+    };
     match Roster::new(alloc, seats) {
-        Ok(roster) => share::<Brand, R>(rt, alloc, work, world, roster, Mirror::new(), reference),
+        Ok(roster) => share::<Brand, R>(rt, sharing, world, roster, Mirror::new()),
         Err(refusal) => {
             drop(world);
             Shut::Lost(refusal)

@@ -17,6 +17,13 @@ pub trait Shows<S, T, K> {
     fn seen(&self) -> Result<K, Refusal>;
 }
 
+/// A publisher, with the shared world and the seat that feed it.
+pub struct Feed<'a, S, T, P> {
+    pub shared: &'a S,
+    pub seat: T,
+    pub publisher: P,
+}
+
 /// The calls of a reader with marks of this type.
 pub trait Reads<K>: Drop {
     fn pose(&mut self, handle: Handle) -> Option<Pose>;
@@ -108,15 +115,13 @@ impl<J: Mirrored> Told for Mark<J> {
 /// Publishes until this number is reached. Answers how often.
 pub fn publish_until<S, T, K, P: Shows<S, T, K>, R: Wait>(
     rt: &R,
-    shared: &S,
-    seat: &mut T,
-    publisher: &mut P,
+    feed: &mut Feed<'_, S, T, P>,
     done: &AtomicU64,
     wanted: u64,
 ) -> Result<u64, Refusal> {
     let mut frames: u64 = 0;
     for _ in rt.forever() {
-        let _ = publisher.publish(rt, shared, seat)?;
+        let _ = feed.publisher.publish(rt, feed.shared, &mut feed.seat)?;
         frames = frames.saturating_add(1);
         if done.load(Ordering::SeqCst) >= wanted {
             break;

@@ -5,7 +5,7 @@ use crate::shared::Notes;
 use crate::texts::text_of_frame;
 use check_scenes::{CallMark, World, hit_in};
 use std::alloc::Global;
-use std::sync::{Mutex, Wait};
+use std::sync::Wait;
 use world_core::{
     Command, Events, Frame, PieceMap, Refusal, Reply, StepWorker, Total, Vec2, WorldCore, WorldLook,
 };
@@ -134,11 +134,6 @@ pub fn close<T: Drop, S: Shared<T>>(shared: S, seats: Vec<T>) -> Result<Left<S::
         Ok(left) => Ok(left),
         Err((_, _, refusal)) => Err(refusal),
     }
-}
-
-/// Gives a seat back. Where there is no memory for it, it is missing when the world is closed.
-pub fn give_back<T: Drop, R: Wait>(rt: &R, seat: T, back: &Mutex<Vec<T>>) {
-    let _was_given = back.lock(rt).push(seat);
 }
 
 impl<N: Opened> Called<Seat<N>> for SharedWorld<N> {

@@ -1,6 +1,6 @@
 //! Readers on threads of their own, which a publisher tells of each frame by a mark.
 
-use crate::calls::{Called, Reads, Shows, Told};
+use crate::calls::{Called, Feed, Reads, Shows, Told};
 use crate::mirrors::example::push;
 use frame_mirror::{Absorb, Change, Mark, Mirrored, Publisher, Reader, Showing};
 use std::alloc::Global;
@@ -129,15 +129,13 @@ fn end_all<K: Told, R: Wait>(rt: &R, boxes: &[Mutex<Letters<K>>]) {
 /// Pushes the circle and publishes, again and again, and tells the readers of each frame.
 fn publish_often<S: Called<T>, T: Drop, K: Told, P: Shows<S, T, K>, R: Wait>(
     rt: &R,
-    shared: &S,
-    seat: &mut T,
-    publisher: &mut P,
+    feed: &mut Feed<'_, S, T, P>,
     boxes: &[Mutex<Letters<K>>],
 ) -> Result<(), Refusal> {
     for _ in 0..FRAMES {
-        push(rt, shared, seat)?;
-        let _ = publisher.publish(rt, shared, seat)?;
-        send_to_all(rt, publisher, boxes)?;
+        push(rt, feed.shared, &mut feed.seat)?;
+        let _ = feed.publisher.publish(rt, feed.shared, &mut feed.seat)?;
+        send_to_all(rt, &feed.publisher, boxes)?;
     }
     Ok(())
 }
@@ -145,9 +143,7 @@ fn publish_often<S: Called<T>, T: Drop, K: Told, P: Shows<S, T, K>, R: Wait>(
 /// Publishes while the readers look.
 pub fn race<N: Opened, J: Mirrored + Send + Sync, R: Threads + Wait + Sync>(
     rt: &R,
-    shared: &SharedWorld<N>,
-    seat: &mut Seat<N>,
-    publisher: &mut Publisher<J>,
+    feed: &mut Feed<'_, SharedWorld<N>, Seat<N>, Publisher<J>>,
     readers: Vec<Reader<J>>,
     boxes: &[Mutex<Letters<Mark<J>>>],
 ) -> Result<(), Refusal>
@@ -156,7 +152,7 @@ where
 {
     thread::scope(thread::scope_env(), rt, |scope| {
         let started = watch_all(scope, rt, readers, boxes);
-        let published = publish_often(rt, shared, seat, publisher, boxes);
+        let published = publish_often(rt, feed, boxes);
         end_all(rt, boxes);
         started?;
         published

@@ -1,6 +1,6 @@
 //! The worked example: two readers, one of which is told of what is published.
 
-use crate::calls::{Called, Reads, Shows, Told};
+use crate::calls::{Called, Feed, Reads, Shows, Told};
 use crate::mirrors::untold::{BELOW, Look, UPWARDS, is_found};
 use check_scenes::FIRST;
 use std::alloc::Global;
@@ -98,17 +98,16 @@ fn write_covered<K: Told>(told: &mut String, short: &K, long: &K) -> Result<(), 
 pub fn publish_first<S: Called<T>, T: Drop, K: Told, P: Shows<S, T, K>, D: Reads<K>, R: Wait>(
     rt: &R,
     told: &mut String,
-    shared: &S,
-    seat: &mut T,
-    publisher: &mut P,
+    feed: &mut Feed<'_, S, T, P>,
     reader: &mut D,
 ) -> Result<(), Refusal> {
-    push_twice(rt, shared, seat)?;
-    call(rt, shared, seat, Command::Step(1))?;
-    let before = publisher.seen()?;
-    write_published(told, publisher.publish(rt, shared, seat))?;
-    write_covered(told, &before, &publisher.seen()?)?;
-    reader.learn(publisher.seen()?);
+    push_twice(rt, feed.shared, &mut feed.seat)?;
+    call(rt, feed.shared, &mut feed.seat, Command::Step(1))?;
+    let before = feed.publisher.seen()?;
+    let answer = feed.publisher.publish(rt, feed.shared, &mut feed.seat);
+    write_published(told, answer)?;
+    write_covered(told, &before, &feed.publisher.seen()?)?;
+    reader.learn(feed.publisher.seen()?);
     write_reader(told, "told", reader)
 }
 

@@ -1,6 +1,6 @@
 //! Calls of a mirror to which memory may be refused.
 
-use crate::calls::{Called, Reads, Shows, Told};
+use crate::calls::{Called, Feed, Reads, Shows, Told};
 use crate::mirrors::example::push;
 use crate::mirrors::untold::{BELOW, Look, UPWARDS, is_found};
 use check_scenes::{CallMark, FIRST, ORIGIN};
@@ -76,16 +76,17 @@ fn is_answered<S: Called<T>, T: Drop, K: Told, P: Shows<S, T, K>, D: Reads<K>, R
     rt: &R,
     alloc: Global,
     call: Call,
-    shared: &S,
-    seat: &mut T,
-    publisher: &mut P,
+    feed: &mut Feed<'_, S, T, P>,
     reader: &mut D,
     mark: &K,
 ) -> Result<bool, Refusal> {
     match call {
         Call::Open => Ok(true),
-        Call::Publish => Ok(publisher.publish(rt, shared, seat)? == OPENED + 1),
-        Call::Seen => Ok(publisher.seen()?.shown().calls == OPENED),
+        Call::Publish => {
+            let calls = feed.publisher.publish(rt, feed.shared, &mut feed.seat)?;
+            Ok(calls == OPENED + 1)
+        }
+        Call::Seen => Ok(feed.publisher.seen()?.shown().calls == OPENED),
         _ => is_read(alloc, call, reader, mark),
     }
 }
@@ -116,13 +117,11 @@ fn is_shown<K: Told, D: Reads<K>>(
 /// Whether a frame can be published, and a reader that is told of it shows it.
 fn is_published<S: Called<T>, T: Drop, K: Told, P: Shows<S, T, K>, D: Reads<K>, R: Wait>(
     rt: &R,
-    shared: &S,
-    seat: &mut T,
-    publisher: &mut P,
+    feed: &mut Feed<'_, S, T, P>,
     reader: &mut D,
 ) -> Result<bool, Refusal> {
-    let _ = publisher.publish(rt, shared, seat)?;
-    reader.learn(publisher.seen()?);
+    let _ = feed.publisher.publish(rt, feed.shared, &mut feed.seat)?;
+    reader.learn(feed.publisher.seen()?);
     Ok(reader.total().x == 256)
 }
 
@@ -141,30 +140,28 @@ pub fn try_call<S: Called<T>, T: Drop, K: Told, P: Shows<S, T, K>, D: Reads<K>, 
     rt: &R,
     alloc: Global,
     call: Call,
-    shared: &S,
-    seat: &mut T,
-    publisher: &mut P,
+    feed: &mut Feed<'_, S, T, P>,
     reader: &mut D,
 ) -> Result<&'static str, Refusal> {
-    push(rt, shared, seat)?;
-    let told = publisher.seen()?;
+    push(rt, feed.shared, &mut feed.seat)?;
+    let told = feed.publisher.seen()?;
     let mark = CallMark::begin(alloc);
-    let first = is_answered(rt, alloc, call, shared, seat, publisher, reader, &told);
+    let first = is_answered(rt, alloc, call, feed, reader, &told);
     if !mark.end() {
         return Ok("outside");
     }
     let mut outcome = told_of(first, "none");
     if first == Err(Refusal::NoMemory) {
-        if !is_kept(publisher, reader)? {
+        if !is_kept(&feed.publisher, reader)? {
             return Ok("differs: what is shown");
         }
-        let again = is_answered(rt, alloc, call, shared, seat, publisher, reader, &told);
+        let again = is_answered(rt, alloc, call, feed, reader, &told);
         outcome = told_of(again, "kept");
     }
     if !is_shown(alloc, call, reader)? {
         return Ok("differs: a frame that was published isn't found");
     }
-    if !is_published(rt, shared, seat, publisher, reader)? {
+    if !is_published(rt, feed, reader)? {
         return Ok("differs: a later frame");
     }
     Ok(outcome)

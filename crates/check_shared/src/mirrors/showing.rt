@@ -2,13 +2,14 @@
 
 ghost use Rattle.std.specs.Prelude.{◌≡◌};
 
-use crate::calls::{Called, Reads, Shared, Shows, Told, give_back};
+use crate::calls::{Called, Feed, Reads, Shared, Shows, Told};
 use crate::mirrors::crowd::{Letters, race};
 use crate::mirrors::example::{publish_first, publish_second, push, read_on};
 use crate::mirrors::refused::{Call, try_call};
 use crate::mirrors::timing::{time_frames, time_poses, time_readers};
 use crate::mirrors::untold::{READERS, write_found};
-use crate::shared::{Round, RoundWork, race as race_round};
+use crate::shared::{RoundWork, race as race_round};
+use crate::stage::Stage;
 use check_scenes::World;
 use frame_mirror::{Absorb, Change, Mark, Mirrored, Publisher, Reader, Showing};
 use seat_book::Roster;
@@ -92,7 +93,6 @@ fn publish_and_drop<
 fn share_second<M: Opened, J: Mirrored, R: Wait>(
     rt: &R,
     told: &mut String,
-    alloc: Global,
     world: WorldCore,
     roster: Roster<Command, Reply>,
     publisher: &mut Publisher<J>,
@@ -102,7 +102,7 @@ where
     Showing<Mark<J>>: Absorb<Change<Mark<J>>, State = ()>,
     requires { (roster.table ≡ M.table) × (roster.seats ≡ M.seats) × (world ≡ M.opening) }
 {
-    match SharedWorld::<M>::open(alloc, world, roster) {
+    match SharedWorld::<M>::open(*told.allocator(), world, roster) {
         Ok((shared, seats)) => publish_and_drop(rt, told, shared, seats, publisher, reader),
         Err((world, refusal)) => {
             drop(world);
@@ -114,7 +114,6 @@ where
 fn try_second<J: Mirrored, R: Wait>(
     rt: &R,
     told: &mut String,
-    alloc: Global,
     reference: &WorldCore,
     publisher: &mut Publisher<J>,
     reader: &mut Reader<J>,
@@ -122,18 +121,16 @@ fn try_second<J: Mirrored, R: Wait>(
 where
     Showing<Mark<J>>: Absorb<Change<Mark<J>>, State = ()>,
 {
-    let roster = Roster::new(alloc, 1)?;
+    let roster = Roster::new(*told.allocator(), 1)?;
     let world: WorldCore = World::copied(reference)?;
-    share_second::<Brand, J, R>(rt, told, alloc, world, roster, publisher, reader)
+    share_second::<Brand, J, R>(rt, told, world, roster, publisher, reader)
 }
 
 /// The worked example.
 fn show_example<N: Opened, J: Mirrored, R: Wait>(
     rt: &R,
     alloc: Global,
-    shared: &SharedWorld<N>,
-    seat: &mut Seat<N>,
-    publisher: &mut Publisher<J>,
+    feed: &mut Feed<'_, SharedWorld<N>, Seat<N>, Publisher<J>>,
     mut readers: Vec<Reader<J>>,
     reference: &WorldCore,
 ) -> Result<String, Refusal>
@@ -144,8 +141,8 @@ where
     let (Some(mut untold), Some(mut reader)) = (readers.pop(), readers.pop()) else {
         return Err(Refusal::OutOfRange);
     };
-    publish_first(rt, &mut told, shared, seat, publisher, &mut reader)?;
-    try_second(rt, &mut told, alloc, reference, publisher, &mut reader)?;
+    publish_first(rt, &mut told, feed, &mut reader)?;
+    try_second(rt, &mut told, reference, &mut feed.publisher, &mut reader)?;
     read_on(&mut told, alloc, &mut reader, &mut untold)?;
     Ok(told)
 }
@@ -154,9 +151,7 @@ where
 fn show_untold<N: Opened, J: Mirrored, R: Wait>(
     rt: &R,
     alloc: Global,
-    shared: &SharedWorld<N>,
-    seat: &mut Seat<N>,
-    publisher: &mut Publisher<J>,
+    feed: &mut Feed<'_, SharedWorld<N>, Seat<N>, Publisher<J>>,
     mut readers: Vec<Reader<J>>,
 ) -> Result<String, Refusal>
 where
@@ -164,8 +159,8 @@ where
 {
     let mut told = String::new(alloc);
     for _ in 0..2 {
-        push(rt, shared, seat)?;
-        let calls = publisher.publish(rt, shared, seat)?;
+        push(rt, feed.shared, &mut feed.seat)?;
+        let calls = feed.publisher.publish(rt, feed.shared, &mut feed.seat)?;
         write_found(&mut told, alloc, readers.as_mut_slice(), calls)?;
     }
     Ok(told)
@@ -198,16 +193,14 @@ fn told_by_crowd<K: Drop>(alloc: Global, boxes: Vec<Mutex<Letters<K>>>) -> Resul
 fn show_crowd<N: Opened, J: Mirrored + Send + Sync, R: Threads + Wait + Sync>(
     rt: &R,
     alloc: Global,
-    shared: &SharedWorld<N>,
-    seat: &mut Seat<N>,
-    publisher: &mut Publisher<J>,
+    feed: &mut Feed<'_, SharedWorld<N>, Seat<N>, Publisher<J>>,
     readers: Vec<Reader<J>>,
 ) -> Result<String, Refusal>
 where
     Showing<Mark<J>>: Absorb<Change<Mark<J>>, State = ()>,
 {
     let boxes = boxes_for(alloc, readers.len())?;
-    race(rt, shared, seat, publisher, readers, boxes.as_slice())?;
+    race(rt, feed, readers, boxes.as_slice())?;
     told_by_crowd(alloc, boxes)
 }
 
@@ -216,9 +209,7 @@ fn show_trial<N: Opened, J: Mirrored, R: Wait>(
     rt: &R,
     alloc: Global,
     call: Call,
-    shared: &SharedWorld<N>,
-    seat: &mut Seat<N>,
-    publisher: &mut Publisher<J>,
+    feed: &mut Feed<'_, SharedWorld<N>, Seat<N>, Publisher<J>>,
     mut readers: Vec<Reader<J>>,
 ) -> Result<String, Refusal>
 where
@@ -226,7 +217,7 @@ where
 {
     match readers.first_mut() {
         Some(reader) => {
-            let word = try_call(rt, alloc, call, shared, seat, publisher, reader)?;
+            let word = try_call(rt, alloc, call, feed, reader)?;
             Ok(format!(in alloc; "{word}\n")?)
         }
         None => Err(Refusal::OutOfRange),
@@ -237,9 +228,7 @@ where
 fn show_times<N: Opened, J: Mirrored, R: Wait + Clock>(
     rt: &R,
     alloc: Global,
-    shared: &SharedWorld<N>,
-    seat: &mut Seat<N>,
-    publisher: &mut Publisher<J>,
+    feed: &mut Feed<'_, SharedWorld<N>, Seat<N>, Publisher<J>>,
     mut readers: Vec<Reader<J>>,
     times: u64,
 ) -> Result<String, Refusal>
@@ -251,7 +240,7 @@ where
         Some(reader) => time_poses(rt, &mut told, reader, times)?,
         None => return Err(Refusal::OutOfRange),
     }
-    time_frames(rt, &mut told, shared, seat, publisher, times / 1_000)?;
+    time_frames(rt, &mut told, feed, times / 1_000)?;
     Ok(told)
 }
 
@@ -259,9 +248,7 @@ where
 fn show_readers<N: Opened, J: Mirrored + Send + Sync, R: Threads + Wait + Clock + Sync>(
     rt: &R,
     alloc: Global,
-    shared: &SharedWorld<N>,
-    seat: &mut Seat<N>,
-    publisher: &mut Publisher<J>,
+    feed: &mut Feed<'_, SharedWorld<N>, Seat<N>, Publisher<J>>,
     readers: Vec<Reader<J>>,
     times: u64,
 ) -> Result<String, Refusal>
@@ -269,7 +256,7 @@ where
     Showing<Mark<J>>: Absorb<Change<Mark<J>>, State = ()>,
 {
     let mut told = String::new(alloc);
-    time_readers(rt, &mut told, shared, seat, publisher, readers, times)?;
+    time_readers(rt, &mut told, feed, readers, times)?;
     Ok(told)
 }
 
@@ -281,21 +268,12 @@ fn told_nothing(alloc: Global, done: Result<(), Refusal>) -> Result<String, Refu
     }
 }
 
-/// Gives back seats that do nothing.
-fn give_all_back<T: Drop, R: Wait>(rt: &R, seats: Vec<T>, back: &Mutex<Vec<T>>) {
-    for seat in seats {
-        give_back(rt, seat, back);
-    }
-}
-
 /// Does the work that needs no other seat.
 fn do_alone<N: Opened, J: Mirrored + Send + Sync, R: Threads + Wait + Clock + Sync>(
     rt: &R,
     alloc: Global,
     work: MirrorWork,
-    shared: &SharedWorld<N>,
-    seat: &mut Seat<N>,
-    publisher: &mut Publisher<J>,
+    feed: &mut Feed<'_, SharedWorld<N>, Seat<N>, Publisher<J>>,
     readers: Vec<Reader<J>>,
     reference: &WorldCore,
 ) -> Result<String, Refusal>
@@ -303,51 +281,37 @@ where
     Showing<Mark<J>>: Absorb<Change<Mark<J>>, State = ()>,
 {
     match work {
-        MirrorWork::Example => show_example(rt, alloc, shared, seat, publisher, readers, reference),
-        MirrorWork::Untold => show_untold(rt, alloc, shared, seat, publisher, readers),
-        MirrorWork::Crowd => show_crowd(rt, alloc, shared, seat, publisher, readers),
+        MirrorWork::Example => show_example(rt, alloc, feed, readers, reference),
+        MirrorWork::Untold => show_untold(rt, alloc, feed, readers),
+        MirrorWork::Crowd => show_crowd(rt, alloc, feed, readers),
         MirrorWork::Try(Call::Open) => Ok(String::new(alloc)),
-        MirrorWork::Try(call) => show_trial(rt, alloc, call, shared, seat, publisher, readers),
-        MirrorWork::Time(times) => show_times(rt, alloc, shared, seat, publisher, readers, times),
-        MirrorWork::TimeReaders(_, times) => {
-            show_readers(rt, alloc, shared, seat, publisher, readers, times)
-        }
+        MirrorWork::Try(call) => show_trial(rt, alloc, call, feed, readers),
+        MirrorWork::Time(times) => show_times(rt, alloc, feed, readers, times),
+        MirrorWork::TimeReaders(_, times) => show_readers(rt, alloc, feed, readers, times),
         MirrorWork::Round(_) => Ok(String::new(alloc)),
     }
 }
 
-/// Does the work with the publisher and the readers of a mirror. The other seats of the world go to those that are
-/// given back. Answers what there is to tell.
+/// Does the work with the publisher and the readers of a mirror. Answers what there is to tell.
 pub fn do_work<
     N: Opened + Send + Sync,
     J: Mirrored + Send + Sync,
     R: Threads + Wait + Clock + Sync,
 >(
     rt: &R,
-    alloc: Global,
+    stage: &Stage<'_, SharedWorld<N>, Seat<N>>,
     work: MirrorWork,
-    shared: &SharedWorld<N>,
-    seats: Vec<Seat<N>>,
-    back: &Mutex<Vec<Seat<N>>>,
-    seat: &mut Seat<N>,
-    publisher: &mut Publisher<J>,
+    feed: &mut Feed<'_, SharedWorld<N>, Seat<N>, Publisher<J>>,
     readers: Vec<Reader<J>>,
-    round: &Round,
     reference: &WorldCore,
 ) -> Result<String, Refusal>
 where
     Showing<Mark<J>>: Absorb<Change<Mark<J>>, State = ()>,
 {
     match work {
-        MirrorWork::Round(work) => told_nothing(
-            alloc,
-            race_round(
-                rt, alloc, work, shared, seats, back, seat, publisher, readers, round,
-            ),
-        ),
-        work => {
-            give_all_back(rt, seats, back);
-            do_alone(rt, alloc, work, shared, seat, publisher, readers, reference)
+        MirrorWork::Round(work) => {
+            told_nothing(stage.alloc, race_round(rt, stage, work, feed, readers))
         }
+        work => do_alone(rt, stage.alloc, work, feed, readers, reference),
     }
 }

@@ -1,6 +1,6 @@
 //! How long readers and publishers take.
 
-use crate::calls::{Called, Reads, Shows, Told, publish_until};
+use crate::calls::{Called, Feed, Reads, Shows, Told, publish_until};
 use crate::timing::{now, write_each};
 use check_scenes::FIRST;
 use frame_mirror::{Absorb, Change, Mark, Mirrored, Publisher, Reader, Showing};
@@ -40,19 +40,17 @@ pub fn time_poses<K: Told, D: Reads<K>, R: Clock>(
 pub fn time_frames<S: Called<T>, T: Drop, K: Told, P: Shows<S, T, K>, R: Clock + Wait>(
     rt: &R,
     told: &mut String,
-    shared: &S,
-    seat: &mut T,
-    publisher: &mut P,
+    feed: &mut Feed<'_, S, T, P>,
     times: u64,
 ) -> Result<(), Refusal> {
     let start = now(rt);
     for _ in 0..times {
-        let _shown = shared.look(rt, seat)?;
+        let _shown = feed.shared.look(rt, &mut feed.seat)?;
     }
     write_each(told, "frame", now(rt).saturating_sub(start), times)?;
     let start = now(rt);
     for _ in 0..times {
-        let _ = publisher.publish(rt, shared, seat)?;
+        let _ = feed.publisher.publish(rt, feed.shared, &mut feed.seat)?;
     }
     write_each(told, "publish", now(rt).saturating_sub(start), times)
 }
@@ -84,9 +82,7 @@ fn read_all<'s, E, J: Mirrored + Send + Sync + 's>(
 fn race_in<'s, E, N: Opened, J: Mirrored + Send + Sync + 's, R: Wait>(
     scope: &Scope<'s, E>,
     rt: &R,
-    shared: &SharedWorld<N>,
-    seat: &mut Seat<N>,
-    publisher: &mut Publisher<J>,
+    feed: &mut Feed<'_, SharedWorld<N>, Seat<N>, Publisher<J>>,
     readers: Vec<Reader<J>>,
     times: u64,
     done: &'s AtomicU64,
@@ -96,16 +92,14 @@ where
 {
     let count = readers.len() as u64;
     read_all(scope, readers, times, done)?;
-    publish_until(rt, shared, seat, publisher, done, count)
+    publish_until(rt, feed, done, count)
 }
 
 /// Times poses of readers on threads of their own, while this one publishes.
 pub fn time_readers<N: Opened, J: Mirrored + Send + Sync, R: Threads + Wait + Clock + Sync>(
     rt: &R,
     told: &mut String,
-    shared: &SharedWorld<N>,
-    seat: &mut Seat<N>,
-    publisher: &mut Publisher<J>,
+    feed: &mut Feed<'_, SharedWorld<N>, Seat<N>, Publisher<J>>,
     readers: Vec<Reader<J>>,
     times: u64,
 ) -> Result<(), Refusal>
@@ -116,7 +110,7 @@ where
     let word = &done;
     let start = now(rt);
     let frames = thread::scope(thread::scope_env(), rt, |scope| {
-        race_in(scope, rt, shared, seat, publisher, readers, times, word)
+        race_in(scope, rt, feed, readers, times, word)
     })?;
     let nanos = now(rt).saturating_sub(start);
     writeln!(

@@ -1,13 +1,13 @@
 //! Readers that look while seats work and another one publishes.
 
-use crate::calls::{Reads, Shows, Told, publish_until};
+use crate::calls::{Feed, Reads, Shows, Told, publish_until};
 use crate::shared::notes::{Answered, Notes};
 use crate::shared::round::Round;
 use crate::shared::seats::{ALONG, FROM, start_seats};
 use crate::shared::work::RoundWork;
+use crate::stage::Stage;
 use frame_mirror::{Absorb, Change, Mark, Mirrored, Publisher, Reader, Showing};
-use std::alloc::Global;
-use std::sync::{Mutex, Wait};
+use std::sync::Wait;
 use std::thread;
 use std::thread::{Scope, Threads};
 use world_core::Refusal;
@@ -68,16 +68,12 @@ fn start_threads<
 >(
     scope: &Scope<'s, E>,
     rt: &'s R,
-    alloc: Global,
+    stage: &'s Stage<'s, SharedWorld<N>, Seat<N>>,
     work: RoundWork,
-    shared: &'s SharedWorld<N>,
-    seats: Vec<Seat<N>>,
-    back: &'s Mutex<Vec<Seat<N>>>,
     readers: Vec<Reader<J>>,
-    round: &'s Round,
 ) -> Result<(), Refusal> {
-    watch_all(scope, rt, readers, round)?;
-    start_seats(scope, rt, alloc, work, shared, seats, back, round)
+    watch_all(scope, rt, readers, &stage.round)?;
+    start_seats(scope, rt, stage, work)
 }
 
 /// Publishes while the seats work, if their threads were started, and ends the round.
@@ -85,13 +81,11 @@ fn publish_meanwhile<S, T, K, P: Shows<S, T, K>, R: Wait>(
     rt: &R,
     started: Result<(), Refusal>,
     work: RoundWork,
-    shared: &S,
-    seat: &mut T,
-    publisher: &mut P,
+    feed: &mut Feed<'_, S, T, P>,
     round: &Round,
 ) -> Result<(), Refusal> {
     let published = match started {
-        Ok(()) => publish_until(rt, shared, seat, publisher, round.done(), work.seats()),
+        Ok(()) => publish_until(rt, feed, round.done(), work.seats()),
         Err(refusal) => Err(refusal),
     };
     round.open();
@@ -102,27 +96,22 @@ fn publish_meanwhile<S, T, K, P: Shows<S, T, K>, R: Wait>(
     Ok(())
 }
 
-/// Lets the seats work on threads of their own while this one publishes and the readers look.
+/// Lets the other seats work on threads of their own while this one publishes and the readers look.
 pub fn race<N: Opened + Send + Sync, J: Mirrored + Send + Sync, R: Threads + Wait + Sync>(
     rt: &R,
-    alloc: Global,
+    stage: &Stage<'_, SharedWorld<N>, Seat<N>>,
     work: RoundWork,
-    shared: &SharedWorld<N>,
-    seats: Vec<Seat<N>>,
-    back: &Mutex<Vec<Seat<N>>>,
-    seat: &mut Seat<N>,
-    publisher: &mut Publisher<J>,
+    feed: &mut Feed<'_, SharedWorld<N>, Seat<N>, Publisher<J>>,
     readers: Vec<Reader<J>>,
-    round: &Round,
 ) -> Result<(), Refusal>
 where
     Showing<Mark<J>>: Absorb<Change<Mark<J>>, State = ()>,
 {
     if !work.is_held() {
-        round.open();
+        stage.round.open();
     }
     thread::scope(thread::scope_env(), rt, |scope| {
-        let started = start_threads(scope, rt, alloc, work, shared, seats, back, readers, round);
-        publish_meanwhile(rt, started, work, shared, seat, publisher, round)
+        let started = start_threads(scope, rt, stage, work, readers);
+        publish_meanwhile(rt, started, work, feed, &stage.round)
     })
 }

@@ -1,11 +1,10 @@
 //! Seats that work, each on a thread of its own.
 
-use crate::calls::{Called, give_back};
+use crate::calls::Called;
 use crate::shared::notes::Notes;
-use crate::shared::round::Round;
 use crate::shared::work::{RoundWork, Task, Turn};
-use std::alloc::Global;
-use std::sync::{Mutex, Wait};
+use crate::stage::Stage;
+use std::sync::Wait;
 use std::thread;
 use std::thread::{Scope, Threads};
 use world_core::{Command, PieceMap, Refusal, StepWorker, Vec2, WorldLook};
@@ -55,18 +54,17 @@ fn take_turns<T, S: Called<T>, R: Wait, V: StepWorker + PieceMap<WorldLook>>(
 }
 
 /// The same with workers, which start for it and pass the round's gate. Where they can't be started nothing is done.
-fn take_turns_by_workers<'s, E, T, S: Called<T>, R: Threads + Wait + Sync>(
+fn take_turns_by_workers<'s, E, T: Drop, S: Called<T>, R: Threads + Wait + Sync>(
     scope: &Scope<'s, E>,
     rt: &'s R,
-    alloc: Global,
-    shared: &S,
+    stage: &'s Stage<'s, S, T>,
     seat: &mut T,
     task: Task,
-    round: &'s Round,
 ) {
+    let (alloc, round) = (stage.alloc, &stage.round);
     let memory = PartMemory::for_all_steps(alloc);
     if let Ok(mut crew) = StepCrew::start(scope, rt, alloc, round, task.workers, memory) {
-        let notes = take_turns(rt, shared, seat, &mut crew, task);
+        let notes = take_turns(rt, stage.shared, seat, &mut crew, task);
         drop(crew.end());
         round.finish(rt, notes);
     }
@@ -75,18 +73,15 @@ fn take_turns_by_workers<'s, E, T, S: Called<T>, R: Threads + Wait + Sync>(
 /// What the thread of a seat does. It gives the seat back.
 fn work_through<T: Drop, S: Called<T>, R: Threads + Wait + Sync>(
     rt: &R,
-    alloc: Global,
+    stage: &Stage<'_, S, T>,
     work: RoundWork,
-    shared: &S,
     mut seat: T,
-    back: &Mutex<Vec<T>>,
-    round: &Round,
 ) {
     let task = Task::of(work, S::number(&seat));
     thread::scope(thread::scope_env(), rt, |scope| {
-        take_turns_by_workers(scope, rt, alloc, shared, &mut seat, task, round)
+        take_turns_by_workers(scope, rt, stage, &mut seat, task)
     });
-    give_back(rt, seat, back);
+    stage.give_back(rt, seat);
 }
 
 /// Starts a thread for each seat. It goes by any world and seats that may cross threads, so that whether those of a
@@ -94,16 +89,13 @@ fn work_through<T: Drop, S: Called<T>, R: Threads + Wait + Sync>(
 fn start_all<'s, E, T: Send + Drop + 's, S: Called<T> + Sync + 's, R: Threads + Wait + Sync>(
     scope: &Scope<'s, E>,
     rt: &'s R,
-    alloc: Global,
+    stage: &'s Stage<'s, S, T>,
     work: RoundWork,
-    shared: &'s S,
     seats: Vec<T>,
-    back: &'s Mutex<Vec<T>>,
-    round: &'s Round,
 ) -> Result<(), Refusal> {
     for seat in seats {
         if scope
-            .spawn(move || work_through(rt, alloc, work, shared, seat, back, round))
+            .spawn(move || work_through(rt, stage, work, seat))
             .is_err()
         {
             return Err(Refusal::NoThread);
@@ -112,17 +104,13 @@ fn start_all<'s, E, T: Send + Drop + 's, S: Called<T> + Sync + 's, R: Threads + 
     Ok(())
 }
 
-/// The same for the seats of a shared world.
+/// The same for the seats of a shared world that nobody has in hand.
 pub fn start_seats<'s, E, N: Opened + Send + Sync + 's, R: Threads + Wait + Sync>(
     scope: &Scope<'s, E>,
     rt: &'s R,
-    alloc: Global,
+    stage: &'s Stage<'s, SharedWorld<N>, Seat<N>>,
     work: RoundWork,
-    shared: &'s SharedWorld<N>,
-    seats: Vec<Seat<N>>,
-    back: &'s Mutex<Vec<Seat<N>>>,
-    round: &'s Round,
 ) -> Result<(), Refusal> {
     may_be_shared::<N>();
-    start_all(scope, rt, alloc, work, shared, seats, back, round)
+    start_all(scope, rt, stage, work, stage.take_seats(rt))
 }
