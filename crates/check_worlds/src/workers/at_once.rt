@@ -159,15 +159,15 @@ fn are_alike_by<W: WholeWorld, S: StepWorker + PieceMap<WorldLook>>(
 }
 
 /// Whether each step by a crew that solves it by parts, however small it is, leaves what one thread leaves.
-fn are_steps_of<'s, E, W: WholeWorld, R: Threads + Wait + Sync, G: Gate + Sync>(
+fn are_steps_of<'s, E, W: WholeWorld, R: AllocGlobal + Threads + Wait + Sync, G: Gate + Sync>(
     scope: &Scope<'s, E>,
     rt: &'s R,
-    alloc: Global,
     gate: &'s G,
     workers: usize,
     worlds: &mut Worlds<W>,
     after: &[String],
 ) -> Result<bool, Refusal> {
+    let alloc = rt.alloc();
     let memory = PartMemory::for_all_steps(alloc);
     match StepCrew::start(scope, rt, alloc, gate, workers, memory) {
         Ok(mut crew) => {
@@ -179,16 +179,15 @@ fn are_steps_of<'s, E, W: WholeWorld, R: Threads + Wait + Sync, G: Gate + Sync>(
     }
 }
 
-fn are_alike_by_crew<W: WholeWorld, R: Threads + Wait + Sync, G: Gate + Sync>(
+fn are_alike_by_crew<W: WholeWorld, R: AllocGlobal + Threads + Wait + Sync, G: Gate + Sync>(
     rt: &R,
-    alloc: Global,
     gate: &G,
     worlds: &mut Worlds<W>,
     workers: usize,
     after: &[String],
 ) -> Result<bool, Refusal> {
     thread::scope(thread::scope_env(), rt, |scope| {
-        are_steps_of(scope, rt, alloc, gate, workers, worlds, after)
+        are_steps_of(scope, rt, gate, workers, worlds, after)
     })
 }
 
@@ -228,28 +227,26 @@ fn check_workers<R: AllocGlobal + Print + Threads + Wait + Sync, W: WholeWorld>(
 }
 
 /// Makes all steps of a wide pile by a crew of two workers that wait for each other and solve each by parts.
-fn check_meeting<R: Print + Threads + Wait + Sync, W: WholeWorld>(
+fn check_meeting<R: AllocGlobal + Print + Threads + Wait + Sync, W: WholeWorld>(
     rt: &R,
-    alloc: Global,
     worlds: &mut Worlds<W>,
     after: &[String],
 ) -> Result<(), Stop> {
     let meeting = Meeting::new();
-    let are_same = are_alike_by_crew(rt, alloc, &meeting, worlds, 2, after)?;
+    let are_same = are_alike_by_crew(rt, &meeting, worlds, 2, after)?;
     print_meeting(rt, "a wide pile", are_same, &meeting)
 }
 
 /// Makes some steps of a pile by crews that stay and solve each by parts. One has workers that wait for each other.
-fn check_crews<R: Print + Threads + Wait + Sync, W: WholeWorld>(
+fn check_crews<R: AllocGlobal + Print + Threads + Wait + Sync, W: WholeWorld>(
     rt: &R,
-    alloc: Global,
     worlds: &mut Worlds<W>,
     after: &[String],
 ) -> Result<(), Stop> {
-    let are_same = are_alike_by_crew(rt, alloc, &OpenGate, worlds, 3, after)?;
+    let are_same = are_alike_by_crew(rt, &OpenGate, worlds, 3, after)?;
     println!(rt; "a pile, a crew of 3 that solves it by parts, the same steps: {are_same}")?;
     let meeting = Meeting::new();
-    let are_same = are_alike_by_crew(rt, alloc, &meeting, worlds, 2, after)?;
+    let are_same = are_alike_by_crew(rt, &meeting, worlds, 2, after)?;
     print_meeting(rt, "a pile", are_same, &meeting)
 }
 
@@ -265,12 +262,12 @@ fn check_after<R: AllocGlobal + Print + Threads + Wait + Sync, W: WholeWorld>(
         Piles::One => {
             check_workers(rt, "a pile", worlds, after)?;
             let few = after.get(..FEW).unwrap_or(after);
-            check_crews(rt, rt.alloc(), worlds, few)
+            check_crews(rt, worlds, few)
         }
         Piles::Two => check_workers(rt, "two piles", worlds, after),
         Piles::Wide => {
             check_workers(rt, "a wide pile", worlds, after)?;
-            check_meeting(rt, rt.alloc(), worlds, after)
+            check_meeting(rt, worlds, after)
         }
     }
 }
