@@ -23,6 +23,6 @@ pub use making::{
 pub use piles::{CIRCLES, Piles};
 pub use stop::{Stop, end_without, word_of_untried};
 pub use texts::{CAUSES, text_of, write_events};
-pub use words::{print_outside, read_words, status_of};
+pub use words::run_parts;
 pub use world::{Answer, World, hit_in};
 pub use worlds::{Worlds, world_after};

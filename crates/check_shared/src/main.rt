@@ -18,7 +18,7 @@ mod tasks;
 mod texts;
 mod timing;
 
-use check_scenes::{Stop, print_outside, read_words, status_of};
+use check_scenes::{Stop, run_parts};
 use std::process::ExitCode;
 use std::rt::Env;
 use std::sync::Wait;
@@ -42,41 +42,8 @@ fn do_part<R: AllocGlobal + Print + Threads + Wait + Clock + Sync>(
     }
 }
 
-/// Makes the checks of all parts. There are no words for them.
-fn do_all<R: AllocGlobal + Print + Threads + Wait + Clock + Sync>(
-    rt: &R,
-    none: &[String],
-) -> Result<(), Stop> {
-    for part in PARTS {
-        println!(rt; "# {part}")?;
-        do_part(rt, part, none)?;
-    }
-    Ok(())
-}
-
-/// Does what the words ask for, of which the first is the program's name.
-fn do_words<R: AllocGlobal + Print + Threads + Wait + Clock + Sync>(
-    rt: &R,
-    words: &[String],
-) -> Result<(), Stop> {
-    match words {
-        [_name, part, rest @ ..] => do_part(rt, part.as_str(), rest),
-        [_name, rest @ ..] => do_all(rt, rest),
-        [] => do_all(rt, words),
-    }
-}
-
-fn do_read<R: AllocGlobal + Env + Print + Threads + Wait + Clock + Sync>(
-    rt: &R,
-) -> Result<(), Stop> {
-    match read_words(rt) {
-        Ok(words) => do_words(rt, words.as_slice()),
-        Err(_) => print_outside(rt),
-    }
-}
-
 fn start<R: AllocGlobal + Env + Print + Threads + Wait + Clock + Sync>(rt: &R) -> ExitCode {
-    status_of(rt, do_read(rt))
+    run_parts(rt, &PARTS, &|part, words| do_part(rt, part, words))
 }
 
 fn main(rt: HostRuntime) -> ExitCode {
