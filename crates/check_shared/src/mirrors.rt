@@ -10,6 +10,7 @@ mod refused;
 mod showing;
 mod timing;
 mod untold;
+mod work;
 
 use crate::calls::Shut;
 use crate::replay::left_in;
@@ -17,11 +18,12 @@ use crate::sharing::{Work, share_copy};
 use crate::tasks::{Task, do_task};
 use check_scenes::{Stop, World};
 use refused::Call;
-pub use showing::{MirrorWork, do_work};
+pub use showing::do_work;
 use std::alloc::Global;
 use std::sync::Wait;
 use std::thread::Threads;
 use std::time::Clock;
+pub use work::MirrorWork;
 use world_core::{Refusal, WorldCore};
 
 /// What is done with a mirror of a world.

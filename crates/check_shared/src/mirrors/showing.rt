@@ -7,8 +7,9 @@ use crate::mirrors::crowd::{Letters, race};
 use crate::mirrors::example::{publish_first, publish_second, push, read_on};
 use crate::mirrors::refused::{Call, try_call};
 use crate::mirrors::timing::{time_frames, time_poses, time_readers};
-use crate::mirrors::untold::{READERS, write_found};
-use crate::shared::{RoundWork, race as race_round};
+use crate::mirrors::untold::write_found;
+use crate::mirrors::work::MirrorWork;
+use crate::shared::race as race_round;
 use crate::stage::Stage;
 use check_scenes::World;
 use frame_mirror::{Absorb, Change, Mark, Mirrored, Publisher, Reader, Showing};
@@ -21,51 +22,6 @@ use std::thread::Threads;
 use std::time::Clock;
 use world_core::{Command, Refusal, Reply, WorldCore};
 use world_lock::{Opened, Seat, SharedWorld};
-
-/// How many readers look on threads of their own.
-const CROWD: usize = 4;
-
-/// What is done with a mirror.
-#[derive(Clone, Copy)]
-pub enum MirrorWork {
-    /// The worked example, with two readers.
-    Example,
-    /// Readers that are told nothing, while two frames are published.
-    Untold,
-    /// Readers on threads of their own.
-    Crowd,
-    /// One call, while memory may be refused to it.
-    Try(Call),
-    /// So many poses, and as many thousandths of publications, are timed.
-    Time(u64),
-    /// So many poses of each of these readers are timed, while frames are published.
-    TimeReaders(usize, u64),
-    /// The other seats work meanwhile, each on a thread of its own.
-    Round(RoundWork),
-}
-
-impl MirrorWork {
-    /// How many readers it has.
-    pub fn readers(self) -> usize {
-        match self {
-            MirrorWork::Example => 2,
-            MirrorWork::Untold => READERS,
-            MirrorWork::Crowd => CROWD,
-            MirrorWork::Try(_) => 1,
-            MirrorWork::Time(_) => 1,
-            MirrorWork::TimeReaders(readers, _) => readers,
-            MirrorWork::Round(work) => work.readers(),
-        }
-    }
-
-    /// Whether memory may be refused to the opening of the mirror.
-    pub fn tries_open(self) -> bool {
-        match self {
-            MirrorWork::Try(call) => call == Call::Open,
-            _ => false,
-        }
-    }
-}
 
 /// Tries to publish a second world, and drops it.
 fn publish_and_drop<
