@@ -1,5 +1,6 @@
 //! Hits of rays on shapes, by a model that was written apart from this code.
 
+ghost use Rattle.std.specs.Prelude.{IsTrue};
 ghost use Rattle.shapes.specs.Shapes.{IsShape};
 ghost use Rattle.shapes.specs.Poses.{IsPose};
 
@@ -193,7 +194,7 @@ const CASES: [Case; 24] = [
 ];
 
 fn is_shape(shape: &Shape) -> bool
-    ensures { Rattle.std.specs.Prelude.IsTrue result → IsShape shape.now }
+    ensures { IsTrue result → IsShape shape.now }
 {
     is_within(shape.first_end(), MAX_CORE)
         && is_within(shape.second_end(), MAX_CORE)
@@ -202,7 +203,7 @@ fn is_shape(shape: &Shape) -> bool
 }
 
 fn is_pose(pose: Pose) -> bool
-    ensures { Rattle.std.specs.Prelude.IsTrue result → IsPose pose }
+    ensures { IsTrue result → IsPose pose }
 {
     is_within(pose.x, MAX_POSITION as u64) && is_facing(pose.rot)
 }
