@@ -52,6 +52,8 @@ SAME = {
     "the gate's minutes": re.compile(r"\b(\d+) (?:minutes |by the clock )?on four processors"),
     "the milliseconds of a save": re.compile(r"some (\d+) milliseconds (?:of a processor for )?a megabyte"),
 }
+# A row of a tree of calls: names, with what they are given, and the file where they stand.
+CALLS = re.compile(r"^ {4,}([A-Za-z_:]+(?:\([^)]*\))?(?:, [A-Za-z_:]+)*) +([a-z_]+/src/[\w/]+\.rt)\b")
 # A row of BENCH.md's first table: the scene, and then nanoseconds, with a ratio after those of another program.
 STEPS = re.compile(r"^\| \w+, [\d,]+ \| ([\d,]+) \| ([\d,]+) \| ([\d.]+) \| ([\d,]+) \| ([\d.]+) \|", re.M)
 # CRATE/NAME is short for a file of one of these folders of a crate, without its ending.
@@ -199,6 +201,7 @@ class Check:
             for link in LINK.findall(CODE.sub("", line)) + TARGET.findall(line):
                 self.link(page, place, link)
             self.numbers(page, place, line)
+            self.calls(page, place, line)
         self.whole(page, page.read_text(encoding="utf-8"))
 
     def whole(self, page, text):
@@ -225,6 +228,17 @@ class Check:
         for name, column in (("Box2D", 2), ("Chipmunk", 4)):
             ratios = sorted((row[column] for row in rows), key=float)
             self.test(f"{ratios[0]} to {ratios[-1]} times as long as in {name}" in text, page, 1, f"another speed beside {name} than BENCH.md's")
+
+    def calls(self, page, place, line):
+        """Whether the names of a row of a tree of calls stand in the row's file."""
+        row = CALLS.match(line)
+        file = row and TOP / "crates" / row.group(2)
+        if not row or not file.is_file():
+            return
+        text = file.read_text(encoding="utf-8")
+        for name in re.sub(r"\([^)]*\)", "", row.group(1)).split(", "):
+            item = re.compile(rf"\b(?:fn|struct|enum|trait|type|const) {name.split('::')[-1]}\b")
+            self.test(item.search(text), page, place, f"{name} doesn't stand in {row.group(2)}")
 
     def code(self, page, place, code):
         for word in code.replace("<", " ").replace(">", " ").split():
