@@ -302,12 +302,14 @@ def import_fault(tree, user, crate, where, name):
     full = ".".join(where)
     if where[0] == "specs" and where[1:2] == ["declared"]:
         return declared_fault(tree, user, crate, where[2:], name)
+    if where[0] == "specs" and where[1:2] == ["contracts"] and len(where) > 2:
+        return row_fault(tree, crate, where[2:])
     if where[0] == "proofs" and where[-1] in ("Goals", "Given") and len(where) > 2:
         return function_fault(tree, crate, where[1:-1])
     place = (crate, where[0], ".".join(where[1:]))
     if place not in tree.antt:
         # what the toolchain makes lies at such places, too
-        return None if where[1:2] == ["contracts"] or len(where) > 2 else f"there is no {crate}.{full}"
+        return None if len(where) > 2 else f"there is no {crate}.{full}"
     if name is None or name in tree.antt[place].names:
         return None
     return f"{crate}.{full} has no {name}"
@@ -330,6 +332,19 @@ def declared_fault(tree, user, crate, where, name):
             fault = f"{crate}::{rest[0]} has no {name}"
         return fault
     return None if rest[0].startswith("The") else f"{join(crate, module.name)} has no {rest[0]}"
+
+
+def row_fault(tree, crate, where):
+    """The same of how the toolchain lays out a type, or what an impl is: MODULE.TYPE, or MODULE.TYPETRAIT.TheImpl."""
+    at = 0
+    while at < len(where) and (crate, "::".join(where[: at + 1])) in tree.rust:
+        at += 1
+    module, rest = tree.rust.get((crate, "::".join(where[:at]))), where[at:]
+    if not rest or (at == 0 and rest[0][0].islower()):
+        return f"{crate} has no module {'.'.join(where)}"
+    if rest[0] in module.items or rest[0].startswith("The") or rest[1:2] == ["TheImpl"]:
+        return None
+    return f"{join(crate, module.name)} has no {rest[0]}"
 
 
 def visible_fault(module, name, user):
