@@ -99,12 +99,9 @@ impl PartMemory {
         true
     }
 
-    /// Whether a step is to be looked at: there are workers and work enough, and no rest is to be taken.
-    fn is_due(&mut self, work: usize, parts: usize) -> bool {
-        if self.all_steps {
-            return true;
-        }
-        parts as u64 >= LEAST_PARTS && work >= LEAST_WORK && !self.take_rest()
+    /// Whether a step is to be looked at: there are workers enough, and no rest is to be taken.
+    fn is_due(&mut self, parts: usize) -> bool {
+        self.all_steps || (parts as u64 >= LEAST_PARTS && !self.take_rest())
     }
 
     /// Rests for a time, the longer the oftener that happens.
@@ -126,8 +123,8 @@ impl PartMemory {
         }
     }
 
-    /// Whether the step is worth so many workers: it is work enough, and few of its constraints wait for bodies of other
-    /// parts. They are listed then, and it is answered for how many bodies each ring needs room.
+    /// Whether the step is worth so many workers: it is work enough, and few of its constraints wait for bodies of
+    /// other parts. They are listed then, and it is answered for how many bodies each ring needs room.
     pub(crate) fn is_worth(
         &mut self,
         states: &[BodyState],
@@ -142,11 +139,11 @@ impl PartMemory {
         ensures stages { IfSome result (λ room. AreStages constraints.now.joints.joints self.new.lists.stages.items) }
     {
         self.was_worth = self.all_steps;
-        if parts < 2 || parts > MOST_PARTS {
+        if parts < 2 || parts > MOST_PARTS || !self.is_due(parts) {
             return None;
         }
         let work = guess_work(colours, constraints.contacts.split(), awake.len());
-        if !self.is_due(work, parts) {
+        if work < LEAST_WORK && !self.all_steps {
             return None;
         }
         let joints = constraints.joints.joints();
