@@ -10,8 +10,9 @@
 //! the order of a Morton code of the box's corner, so that one way down finds the leaf of a known rank. The tree is
 //! balanced as Adelson-Velsky and Landis do it. A table gives the rank by key, with which `remove` and `replace` cost
 //! by the logarithm. A box that moves a short way keeps its rank: its leaf stays where it is, and the boxes above it
-//! follow. Its loose box then reaches further on the side towards which it moves than on the others, so that a walk meets
-//! few boxes that it needn't. A ray that meets a leaf's loose box asks the key's own box before it looks for its hit.
+//! follow. Its loose box then reaches further on the side towards which it moves than on the others, so that a walk
+//! meets few boxes that it needn't. A ray that meets a leaf's loose box asks the key's own box before it looks for its
+//! hit.
 #![tactic(auto)]
 
 mod boxes;

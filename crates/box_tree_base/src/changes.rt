@@ -51,8 +51,8 @@ impl Tree {
         }
     }
 
-    /// Puts a leaf in the stead of one that is there and has its rank. The boxes of the forks above it are made anew, as
-    /// far up as the box round both leaves, the span, comes to a side of them.
+    /// Puts a leaf in the stead of one that is there and has its rank. The boxes of the forks above it are made anew,
+    /// as far up as the box round both leaves, the span, comes to a side of them.
     pub fn refit(&mut self, old: &Leaf, new: &Leaf, span: &Box2)
         requires there { IsIn old.now self.old.leaves }
         requires rank { new.now.rank ≡ old.now.rank }

@@ -41,8 +41,8 @@ use std::marker::Model;
 /// the numbers once what is pending is carried out (`bound`).
 ///
 /// They are kept as a long list and a short one: where a contact is made or ends the long list stands, and the places
-/// in it hold. The two are made one when the collides since the last time have looked at as many contacts beside the long
-/// list as it has, so that this costs no more than was spent before it.
+/// in it hold. The two are made one when the collides since the last time have looked at as many contacts beside the
+/// long list as it has, so that this costs no more than was spent before it.
 #[derive(Drop)]
 pub struct ContactTable {
     contacts: SplitContacts,

@@ -38,7 +38,8 @@ pub(crate) trait RangePiece: Piece + Sized {
         ensures added { OnOk result ((answers : List Self.Out) → all.old ≡ joined answers → all.new ≡ joined (answers ++ answer.now ∷ [])) }
         ensures memory_only { IsOkUnless result Refusal.NoMemory };
 
-    /// The answers of pieces, as one, are the answer at their items. The function does nothing; its contract is the law.
+    /// The answers of pieces, as one, are the answer at their items. The function does nothing; its contract is the
+    /// law.
     fn know_joined()
         ensures { (lent : Self.Lent) (pieces : List Self) → joined (map (Self.worked lent) pieces) ≡ answer_at lent (items_of range (items lent) pieces) };
 }

@@ -218,8 +218,8 @@ pub fn solve_line_64(
     }
 }
 
-/// Two accumulated impulses given once more along their lines, which go through the same points, one after the other, to
-/// the two bodies with the momenta `now`: `None` where something is too large for 64 bits.
+/// Two accumulated impulses given once more along their lines, which go through the same points, one after the other,
+/// to the two bodies with the momenta `now`: `None` where something is too large for 64 bits.
 #[inline(always)]
 pub fn warm_at_once_64(
     first: LineImpulse,

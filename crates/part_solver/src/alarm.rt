@@ -60,7 +60,8 @@ impl Alarm {
         self.asleep.store(0, Ordering::SeqCst);
     }
 
-    /// Waits a moment after a look in vain. After many of them it sleeps, unless the alarm has rung since the look began.
+    /// Waits a moment after a look in vain. After many of them it sleeps, unless the alarm has rung since the look
+    /// began.
     pub(crate) fn wait<R: Wait>(&self, rt: &R, waited: Waited) -> Waited {
         let looks = waited.looks.saturating_add(1);
         if waited.looks < LOOKS {

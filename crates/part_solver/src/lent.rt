@@ -21,8 +21,8 @@ pub(crate) struct Lent {
     pub(crate) stages: Vec<Stage>,
 }
 
-/// What the rows of a stage are gathered from: the constraints of the stage, their slots, and the joints and contacts of
-/// the world.
+/// What the rows of a stage are gathered from: the constraints of the stage, their slots, and the joints and contacts
+/// of the world.
 #[derive(Clone, Copy)]
 pub(crate) struct Sources<'a> {
     pub(crate) members: &'a [Member<Constraint>],

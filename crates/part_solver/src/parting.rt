@@ -41,8 +41,8 @@ fn count_rows(stages: &[Stage]) -> Option<usize>
     Some(count)
 }
 
-/// Runs the ticks of a step by parts. Answers as `run_step` does, or nothing, and then nothing is changed: where memory is
-/// wanting, or where the sums are too large.
+/// Runs the ticks of a step by parts. Answers as `run_step` does, or nothing, and then nothing is changed: where memory
+/// is wanting, or where the sums are too large.
 pub(crate) fn solve_by_parts<R: Wait, M: SeatMap>(
     team: Team<'_, R, M>,
     memory: &mut PartMemory,

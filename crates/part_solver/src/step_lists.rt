@@ -10,8 +10,8 @@ use momenta::BodyState;
 use std::marker::Model;
 use std::snapshot::Snapshot;
 
-/// The bodies of a step, with the home of each slot, and, for contracts alone, what its rows are gathered from. Contracts
-/// see all that its run hangs on.
+/// The bodies of a step, with the home of each slot, and, for contracts alone, what its rows are gathered from.
+/// Contracts see all that its run hangs on.
 #[derive(Drop)]
 pub(crate) struct StepLists {
     pub(crate) states: Vec<BodyState>,

@@ -288,7 +288,8 @@ fn walk_way_home(homes: Homes, awake: &[u32], lists: &mut Lists)
     end_stage(&mut lists.ends, &lists.moves);
 }
 
-/// Walks over all stages of a pass: the colours, the rows that have none, and the way home. Gathers the part's own rows.
+/// Walks over all stages of a pass: the colours, the rows that have none, and the way home. Gathers the part's own
+/// rows.
 pub(crate) fn walk(step: &StepLists, lent: &Lent, number: u32, lists: &mut Lists)
     requires seen { HasSeen step.now number lists.old }
     requires has { HasSources step.now lent.now }

@@ -45,9 +45,9 @@ pub(crate) fn reserve_rows(
     gathered.reserve(count, COLOURS + 1)
 }
 
-/// Lets the solver run so many ticks over what acts, by colour, which gives joints and contacts the impulses that they have left.
-/// Answers what was added to the movers' momentum, by cause. No two constraints of a colour share a mover. Takes no
-/// memory.
+/// Lets the solver run so many ticks over what acts, by colour, which gives joints and contacts the impulses that they
+/// have left. Answers what was added to the movers' momentum, by cause. No two constraints of a colour share a mover.
+/// Takes no memory.
 pub(crate) fn solve<S: StepSolver>(
     solver: &mut S,
     bodies: &mut BodyTable,

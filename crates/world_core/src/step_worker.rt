@@ -14,8 +14,8 @@ use world_core_base::{
 pub type WorldLook = SurveyPiece<BodyShapes, JointTable>;
 
 /// Runs the ticks of a step, and works the near pairs of its collide in pieces. Who makes a step also works a
-/// [`WorldLook`]; that is a bound of its own wherever this one stands, since the kit states no impl of a trait that asks
-/// for it. [`OneThread`] here and the crew of a step in `world_workers` are both.
+/// [`WorldLook`]; that is a bound of its own wherever this one stands, since the kit states no impl of a trait that
+/// asks for it. [`OneThread`] here and the crew of a step in `world_workers` are both.
 pub trait StepWorker: StepSolver + PieceMap<PairPiece> {}
 
 /// The calling thread alone, which needs nothing.

@@ -1,5 +1,5 @@
-//! The constraints of a world as its islands ask for them: a sleeping island's from its sets, and a mover's from the ends
-//! and the contacts at it.
+//! The constraints of a world as its islands ask for them: a sleeping island's from its sets, and a mover's from the
+//! ends and the contacts at it.
 
 ghost use Rattle.std.specs.Prelude.{◌≡◌, ◌+◌, ◌++◌, ◌≤◌, length, slice_get, vec_capacity};
 ghost use Rattle.std.specs.List.{filter_map};

@@ -187,8 +187,8 @@ fn add_row(
     }
 }
 
-/// Gathers constraints of one colour, ascending, for which there is room, and the places of the contacts among them; the
-/// colour has no rows yet.
+/// Gathers constraints of one colour, ascending, for which there is room, and the places of the contacts among them;
+/// the colour has no rows yet.
 pub fn gather_colour(
     rows: &mut Rows,
     places: &mut Vec<usize>,

@@ -3,9 +3,9 @@
 //! The bodies of a world by slot with what a step goes over (`BodyTable`: their states, and the slots of the awake
 //! movers and of the bodies that are carried along), and what a step gathers of joints and contacts (`gather_rows`).
 //!
-//! Where a body, a joint or a contact stands is told by the bodies themselves. What is kept beside them are the sleeping
-//! sets of the joints and of the contacts ([`SleepingSets`]; `joints_asleep.rt`, `contacts_asleep.rt`), since an island
-//! that wakes asks for its constraints.
+//! Where a body, a joint or a contact stands is told by the bodies themselves. What is kept beside them are the
+//! sleeping sets of the joints and of the contacts ([`SleepingSets`]; `joints_asleep.rt`, `contacts_asleep.rt`), since
+//! an island that wakes asks for its constraints.
 //!
 //! The joints of a world by slot stand in [`JointTable`], with what a world asks of them at hand: beside them the ends
 //! of joints by body, so that what asks for the joints of one body costs by those alone. Whether joints keep two bodies

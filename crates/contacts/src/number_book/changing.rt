@@ -107,8 +107,8 @@ impl NumberBook {
     }
 
     /// The contact with a key, if there is one, touches or doesn't. Answers a guess at the number of the contact with
-    /// the next lower key: those of a body that were made together are one behind the other in its thread, the highest key
-    /// first.
+    /// the next lower key: those of a body that were made together are one behind the other in its thread, the highest
+    /// key first.
     fn set_touching(&mut self, guess: Option<u32>, key: ContactKey, touching: bool) -> Option<u32>
         requires { IsBook self.old }
         ensures touched { HaveTouched (key ∷ []) touching self.old.contacts.items self.new.contacts.items }

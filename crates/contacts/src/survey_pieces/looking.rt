@@ -123,8 +123,8 @@ fn look_in_pieces<S: ShapesById + Drop, F: ForbiddenPairs + Drop, M: PieceMap<Su
     Ok(())
 }
 
-/// Looks over the contacts at the places, and keeps in `memory` what becomes of them: in pieces where there are workers,
-/// and many places for each.
+/// Looks over the contacts at the places, and keeps in `memory` what becomes of them: in pieces where there are
+/// workers, and many places for each.
 pub(crate) fn look_over_by<
     S: ShapesById + Drop,
     F: ForbiddenPairs + Drop,
