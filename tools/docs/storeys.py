@@ -29,19 +29,19 @@ def storeys_of_table(lines):
     table = []
     for storey, crates in (found.groups() for found in map(ROW.match, lines) if found):
         if storey.strip():
-            table.append((storey.strip(), set()))
-        table[-1][1].update(re.findall(r"\w+", crates))
+            table.append((storey.strip(), []))
+        table[-1][1].extend(re.findall(r"\w+", crates))
     return table[::-1]
 
 
 def differences(storeys, table):
     """What is wrong with the table."""
-    named = [(name, set(crates)) for name, crates in storeys]
-    if [name for name, _ in table] != [name for name, _ in named]:
+    if [name for name, _ in table] != [name for name, _ in storeys]:
         yield f"ARCHITECTURE.md: the storeys of its table are {', '.join(name for name, _ in table)}"
-    for name, crates in named:
-        for crate in crates - dict(table).get(name, set()):
-            yield f"ARCHITECTURE.md: its table doesn't have {crate} in the storey '{name}'"
+    for name, crates in storeys:
+        listed = dict(table).get(name, [])
+        if sorted(listed) != sorted(crates):
+            yield f"ARCHITECTURE.md: in the storey '{name}' its table has {', '.join(sorted(listed))}"
 
 
 def main(arguments):
