@@ -16,8 +16,10 @@ pub(crate) enum Kind {
     Pairs,
     /// A list of two texts.
     Texts,
-    /// An object or a list of objects, which the form reads itself.
-    Parts,
+    /// An object with these keys.
+    Object(&'static [Key]),
+    /// A list of such objects.
+    Objects(&'static [Key]),
 }
 
 /// A key, what its value has to be, whether each object of the form has it, and texts of JSON that would do as its
@@ -29,19 +31,19 @@ const ALL: bool = true;
 const SOME: bool = false;
 
 pub(crate) const WORLD: &[Key] = &[
-    ("bodies", Kind::Parts, ALL, &[]),
+    ("bodies", Kind::Objects(BODY_SLOT), ALL, &[]),
     ("call", Kind::Number, ALL, &[]),
-    ("contacts", Kind::Parts, ALL, &[]),
+    ("contacts", Kind::Objects(CONTACT), ALL, &[]),
     ("gravity", Kind::Pair, ALL, &[]),
-    ("joints", Kind::Parts, ALL, &[]),
-    ("ledger", Kind::Parts, ALL, &[]),
+    ("joints", Kind::Objects(JOINT_SLOT), ALL, &[]),
+    ("ledger", Kind::Object(LEDGER), ALL, &[]),
     ("step", Kind::Number, ALL, &[]),
     ("version", Kind::Number, ALL, &[]),
 ];
 
 /// Of a slot of bodies, free or not.
 pub(crate) const BODY_SLOT: &[Key] = &[
-    ("body", Kind::Parts, SOME, &[]),
+    ("body", Kind::Object(BODY), SOME, &[]),
     ("generation", Kind::Number, ALL, &["1"]),
 ];
 
@@ -57,7 +59,7 @@ pub(crate) const BODY: &[Key] = &[
     ("loose", Kind::Truth, ALL, &["false"]),
     ("mass", Kind::Number, ALL, &["1", "0"]),
     ("p", Kind::Pair, ALL, &["[0,0]"]),
-    ("shapes", Kind::Parts, ALL, &[]),
+    ("shapes", Kind::Objects(SHAPE), ALL, &[]),
     ("spin", Kind::Number, SOME, &["0"]),
     ("timer", Kind::Number, ALL, &["0"]),
     ("velocity", Kind::Pair, SOME, &["[0,0]"]),
@@ -72,7 +74,7 @@ pub(crate) const BODY: &[Key] = &[
 /// The list of all shapes of a body, which is tried behind each of them.
 pub(crate) const SHAPES: &[Key] = &[(
     "shapes",
-    Kind::Parts,
+    Kind::Objects(SHAPE),
     ALL,
     &[
         "[{\"category\":1,\"circle\":[0,0],\"fat\":[[-137438953472,-137438953472],[137438953472,137438953472]],\"friction\":0,\"group\":0,\"mask\":1,\"radius\":65536,\"restitution\":0}]",
@@ -101,7 +103,7 @@ pub(crate) const SHAPE: &[Key] = &[
 /// Of a slot of joints, free or not.
 pub(crate) const JOINT_SLOT: &[Key] = &[
     ("generation", Kind::Number, ALL, &["1"]),
-    ("joint", Kind::Parts, SOME, &[]),
+    ("joint", Kind::Object(JOINT), SOME, &[]),
 ];
 
 pub(crate) const JOINT: &[Key] = &[
@@ -120,7 +122,7 @@ pub(crate) const CONTACT: &[Key] = &[
     ("b", Kind::Pair, ALL, &["[1,0]"]),
     ("colour", Kind::NumberOrNull, ALL, &["null"]),
     ("touching", Kind::Truth, ALL, &["false", "true"]),
-    ("points", Kind::Parts, ALL, &["[]"]),
+    ("points", Kind::Objects(POINT), ALL, &["[]"]),
 ];
 
 pub(crate) const POINT: &[Key] = &[

@@ -1,36 +1,25 @@
-//! The tokens of a text, asked for what a saved world has. Each value is read to its end, whatever it is.
+//! Whether a text may be a saved world, told by its tokens before a value is made of it.
+//!
+//! A value of JSON takes many times its text: an object of one key some hundred times. So what isn't a saved world at
+//! the first look is found here, and nothing of the text is kept. Each value is read to its end, whatever it is.
 
-use crate::saved_keys::{Key, Kind};
+use crate::saved_keys::{Key, Kind, WORLD};
 use crate::saved_object::{Seen, field_of, needed_of};
-use json::{Reader, Token};
+use json::{Reader, Scratch, Token};
+use std::alloc::AllocError;
 
-/// An object of a saved world.
-pub(crate) trait Form {
-    /// The keys that an object of the form may have.
-    fn keys() -> &'static [Key];
-
-    /// Reads the value of a key that is an object or a list of objects. Answers whether it may be one.
-    fn read_parts(_scan: &mut Scan<'_>, _key: &str) -> bool {
-        false
-    }
-}
+/// How deep objects nest in a saved world: a shape is in a body, which is in a slot of the world.
+const MOST_NESTED: u32 = 4;
 
 /// The tokens of a text that are still to come.
 #[derive(Drop)]
-pub(crate) struct Scan<'a> {
+struct Scan<'a> {
     reader: Reader<'a>,
     /// Whether a token was asked for and none was there.
     has_ended: bool,
 }
 
 impl<'a> Scan<'a> {
-    pub(crate) fn new(reader: Reader<'a>) -> Scan<'a> {
-        Scan {
-            reader,
-            has_ended: false,
-        }
-    }
-
     /// The next token; a bad one where none is left.
     fn next(&mut self) -> Token<'a> {
         match self.reader.next() {
@@ -138,7 +127,8 @@ impl<'a> Scan<'a> {
     }
 
     /// Reads the value of a key. Answers whether it is what it has to be.
-    fn read_field<F: Form>(&mut self, kind: Kind, key: &str) -> bool {
+    #[cycle(objects)]
+    fn read_field(&mut self, kind: Kind, nested: u32) -> bool {
         match kind {
             Kind::Number => self.read_one(false),
             Kind::NumberOrNull => self.read_number_or_null(),
@@ -147,15 +137,17 @@ impl<'a> Scan<'a> {
             Kind::Pair => self.read_two(false),
             Kind::Pairs => self.read_pairs(),
             Kind::Texts => self.read_two(true),
-            Kind::Parts => F::read_parts(self, key),
+            Kind::Object(keys) => self.read_object(keys, nested),
+            Kind::Objects(keys) => self.read_objects(keys, nested),
         }
     }
 
     /// Reads a key's value into what was seen of an object.
-    fn read_key<F: Form>(&mut self, seen: Seen, key: &str) -> Seen {
-        match field_of(F::keys(), seen.next(), key) {
+    #[cycle(objects)]
+    fn read_key(&mut self, keys: &'static [Key], nested: u32, seen: Seen, key: &str) -> Seen {
+        match field_of(keys, seen.next(), key) {
             Some(field) => {
-                let good = self.read_field::<F>(field.kind, key);
+                let good = self.read_field(field.kind, nested);
                 seen.with(field.place, good)
             }
             None => {
@@ -165,13 +157,14 @@ impl<'a> Scan<'a> {
         }
     }
 
-    /// Reads what is left of an object. Answers whether it may be of this form, whose needed keys are these.
-    fn read_keys<F: Form>(&mut self, needed: u32) -> bool {
+    /// Reads what is left of an object. Answers whether it may be one with these keys.
+    #[cycle(objects)]
+    fn read_keys(&mut self, keys: &'static [Key], nested: u32) -> bool {
         let mut seen = Seen::nothing();
         for _ in 0..u64::MAX {
             match self.reader.next_key() {
-                Ok(Some(key)) => seen = self.read_key::<F>(seen, key),
-                Ok(None) => return seen.may_be(needed),
+                Ok(Some(key)) => seen = self.read_key(keys, nested, seen, key),
+                Ok(None) => return seen.may_be(needed_of(keys)),
                 Err(_) => {
                     self.has_ended = true;
                     return false;
@@ -181,23 +174,24 @@ impl<'a> Scan<'a> {
         false
     }
 
-    /// Reads a value. Answers whether it may be an object of this form.
-    pub(crate) fn read_object<F: Form>(&mut self) -> bool {
-        self.opens(false) && self.read_keys::<F>(needed_of(F::keys()))
+    /// Reads a value. Answers whether it may be an object with these keys, in which objects nest so deep.
+    #[cycle(objects)]
+    fn read_object(&mut self, keys: &'static [Key], nested: u32) -> bool {
+        nested > 0 && self.opens(false) && self.read_keys(keys, nested - 1)
     }
 
-    /// Reads a value. Answers whether it may be a list of objects of this form.
-    pub(crate) fn read_list<F: Form>(&mut self) -> bool {
+    /// Reads a value. Answers whether it may be a list of objects with these keys.
+    #[cycle(objects)]
+    fn read_objects(&mut self, keys: &'static [Key], nested: u32) -> bool {
         if !self.opens(true) {
             return false;
         }
-        let needed = needed_of(F::keys());
         let mut good = true;
         for _item in 0..u64::MAX {
             if self.reader.take_end_array() {
                 return good;
             }
-            if !(self.opens(false) && self.read_keys::<F>(needed)) {
+            if !self.read_object(keys, nested) {
                 good = false;
             }
             if self.has_ended {
@@ -206,4 +200,14 @@ impl<'a> Scan<'a> {
         }
         false
     }
+}
+
+/// Whether a text of JSON may be a saved world. Where it can't be one, it breaks the first clause. Where it may, all
+/// clauses are still to be asked. The scratch grows to the text's length, and nothing else of the text is kept.
+pub fn may_be_world(text: &str, scratch: &mut Scratch) -> Result<bool, AllocError> {
+    let mut scan = Scan {
+        reader: Reader::new(text, scratch)?,
+        has_ended: false,
+    };
+    Ok(scan.read_object(WORLD, MOST_NESTED))
 }
