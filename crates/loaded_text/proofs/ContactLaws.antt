@@ -8,9 +8,9 @@ use Rattle.serde_json.specs.Data.{Data, boolean, depth, object}
 use Rattle.serde_json.specs.View.{items_of}
 use Rattle.serde_json.specs.Written.{comma_if}
 use Rattle.world_file_base.specs.Asks.{no_asks}
-use Rattle.world_file_base.specs.SavedContacts.{contact_in, contacts_in, no_points, point_in, shape_id_of, with_point, point_data}
+use Rattle.world_file_base.specs.SavedContacts.{contact_in, contact_members, contacts_in, no_points, point_in, point_members, shape_id_of, with_point, point_data}
 use Rattle.world_file_base.specs.AskedContacts.{contact_asks, contacts_asks, point_asks}
-use Rattle.world_file_base.specs.Written.{Member, integer, list_data, natural, natural_or_null, vector_of}
+use Rattle.world_file_base.specs.Written.{integer, list_data, natural, natural_or_null, vector_of}
 use Rattle.world_file_base.specs.declared.reader.Reader.{Reader}
 use Rattle.world_file_base.specs.declared.saved.SavedContact.{SavedContact}
 use Rattle.world_file_base.specs.declared.version.Version.TheVariants.{Second}
@@ -20,21 +20,10 @@ use Rattle.loaded_text.specs.declared.points.Points.{Points}
 use Rattle.loaded_text.proofs.ShapeLaws.{at_most}
 use Rattle.loaded_text.proofs.Joined.{item_more, list_stands, member_then, no_item, no_member, object_stands}
 use Rattle.loaded_text.proofs.Lists.{ItemsSoFar, added_more, asked_more, list_ends, list_shallow, none_so_far, one_more}
-use Rattle.world_file.proofs.BackParts.{IsContactHeld, contact_members, contact_read, point_back}
+use Rattle.world_file.proofs.BackParts.{IsContactHeld, contact_read, point_back}
 use Rattle.world_file.proofs.ReadPoints.{IsPoint}
 
 -- ---- a point
-
-abbrev point_members : ContactPoint → List Member
-point_members p =
-    (codes "candidate", natural p.candidate)
-    ∷ (codes "normal", vector_of p.normal)
-    ∷ (codes "push", integer p.normal_impulse)
-    ∷ (codes "ra", vector_of p.ra)
-    ∷ (codes "rb", vector_of p.rb)
-    ∷ (codes "sep", integer p.separation)
-    ∷ (codes "slip", integer p.tangent_impulse)
-    ∷ []
 
 pub is_packable : (p : ContactPoint) → IsPoint p → IsPackable p
 is_packable p h = record { normal = h.point.normal; separation = h.point.separation; ra = h.point.ra; rb = h.point.rb; candidate = h.candidate }

@@ -10,7 +10,7 @@ use Rattle.serde_json.specs.Events.{items_len}
 use Rattle.serde_json.specs.View.{items_of}
 use Rattle.serde_json.specs.Written.{comma_if}
 use Rattle.world_file_base.specs.Asks.{no_asks}
-use Rattle.world_file_base.specs.SavedJoints.{joint_in}
+use Rattle.world_file_base.specs.SavedJoints.{joint_in, joint_members}
 use Rattle.world_file_base.specs.SavedSlots.{joint_key, joints_in, slot_entry_in, slot_entries_in, slot_joint}
 use Rattle.world_file_base.specs.AskedSlots.{joint_slot_asks, joints_asks, joint_asks}
 use Rattle.world_file_base.specs.Written.{Member, id_of, integer, natural, natural_or_null, vector_of}
@@ -25,7 +25,7 @@ use Rattle.loaded_text.proofs.ShapeLaws.{at_most}
 use Rattle.loaded_text.proofs.Joined.{member_then, no_member, object_stands}
 use Rattle.loaded_text.proofs.Lists.{ItemsSoFar, added_more, asked_more, items_count, list_ends, list_shallow, none_so_far, one_more}
 use Rattle.loaded_text.proofs.SlotLaws.{free_members, free_stands, entry_read}
-use Rattle.world_file.proofs.BackParts.{IsJointHeld, joint_by, joint_members, joint_read}
+use Rattle.world_file.proofs.BackParts.{IsJointHeld, joint_by, joint_read}
 
 -- ---- a joint
 

@@ -23,7 +23,7 @@ use Rattle.world_file_base.specs.SavedContacts.{contacts_in}
 use Rattle.world_file_base.specs.AskedContacts.{contacts_asks}
 use Rattle.world_file_base.specs.SavedSlots.{bodies_in, body_key, joint_key, joints_in, memberships_in, slot_entries_in}
 use Rattle.world_file_base.specs.AskedSlots.{bodies_asks, joints_asks, slots_asks}
-use Rattle.world_file_base.specs.SavedTotals.{total_data, totals_data}
+use Rattle.world_file_base.specs.SavedTotals.{total_data, totals_data, totals_members}
 use Rattle.world_file_base.specs.Versions.{most_slots}
 use Rattle.world_file_base.specs.Written.{Member, list_data, natural, vector_of}
 use Rattle.world_file_base.specs.declared.clause.Broken.{Broken}
@@ -80,10 +80,7 @@ pub totals_stand : (lead : List ℕ) (t : Totals) (a b c d e f g h i k : List �
     → i ≡ 125 ∷ k
     → Stands lead (totals_data t) a k
 totals_stand lead t a b c d e f g h i k before begun one two three four five six close =
-    let members : List Member =
-    (codes "clamp", total_data t.clamp) ∷ (codes "command", total_data t.command) ∷ (codes "departed", total_data t.departed)
-    ∷ (codes "gravity", total_data t.gravity) ∷ (codes "immovable", total_data t.immovable) ∷ (codes "rest", total_data t.rest) ∷ [] in
-    object_stands lead members a b c i k before begun
+    object_stands lead (totals_members t) a b c i k before begun
     (member_then false _ (codes "clamp") (total_data t.clamp) _ c d i refl one
     (member_then true _ (codes "command") (total_data t.command) _ d e i refl two
     (member_then true _ (codes "departed") (total_data t.departed) _ e f i refl three

@@ -1,6 +1,5 @@
 -- The members of each object in the order in which they are written.
 use Rattle.std.proofs.Common.{◌≡◌, ℕ, ℤ, Bool, ◌++◌, ◌∷◌, List, [], Option, Some, None, codes, refl}
-use Rattle.serde_json.specs.Data.{boolean, string}
 use Rattle.body_handles.specs.declared.slot_table.SlotEntry.{SlotEntry}
 use Rattle.contacts_base.specs.declared.contact.ContactEntry.{ContactEntry}
 use Rattle.contacts_base.specs.declared.contact.ContactPoint.{ContactPoint}
@@ -15,12 +14,12 @@ use Rattle.plain_world.specs.declared.joint.BodyJoint.{BodyJoint}
 use Rattle.plain_world.specs.declared.kind.Kind.{Kind}
 use Rattle.plain_world.specs.declared.kind.Kind.TheVariants.{Static, Kinematic, Dynamic}
 use Rattle.world_file_base.specs.SavedBodies.{body_data, put_numbers}
-use Rattle.world_file_base.specs.SavedContacts.{contact_data, contacts_data, point_data, points_of, shape_id_of}
-use Rattle.world_file_base.specs.SavedJoints.{id_at, joint_data}
+use Rattle.world_file_base.specs.SavedContacts.{contact_data, contact_members, contacts_data, each_point, point_data, point_members}
+use Rattle.world_file_base.specs.SavedJoints.{handle_at, joint_data, joint_members}
 use Rattle.world_file_base.specs.SavedShapes.{shape_of, shapes_of}
 use Rattle.world_file_base.specs.SavedSlots.{bodies_data, body_slot_of, joint_slot_of, joints_data, slot_of}
-use Rattle.world_file_base.specs.SavedTotals.{total_data, totals_data}
-use Rattle.world_file_base.specs.Written.{corners_of, ends_of, integer, list_data, natural, natural_or_null, vector_of}
+use Rattle.world_file_base.specs.SavedTotals.{totals_data, totals_members}
+use Rattle.world_file_base.specs.Written.{corners_of, ends_of, integer, list_data, natural, vector_of}
 use Rattle.shapes.specs.declared.shape.Shape.TheVariants.{Circle, Capsule, Segment}
 use Rattle.shapes.specs.declared.shape.ShapeDef.{ShapeDef}
 use Rattle.world_file.specs.Files.{contact_colours, joint_colours, value_of, written_version}
@@ -90,56 +89,26 @@ body_slot_object slot_entry b label = record { is = refl; ascends = refl }
 
 -- ---- contacts
 
-pub point_object : (p : ContactPoint) → IsObject (
-    (codes "candidate", natural p.candidate)
-    ∷ (codes "normal", vector_of p.normal)
-    ∷ (codes "push", integer p.normal_impulse)
-    ∷ (codes "ra", vector_of p.ra)
-    ∷ (codes "rb", vector_of p.rb)
-    ∷ (codes "sep", integer p.separation)
-    ∷ (codes "slip", integer p.tangent_impulse)
-    ∷ []) (point_data p)
+pub point_object : (p : ContactPoint) → IsObject (point_members p) (point_data p)
 unfolding point_data
 point_object p = record { is = refl; ascends = refl }
 
-pub contact_object : (e : ContactEntry) (colour : Option ℕ) (touching : Bool) → touching ≡ touches e.contact → IsObject (
-    (codes "a", shape_id_of e.key.first)
-    ∷ (codes "b", shape_id_of e.key.second)
-    ∷ (codes "colour", natural_or_null colour)
-    ∷ (codes "points", points_of e.contact)
-    ∷ (codes "touching", boolean touching)
-    ∷ []) (contact_data e colour)
+pub contact_object : (e : ContactEntry) (colour : Option ℕ) (touching : Bool) → touching ≡ touches e.contact → IsObject (contact_members e.key.first e.key.second colour (each_point e.contact) touching) (contact_data e colour)
 unfolding contact_data
 contact_object e colour touching is = rw is (record { is = refl; ascends = refl })
 
 -- ---- joints
 
-pub joint_object : (slot_entries : List SlotEntry) (j : BodyJoint) (colour : Option ℕ) (a b : List ℕ) → string a ≡ id_at slot_entries j.a → string b ≡ id_at slot_entries j.b → IsObject (
-    (codes "a", string a)
-    ∷ (codes "b", string b)
-    ∷ (codes "collide", boolean j.collide)
-    ∷ (codes "colour", natural_or_null colour)
-    ∷ (codes "from", vector_of j.joint.from)
-    ∷ (codes "impulse", integer j.joint.impulse)
-    ∷ (codes "length", integer j.joint.length)
-    ∷ (codes "to", vector_of j.joint.to)
-    ∷ []) (joint_data slot_entries j colour)
+pub joint_object : (slot_entries : List SlotEntry) (j : BodyJoint) (colour : Option ℕ) → IsObject (joint_members (handle_at slot_entries j.a) (handle_at slot_entries j.b) j.collide colour j.joint) (joint_data slot_entries j colour)
 unfolding joint_data
-joint_object slot_entries j colour a b first second = record { is = rw (first, second) refl; ascends = refl }
+joint_object slot_entries j colour = record { is = refl; ascends = refl }
 
 pub joint_slot_object : (slot_entries : List SlotEntry) (slot_entry : SlotEntry) (j : BodyJoint) (colour : Option ℕ) → IsObject ((codes "generation", natural slot_entry.generation) ∷ (codes "joint", joint_data slot_entries j colour) ∷ []) (joint_slot_of slot_entries slot_entry (Some j) colour)
 joint_slot_object slot_entries slot_entry j colour = record { is = refl; ascends = refl }
 
 -- ---- the world
 
-pub totals_object : (t : Totals) → IsObject (
-    (codes "clamp", total_data t.clamp)
-    ∷ (codes "command", total_data t.command)
-    ∷ (codes "departed", total_data t.departed)
-    ∷ (codes "gravity", total_data t.gravity)
-    ∷ (codes "immovable", total_data t.immovable)
-    ∷ (codes "rest", total_data t.rest)
-    ∷ []) (totals_data t)
+pub totals_object : (t : Totals) → IsObject (totals_members t) (totals_data t)
 totals_object t = record { is = refl; ascends = refl }
 
 pub world_object : (p : Plain) (t : Totals) → IsObject (

@@ -27,13 +27,13 @@ use Rattle.plain_world.specs.Plain.{colour_of}
 use Rattle.plain_world.specs.Slots.{AreMatched, body_at, is_taken_entry, shapes_in}
 use Rattle.plain_world.specs.declared.body.Body.{Body}
 use Rattle.plain_world.specs.declared.joint.BodyJoint.{BodyJoint}
-use Rattle.world_file_base.specs.SavedJoints.{generation_there}
+use Rattle.world_file_base.specs.SavedJoints.{generation_there, handle_at}
 use Rattle.shapes.specs.declared.shape.ShapeDef.{ShapeDef}
 use Rattle.plain_world.specs.Bodies.{is_mover_in}
 use Rattle.world_core_base.specs.ContactBodies.{IsContactOf}
 use Rattle.world_file.specs.Fitting.{are_points, are_rising_after, entry_read, is_above, is_contact_fitting, is_dynamic_body, is_joint_fitting, joint_kept, label_of}
 use Rattle.world_rules.specs.Sound.{HasBodies}
-use Rattle.world_file.specs.Again.{count_of, id_in, membership_of, saved_contact, saved_joint, saved_joints}
+use Rattle.world_file.specs.Again.{count_of, membership_of, saved_contact, saved_joint, saved_joints}
 
 pub both_hold : (x y : Bool) → x ≡ true → y ≡ true → (x && y) ≡ true
 both_hold true y e h = h
@@ -84,7 +84,7 @@ live_again : (o : Option SlotEntry) → is_taken_entry o ≡ true → is_live_at
 live_again None h = h
 live_again (Some p) h = both_hold p.live (p.generation == p.generation) h (eq-eqb p.generation p.generation refl)
 
-id_live : (slot_entries : List SlotEntry) (bodies : List (Option Body)) (slot : ℕ) → AreMatched slot_entries bodies → is_some (body_at bodies slot) ≡ true → is_live slot_entries (id_in slot_entries slot) ≡ true
+id_live : (slot_entries : List SlotEntry) (bodies : List (Option Body)) (slot : ℕ) → AreMatched slot_entries bodies → is_some (body_at bodies slot) ≡ true → is_live slot_entries (handle_at slot_entries slot) ≡ true
 id_live slot_entries bodies slot m h = live_again (slice_get slot_entries slot) (sym (m.taken slot) ∙ h)
 
 not_same : (a b : ℕ) → a ≢ b → not (a == b) ≡ true
@@ -92,8 +92,8 @@ not_same a b h = grind (arith, nat_tests)
 
 joint_fits : (slot_entries : List SlotEntry) (bodies : List (Option Body)) (colour : Option ℕ) (j : BodyJoint) → AreMatched slot_entries bodies → IsBodyJoint bodies j → is_joint_fitting slot_entries (Some (saved_joint slot_entries colour j)) ≡ true
 joint_fits slot_entries bodies colour j m h =
-    both_hold (is_live slot_entries (id_in slot_entries j.a)) (is_live slot_entries (id_in slot_entries j.b) && not (j.a == j.b)) (id_live slot_entries bodies j.a m h.first)
-    (both_hold (is_live slot_entries (id_in slot_entries j.b)) (not (j.a == j.b)) (id_live slot_entries bodies j.b m h.second) (not_same j.a j.b h.apart))
+    both_hold (is_live slot_entries (handle_at slot_entries j.a)) (is_live slot_entries (handle_at slot_entries j.b) && not (j.a == j.b)) (id_live slot_entries bodies j.a m h.first)
+    (both_hold (is_live slot_entries (handle_at slot_entries j.b)) (not (j.a == j.b)) (id_live slot_entries bodies j.b m h.second) (not_same j.a j.b h.apart))
 
 slot_fits : (slot_entries : List SlotEntry) (bodies : List (Option Body)) (colour : Option ℕ) (o : Option BodyJoint) → AreMatched slot_entries bodies → ((j : BodyJoint) → o ≡ Some j → IsBodyJoint bodies j) → is_joint_fitting slot_entries (option_map (saved_joint slot_entries colour) o) ≡ true
 slot_fits slot_entries bodies colour None m h = refl

@@ -1,5 +1,5 @@
 -- Contacts, joints and totals are read as they are written.
-use Rattle.std.proofs.Common.{◌≡◌, ℕ, ◌+◌, ◌-◌, ◌^◌, ◌<◌, ◌≤◌, ◌==◌, ◌++◌, Bool, true, false, cond, nat_le, nat_lt, List, [], ◌∷◌, map, slice_get, Option, Some, None, is_some, ℤ, pos, neg_ℤ, ◌≤ℤ◌, unsigned_abs, int_le, refl, sym, ap, ap₂, ◌∙◌, arith, le-leb, eq-eqb, codes}
+use Rattle.std.proofs.Common.{◌≡◌, ℕ, ◌+◌, ◌-◌, ◌^◌, ◌<◌, ◌≤◌, ◌==◌, ◌++◌, Bool, true, false, cond, nat_le, nat_lt, List, [], ◌∷◌, map, slice_get, Option, Some, None, is_some, ℤ, pos, neg_ℤ, ◌≤ℤ◌, unsigned_abs, int_le, refl, sym, ap, ap₂, ◌∙◌, arith, le-leb, eq-eqb}
 use Rattle.std.proofs.lemmas.Bool.Decides.{nat_tests}
 use Rattle.std.proofs.lemmas.Int.{ints}
 use Rattle.std.proofs.lemmas.Option.{none-some}
@@ -25,12 +25,12 @@ use Rattle.plain_world.specs.Plain.{colour_of}
 use Rattle.plain_world.specs.declared.joint.BodyJoint.{BodyJoint}
 use Rattle.world_file_base.specs.Reading.{number_in, unsigned_in}
 use Rattle.world_file_base.specs.AskedValues.{number_asks, unsigned_asks, colour_asks, total_asks, totals_asks}
-use Rattle.world_file_base.specs.Written.{integer, natural, natural_or_null, Member, id_of, list_data, object_of, vector_of}
+use Rattle.world_file_base.specs.Written.{integer, natural, natural_or_null, object_of}
 use Rattle.world_file_base.specs.declared.clause.Clause.TheVariants.{Colours, Limits}
 use Rattle.world_file_base.specs.declared.reader.Reader.{Reader}
-use Rattle.world_file_base.specs.SavedContacts.{contact_in, contact_data, contacts_in, each_contact, last_candidate, no_points, point_in, point_data, point_or_none, shape_id_in, shape_id_of, size_in, with_points}
+use Rattle.world_file_base.specs.SavedContacts.{contact_in, contact_data, contact_members, contacts_in, each_contact, each_point, last_candidate, no_points, point_in, point_data, point_or_none, shape_id_in, shape_id_of, size_in, with_points}
 use Rattle.world_file_base.specs.AskedContacts.{contact_asks, contacts_asks, point_asks, points_asks, push_asks, shape_id_asks, size_asks}
-use Rattle.world_file_base.specs.SavedJoints.{generation_there, joint_in, joint_data}
+use Rattle.world_file_base.specs.SavedJoints.{generation_there, handle_at, joint_in, joint_data, joint_members}
 use Rattle.world_file_base.specs.AskedSlots.{joint_asks}
 use Rattle.world_file_base.specs.SavedTotals as saved_totals
 use Rattle.world_file_base.specs.SavedTotals.{total_data}
@@ -38,12 +38,12 @@ use Rattle.world_file_base.specs.Versions.{colour_in, colour_of_number}
 use Rattle.world_file_base.specs.declared.saved.SavedContact.{SavedContact}
 use Rattle.world_file_base.specs.declared.version.Version.TheVariants.{Second}
 use Rattle.world_file.specs.Files.{contact_colours}
-use Rattle.world_file.specs.Again.{count_of, id_in, saved_contact, saved_joint}
+use Rattle.world_file.specs.Again.{count_of, saved_contact, saved_joint}
 use Rattle.world_file.proofs.BackNumbers.{IsBack, asked_true, between_true, cond_true, decimal_back, handle_back, number_back, signed_back, unsigned_back, within_back}
 use Rattle.world_file.proofs.ReadContacts.{IsColour}
 use Rattle.world_file.proofs.ReadPoints.{IsPoint, OnPoint}
 use Rattle.world_file.proofs.ReadParts.{IsSmallTotal}
-use Rattle.serde_json.specs.Data.{Data, boolean}
+use Rattle.serde_json.specs.Data.{Data}
 use Rattle.body_handles.specs.declared.handle.Handle.{Handle}
 use Rattle.world_file_base.specs.declared.saved.SavedJoint.{SavedJoint}
 
@@ -160,15 +160,6 @@ pub record IsContactHeld (first second : ShapeId) (colour : Option ℕ) : Type 0
   pub second_index : second.index < 256
   pub colour_is : IsColour colour
 
-abbrev pub contact_members : ShapeId → ShapeId → Option ℕ → List Data → Bool → List Member
-contact_members first second colour points touching =
-    (codes "a", shape_id_of first)
-    ∷ (codes "b", shape_id_of second)
-    ∷ (codes "colour", natural_or_null colour)
-    ∷ (codes "points", list_data points)
-    ∷ (codes "touching", boolean touching)
-    ∷ []
-
 -- whatever its points are
 pub record IsContactRead (first second : ShapeId) (colour : Option ℕ) (points : List Data) (touching : Bool) : Type 0 where
   pub value : contact_in Second (object_of (contact_members first second colour points touching)) ≡ record { key = record { first = first; second = second }; touching = touching; colour = colour; contact = with_points (items_of points) no_points; points = items_len (items_of points) }
@@ -192,7 +183,7 @@ record IsContactBack (colours : List (List Constraint)) (e : ContactEntry) : Typ
 contact_back : (colours : List (List Constraint)) (e : ContactEntry) → IsContactWritten colours e → IsContactBack colours e
 unfolding contact_data
 contact_back colours e h =
-    let o = contact_read e.key.first e.key.second (colour_of (Contact e.key) colours) (point_or_none e.contact.first ++ point_or_none e.contact.second) (touches e.contact) (record { first_slot = h.first_slot; first_index = h.first_index; second_slot = h.second_slot; second_index = h.second_index; colour_is = h.colour }) in
+    let o = contact_read e.key.first e.key.second (colour_of (Contact e.key) colours) (each_point e.contact) (touches e.contact) (record { first_slot = h.first_slot; first_index = h.first_index; second_slot = h.second_slot; second_index = h.second_index; colour_is = h.colour }) in
     let points = points_back e.contact.first e.contact.second h.first h.second h.beside in
     let count = count_back e.contact.first e.contact.second in
     record {
@@ -244,18 +235,6 @@ pub record IsJointHeld (a b : Handle) (colour : Option ℕ) (j : Joint) : Type 0
   pub colour_is : IsColour colour
   pub joint : IsJoint j
 
-abbrev pub joint_members : Handle → Handle → Bool → Option ℕ → Joint → List Member
-joint_members a b collide colour j =
-    (codes "a", id_of a)
-    ∷ (codes "b", id_of b)
-    ∷ (codes "collide", boolean collide)
-    ∷ (codes "colour", natural_or_null colour)
-    ∷ (codes "from", vector_of j.from)
-    ∷ (codes "impulse", integer j.impulse)
-    ∷ (codes "length", integer j.length)
-    ∷ (codes "to", vector_of j.to)
-    ∷ []
-
 abbrev pub joint_by : Handle → Handle → Bool → Option ℕ → Joint → SavedJoint
 joint_by a b collide colour j = record { a = a; b = b; joint = record { a = a.slot; b = b.slot; collide = collide; joint = j }; colour = colour }
 
@@ -292,7 +271,7 @@ joint_read a b collide colour j h =
 pub joint_back : (slot_entries : List SlotEntry) (colour : Option ℕ) (j : BodyJoint) → IsJointWritten slot_entries colour j → IsJointBack slot_entries colour j
 unfolding joint_data
 joint_back slot_entries colour j h =
-    let o = joint_read (id_in slot_entries j.a) (id_in slot_entries j.b) j.collide colour j.joint (record { a_slot = h.a; a_generation = h.a_generation; b_slot = h.b; b_generation = h.b_generation; colour_is = h.colour; joint = h.joint }) in
+    let o = joint_read (handle_at slot_entries j.a) (handle_at slot_entries j.b) j.collide colour j.joint (record { a_slot = h.a; a_generation = h.a_generation; b_slot = h.b; b_generation = h.b_generation; colour_is = h.colour; joint = h.joint }) in
     record { value = o.value; asks = o.asks }
 
 -- ---- totals

@@ -1,6 +1,5 @@
 -- What is written of a world, part by part.
-use Rattle.std.specs.Prelude.{ℕ, suc, ◌+◌, List, [], ◌∷◌, map, Option, Some, None, option_map, slice_get}
-use Rattle.body_handles.specs.declared.handle.Handle.{Handle}
+use Rattle.std.specs.Prelude.{ℕ, suc, ◌+◌, List, [], ◌∷◌, map, Option, Some, None, option_map}
 use Rattle.body_handles.specs.declared.slot_table.SlotEntry.{SlotEntry}
 use Rattle.contacts.specs.declared.constraint.Constraint.{Constraint}
 use Rattle.contacts.specs.declared.constraint.Constraint.TheVariants.{Joint, Contact}
@@ -12,7 +11,7 @@ use Rattle.islands.specs.Labels.{is_asleep, is_loose}
 use Rattle.islands.specs.declared.label.Label.{Label}
 use Rattle.plain_world.specs.Plain.{Plain, colour_of}
 use Rattle.plain_world.specs.declared.joint.BodyJoint.{BodyJoint}
-use Rattle.world_file_base.specs.SavedJoints.{generation_there}
+use Rattle.world_file_base.specs.SavedJoints.{handle_at}
 use Rattle.world_file_base.specs.SavedSlots.{no_membership}
 use Rattle.world_file_base.specs.declared.saved.Membership.{Membership}
 use Rattle.world_file_base.specs.declared.saved.SavedContact.{SavedContact}
@@ -24,11 +23,8 @@ abbrev pub membership_of : Option Label → Membership
 membership_of None = no_membership
 membership_of (Some l) = record { island = Some l.name; loose = is_loose l.state; asleep = is_asleep l.state }
 
-abbrev pub id_in : List SlotEntry → ℕ → Handle
-id_in slot_entries slot = record { slot = slot; generation = generation_there (slice_get slot_entries slot) }
-
 abbrev pub saved_joint : List SlotEntry → Option ℕ → BodyJoint → SavedJoint
-saved_joint slot_entries colour j = record { a = id_in slot_entries j.a; b = id_in slot_entries j.b; joint = j; colour = colour }
+saved_joint slot_entries colour j = record { a = handle_at slot_entries j.a; b = handle_at slot_entries j.b; joint = j; colour = colour }
 
 -- those of the slots from this one on
 abbrev pub saved_joints : List SlotEntry → List (List Constraint) → ℕ → List SlotEntry → List (Option BodyJoint) → List (Option SavedJoint)

@@ -1,5 +1,5 @@
 -- Trusted: Saved contacts.
-use Rattle.std.specs.Prelude.{ℕ, ◌^◌, ◌-◌, ◌++◌, List, [], ◌∷◌, Option, Some, None, codes, cond, nat_le, ℤ, pos, unsigned_abs}
+use Rattle.std.specs.Prelude.{ℕ, ◌^◌, ◌-◌, ◌++◌, Bool, List, [], ◌∷◌, Option, Some, None, codes, cond, nat_le, ℤ, pos, unsigned_abs}
 use Rattle.std.specs.Option.{is_none}
 use Rattle.serde_json.specs.Data.{Data, Items, no_items, item, boolean}
 use Rattle.serde_json.specs.Events.{items_len}
@@ -11,7 +11,7 @@ use Rattle.contacts_base.specs.declared.contact.ContactPoint.{ContactPoint}
 use Rattle.contacts_base.specs.declared.key.ShapeId.{ShapeId}
 use Rattle.contacts_base.specs.declared.limits.TheConstants.{MAX_NORMAL, MAX_OFFSET, MAX_SEPARATION}
 use Rattle.world_file_base.specs.Reading.{first_in, items_in, number_in, second_item, truth_in, unsigned_in, vector_within}
-use Rattle.world_file_base.specs.Written.{integer, list_data, natural, natural_or_null, object_of, pair_data, vector_of}
+use Rattle.world_file_base.specs.Written.{Member, integer, list_data, natural, natural_or_null, object_of, pair_data, vector_of}
 use Rattle.world_file_base.specs.Versions.{colour_in}
 use Rattle.world_file_base.specs.declared.saved.SavedContact.{SavedContact}
 use Rattle.world_file_base.specs.declared.version.Version.{Version}
@@ -66,8 +66,9 @@ contacts_in version (item d ds) = contact_in version d ∷ contacts_in version d
 
 -- ---- how it is written
 
-unfoldable pub point_data : ContactPoint → Data
-point_data p = object_of (
+-- the members of a point
+abbrev pub point_members : ContactPoint → List Member
+point_members p =
     (codes "candidate", natural p.candidate)
     ∷ (codes "normal", vector_of p.normal)
     ∷ (codes "push", integer p.normal_impulse)
@@ -75,27 +76,37 @@ point_data p = object_of (
     ∷ (codes "rb", vector_of p.rb)
     ∷ (codes "sep", integer p.separation)
     ∷ (codes "slip", integer p.tangent_impulse)
-    ∷ [])
+    ∷ []
+
+unfoldable pub point_data : ContactPoint → Data
+point_data p = object_of (point_members p)
 
 abbrev pub point_or_none : Option ContactPoint → List Data
 point_or_none None = []
 point_or_none (Some p) = point_data p ∷ []
 
+abbrev pub each_point : Contact → List Data
+each_point c = point_or_none c.first ++ point_or_none c.second
+
 abbrev pub points_of : Contact → Data
-points_of c = list_data (point_or_none c.first ++ point_or_none c.second)
+points_of c = list_data (each_point c)
 
 abbrev pub shape_id_of : ShapeId → Data
 shape_id_of id = pair_data (natural id.slot) (natural id.index)
 
+-- the members of a contact between these shapes
+abbrev pub contact_members : ShapeId → ShapeId → Option ℕ → List Data → Bool → List Member
+contact_members first second colour points touching =
+    (codes "a", shape_id_of first)
+    ∷ (codes "b", shape_id_of second)
+    ∷ (codes "colour", natural_or_null colour)
+    ∷ (codes "points", list_data points)
+    ∷ (codes "touching", boolean touching)
+    ∷ []
+
 -- a contact, with its colour if it acts
 unfoldable pub contact_data : ContactEntry → Option ℕ → Data
-contact_data e colour = object_of (
-    (codes "a", shape_id_of e.key.first)
-    ∷ (codes "b", shape_id_of e.key.second)
-    ∷ (codes "colour", natural_or_null colour)
-    ∷ (codes "points", points_of e.contact)
-    ∷ (codes "touching", boolean (touches e.contact))
-    ∷ [])
+contact_data e colour = object_of (contact_members e.key.first e.key.second colour (each_point e.contact) (touches e.contact))
 
 -- each contact with the colour in its place
 abbrev pub each_contact : List ContactEntry → List (Option ℕ) → List Data

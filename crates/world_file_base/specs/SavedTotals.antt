@@ -7,7 +7,7 @@ use Rattle.impulse_ledger.specs.declared.totals.Total.{Total}
 use Rattle.impulse_ledger.specs.declared.totals.Totals.{Totals}
 use Rattle.world_file_base.specs.Reading.{first_in, second_item}
 use Rattle.world_file_base.specs.Texts.{decimal_in}
-use Rattle.world_file_base.specs.Written.{decimal_of, object_of, pair_data}
+use Rattle.world_file_base.specs.Written.{Member, decimal_of, object_of, pair_data}
 
 abbrev pub total_read : Option Data → Total
 total_read value = record { x = decimal_in MAX_TOTAL (first_in value); y = decimal_in MAX_TOTAL (second_item value) }
@@ -29,12 +29,16 @@ totals_read value = record {
 abbrev pub total_data : Total → Data
 total_data t = pair_data (decimal_of t.x) (decimal_of t.y)
 
-abbrev pub totals_data : Totals → Data
-totals_data t = object_of (
+-- the members of the totals
+abbrev pub totals_members : Totals → List Member
+totals_members t =
     (codes "clamp", total_data t.clamp)
     ∷ (codes "command", total_data t.command)
     ∷ (codes "departed", total_data t.departed)
     ∷ (codes "gravity", total_data t.gravity)
     ∷ (codes "immovable", total_data t.immovable)
     ∷ (codes "rest", total_data t.rest)
-    ∷ [])
+    ∷ []
+
+abbrev pub totals_data : Totals → Data
+totals_data t = object_of (totals_members t)

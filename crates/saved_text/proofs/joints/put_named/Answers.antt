@@ -3,4 +3,4 @@ use Rattle.saved_text.proofs.Objects.{joint_object}
 use Rattle.saved_text.proofs.joints.put_named.Goals as goal
 
 pub returns : goal.returns
-returns c = record { text = λ slot_entries first second. c.put_object.ensures.text (joint_data slot_entries c.args.joint.now c.args.colour) (joint_object slot_entries c.args.joint.now c.args.colour _ _ first second) }
+returns c = record { text = λ slot_entries first second. c.put_object.ensures.text (joint_data slot_entries c.args.joint.now c.args.colour) (rw (first, second) (joint_object slot_entries c.args.joint.now c.args.colour)) }
