@@ -17,7 +17,7 @@ use Rattle.world_file_base.specs.Written.{Member, decimal_of, integer, list_data
 use Rattle.world_file_base.specs.declared.reader.Reader.{Reader}
 use Rattle.world_file_base.specs.declared.saved.Membership.{Membership}
 use Rattle.world_file.proofs.BackBodies.{truth_back, HasCourseKeys, back_at}
-use Rattle.loaded_text.specs.Bodies.{IsFront, IsStill, membership_of}
+use Rattle.loaded_text.specs.Bodies.{IsFront, IsStill, front_named, membership_of}
 use Rattle.loaded_text.specs.Stands.{MembersStand, Stands, key_text}
 use Rattle.loaded_text.specs.declared.body_members.Front.{Front}
 use Rattle.loaded_text.proofs.Joined.{member_then, no_member}
@@ -25,24 +25,8 @@ use Rattle.loaded_text.proofs.Back.{island_or_none}
 
 -- ---- its members
 
--- those before the shapes, of a body of this kind
-abbrev pub front_by : Front → Kind → List Member
-front_by f kind =
-    (codes "asleep", boolean f.asleep)
-    ∷ (codes "at", vector_of f.at)
-    ∷ (codes "enabled", boolean f.enabled)
-    ∷ (codes "facing", facing_of f.facing)
-    ∷ (codes "inertia", integer f.inertia)
-    ∷ (codes "island", natural_or_null f.island)
-    ∷ (codes "kind", string (kind_name kind))
-    ∷ (codes "l", decimal_of f.l)
-    ∷ (codes "loose", boolean f.loose)
-    ∷ (codes "mass", integer f.mass)
-    ∷ (codes "p", vector_of f.p)
-    ∷ []
-
 abbrev pub body_members : Front → Kind → List Data → ℕ → List Member
-body_members f kind shapes timer = front_by f kind ++ ((codes "shapes", list_data shapes) ∷ last_of_body kind timer)
+body_members f kind shapes timer = front_named f (kind_name kind) ++ ((codes "shapes", list_data shapes) ∷ last_of_body kind timer)
 
 abbrev pub body_data : Front → Kind → List Data → ℕ → Data
 body_data f kind shapes timer = object (in_order (body_members f kind shapes timer))

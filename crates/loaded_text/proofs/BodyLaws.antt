@@ -8,8 +8,7 @@ use Rattle.plain_world.specs.declared.body.Body.{Body}
 use Rattle.plain_world.specs.declared.kind.Kind.{Kind}
 use Rattle.plain_world.specs.declared.kind.Kind.TheVariants.{Static, Kinematic, Dynamic}
 use Rattle.saved_text.specs.Bodies.{last_of_body}
-use Rattle.saved_text.specs.Leaves.{facing_of}
-use Rattle.serde_json.specs.Data.{Data, Items, boolean, depth, string}
+use Rattle.serde_json.specs.Data.{Data, Items, boolean, depth}
 use Rattle.serde_json.specs.Find.{get}
 use Rattle.serde_json.specs.View.{items_of}
 use Rattle.world_file_base.specs.Asks.{no_asks}
@@ -19,18 +18,18 @@ use Rattle.world_file_base.specs.SavedBodies.{body_in, kind_in, kind_name, mass_
 use Rattle.world_file_base.specs.AskedBodies.{body_asks, keys_asks, kind_asks, mass_asks, motion_asks, numbers_asks, whole_body_asks}
 use Rattle.world_file_base.specs.SavedShapes.{defs_in, fats_in}
 use Rattle.world_file_base.specs.AskedShapes.{shapes_asks}
-use Rattle.world_file_base.specs.Written.{Member, decimal_of, integer, list_data, natural, natural_or_null, vector_of}
+use Rattle.world_file_base.specs.Written.{Member, list_data, natural}
 use Rattle.world_file_base.specs.declared.saved.Membership.{Membership}
 use Rattle.world_file.proofs.BackNumbers.{unsigned_back}
 use Rattle.world_file.proofs.BackBodies.{truth_back, mass_back, HasCourseKeys, back_at, kind_back, motion_back}
-use Rattle.loaded_text.specs.Bodies.{BodyHolds, IsFront, front_members, made, membership_of}
+use Rattle.loaded_text.specs.Bodies.{BodyHolds, IsFront, front_members, front_named, made, membership_of}
 use Rattle.loaded_text.specs.Shapes.{ShapesHold, no_shapes}
 use Rattle.loaded_text.specs.Stands.{MembersStand, key_text}
 use Rattle.loaded_text.specs.declared.bodies.LoadedBody.{LoadedBody}
 use Rattle.loaded_text.specs.declared.body_members.Front.{Front}
 use Rattle.loaded_text.specs.declared.body_members.Last.{Last}
 use Rattle.loaded_text.specs.declared.saved_shapes.LoadedShapes.{LoadedShapes}
-use Rattle.loaded_text.proofs.BodyKeys.{HasKeys, body_ascends, body_data, body_members, front_by, has_course_of, has_keys_of, membership_read}
+use Rattle.loaded_text.proofs.BodyKeys.{HasKeys, body_ascends, body_data, body_members, has_course_of, has_keys_of, membership_read}
 use Rattle.loaded_text.proofs.Joined.{member_then, members_then, object_stands}
 use Rattle.loaded_text.proofs.Parts.{or_null_depth}
 
@@ -83,19 +82,8 @@ body_read most f s last items d keys course h timed defs_are fats_are fine =
 
 -- ---- its text
 
-front_same : (f : Front) (kind : Kind) (a b : List ℕ) → kind_name kind ≡ kind_name f.kind → MembersStand false (front_members f) a b → MembersStand false (front_by f kind) a b
-front_same f kind a b e h =
-    let named : Member → List Member = λ m.
-    (codes "asleep", boolean f.asleep) ∷ (codes "at", vector_of f.at) ∷ (codes "enabled", boolean f.enabled) ∷ (codes "facing", facing_of f.facing) ∷ (codes "inertia", integer f.inertia) ∷ (codes "island", natural_or_null f.island)
-    ∷ m ∷ (codes "l", decimal_of f.l) ∷ (codes "loose", boolean f.loose) ∷ (codes "mass", integer f.mass) ∷ (codes "p", vector_of f.p) ∷ [] in
-    subst (λ (name : List ℕ). MembersStand false (named (codes "kind", string name)) a b) (sym e) h
-
-front_then : (f : Front) (kind : Kind) (ns : List Member) (a b c : List ℕ) → MembersStand false (front_by f kind) a b → MembersStand true ns b c → MembersStand false (front_by f kind ++ ns) a c
-front_then f kind ns a b c first second =
-    members_then false (codes "asleep", boolean f.asleep)
-    ((codes "at", vector_of f.at) ∷ (codes "enabled", boolean f.enabled) ∷ (codes "facing", facing_of f.facing) ∷ (codes "inertia", integer f.inertia) ∷ (codes "island", natural_or_null f.island)
-    ∷ (codes "kind", string (kind_name kind)) ∷ (codes "l", decimal_of f.l) ∷ (codes "loose", boolean f.loose) ∷ (codes "mass", integer f.mass) ∷ (codes "p", vector_of f.p) ∷ [])
-    ns a b c first second
+front_then : (f : Front) (name : List ℕ) (ns : List Member) (a b c : List ℕ) → MembersStand false (front_named f name) a b → MembersStand true ns b c → MembersStand false (front_named f name ++ ns) a c
+front_then f name ns a b c first second = members_then false _ _ ns a b c first second
 
 body_depth : (f : Front) (kind : Kind) (items : List Data) (timer : ℕ) → depth (list_data items) ≤ 4 → depth (body_data f kind items timer) ≤ 5
 body_depth f Static items timer low = omega (arith, low, or_null_depth f.island)
@@ -110,7 +98,7 @@ made_holds lead f s last a b c d e g h parts same before begun first middle behi
     let keys = has_keys_of f last.kind items last.timer in
     let course = has_course_of f last.kind items last.timer in
     let members =
-    front_then f last.kind ((codes "shapes", list_data items) ∷ last_of_body last.kind last.timer) c d g (front_same f last.kind c d same first)
+    front_then f (kind_name last.kind) ((codes "shapes", list_data items) ∷ last_of_body last.kind last.timer) c d g (subst (λ (name : List ℕ). MembersStand false (front_named f name) c d) (sym same) first)
     (member_then true _ (codes "shapes") (list_data items) (last_of_body last.kind last.timer) d e g refl middle.stands behind) in
     let read = λ (most : ℕ) (timed : last.timer ≤ most). body_read most f s last items (body_data f last.kind items last.timer) keys course parts timed middle.shapes middle.fats middle.asks in
     record {

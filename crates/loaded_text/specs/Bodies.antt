@@ -32,20 +32,24 @@ use Rattle.loaded_text.specs.declared.saved_shapes.LoadedShapes.{LoadedShapes}
 
 -- ---- the members of a body
 
-abbrev pub front_members : Front → List Member
-front_members f =
+-- those before the shapes, of a body whose kind has this name
+abbrev pub front_named : Front → List ℕ → List Member
+front_named f name =
     (codes "asleep", boolean f.asleep)
     ∷ (codes "at", vector_of f.at)
     ∷ (codes "enabled", boolean f.enabled)
     ∷ (codes "facing", facing_of f.facing)
     ∷ (codes "inertia", integer f.inertia)
     ∷ (codes "island", natural_or_null f.island)
-    ∷ (codes "kind", string (kind_name f.kind))
+    ∷ (codes "kind", string name)
     ∷ (codes "l", decimal_of f.l)
     ∷ (codes "loose", boolean f.loose)
     ∷ (codes "mass", integer f.mass)
     ∷ (codes "p", vector_of f.p)
     ∷ []
+
+abbrev pub front_members : Front → List Member
+front_members f = front_named f (kind_name f.kind)
 
 pub record IsFront (f : Front) : Type 0 where
   pub at : IsWithin (unsigned_abs MAX_POSITION) f.at
