@@ -1,13 +1,14 @@
 -- A step's ticks over the bodies, the joints, the contacts and the constraints that act, colour after colour:
 -- what these may be, and what the ticks leave.
-use Rattle.std.specs.Prelude.{◌≡◌, ◌^◌, ℕ, true, List, Option, Some, All, length, take}
+use Rattle.std.specs.Prelude.{◌≡◌, ◌^◌, ◌+◌, ◌≤◌, ℕ, true, List, Option, Some, All, length, take}
 use Rattle.std.specs.List.{AllPairs}
-use Rattle.fixed_geom.specs.Vectors.{plus}
+use Rattle.body_handles.specs.declared.slot_table.TheConstants.{MAX_SLOTS}
+use Rattle.fixed_geom.specs.Vectors.{IsWithin, plus}
 use Rattle.fixed_geom.specs.declared.vectors.Vec2.{Vec2}
 use Rattle.momenta.specs.declared.state.BodyState.{BodyState}
 use Rattle.graph_colours.specs.declared.limits.TheConstants.{COLOURS}
 use Rattle.graph_colours.specs.declared.member.Member.{Member}
-use Rattle.graph_colours.specs.Colours.{ids_of}
+use Rattle.graph_colours.specs.Colours.{Coloured, all_members, ids_of}
 use Rattle.graph_colours.specs.Members.{AreApart}
 use Rattle.contacts_base.specs.declared.key.ContactKey.{ContactKey}
 use Rattle.contacts_base.specs.declared.contact.ContactEntry.{ContactEntry}
@@ -17,10 +18,14 @@ use Rattle.contacts.specs.declared.constraint.Constraint.{Constraint}
 use Rattle.contacts.specs.declared.constraint.Constraint.TheVariants as constraints
 use Rattle.colour_solver.specs.declared.ticks.StepSums.{StepSums}
 use Rattle.colour_solver.specs.ConstraintVisits.{AreRowsBelow, contacts_among, joints_among}
-use Rattle.colour_solver.specs.States.{AreAllStates, AreSameBeside, HaveCourses, total}
+use Rattle.colour_solver.specs.States.{AreAllStates, AreSameBeside, HaveCourses, carried_of, movers_of, total}
 use Rattle.colour_solver.specs.Ticks.{AreSums, Run, added, ran, run_of, start}
 use Rattle.plain_world.specs.declared.joint.BodyJoint.{BodyJoint}
 use Rattle.plain_world.specs.Joints.{joint_at}
+use Rattle.world_core_base.specs.declared.gathered_rows.GatheredRows.{GatheredRows}
+use Rattle.world_core_base.specs.declared.step_solver.Constraints.{Constraints}
+use Rattle.world_core_base.specs.declared.step_solver.MovingSlots.{MovingSlots}
+use Rattle.world_core_base.specs.declared.step_solver.Pace.{Pace}
 use Rattle.world_core_base.specs.ConstraintRows.{HaveJointsOn, HaveMovable, rows_of, with_joint_rows}
 use Rattle.world_core_base.specs.Gather.{AreContactsOn, with_rows}
 use Rattle.world_core_base.specs.RowColours.{HasItsMovers}
@@ -80,3 +85,24 @@ pub record HasLeft (r : Run) (states : List BodyState) (states_now : List BodySt
   pub courses : HaveCourses states_now
   pub small : AreSums (2 ^ 83) sums
   pub momentum : total states_now ≡ plus (total states) (added sums)
+
+-- ---- who runs the ticks
+
+-- what the ticks of a step are run over, and at what pace: there is room for a row of each constraint, and nothing is put
+-- off
+pub record CanRun (states : List BodyState) (constraints : Constraints) (colours : Coloured Constraint) (gathered : GatheredRows) (moving : MovingSlots) (pace : Pace) : Type 0 where
+  pub few : length states ≤ MAX_SLOTS
+  pub gravity : IsWithin (2 ^ 16) pace.gravity
+  pub count : pace.count ≤ 8
+  pub awake : moving.awake.now ≡ movers_of states
+  pub carried : moving.carried.now ≡ carried_of states
+  pub flushed : colours.pending ≡ 0
+  pub can : CanStep states constraints.joints.joints constraints.contacts.contacts colours.lists
+  pub room : length (all_members colours.lists) ≤ gathered.rows.room
+  pub more : COLOURS + 1 ≤ gathered.rows.more
+
+-- the ticks have been run over bodies and constraints, have left these, and have added the sums to the momentum
+pub record HasRun (pace : Pace) (lists : List (List (Member Constraint))) (states : List BodyState) (constraints : Constraints) (states_now : List BodyState) (constraints_now : Constraints) (sums : StepSums) : Type 0 where
+  pub left : HasLeft (run_over pace.count pace.gravity states constraints.joints.joints constraints.contacts.contacts lists) states states_now sums
+  pub impulses : HaveImpulses (run_over pace.count pace.gravity states constraints.joints.joints constraints.contacts.contacts lists) constraints.joints.joints constraints.contacts.contacts constraints_now.joints.joints constraints_now.contacts.contacts sums
+  pub numbered : constraints_now.contacts.numbered ≡ constraints.contacts.numbered

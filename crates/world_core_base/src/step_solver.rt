@@ -1,20 +1,16 @@
 //! Who runs the ticks of a step: the thread that calls, or others with it.
 
-ghost use Rattle.std.specs.Prelude.{◌≡◌, ◌^◌, ◌+◌, ◌≤◌, [], length};
-ghost use Rattle.fixed_geom.specs.Vectors.{IsWithin};
-ghost use Rattle.graph_colours.specs.Colours.{all_members};
-ghost use Rattle.colour_solver.specs.States.{carried_of, movers_of};
-ghost use Rattle.world_core_base.specs.StepRuns.{CanStep, HasLeft, HaveImpulses, run_over};
+ghost use Rattle.std.specs.Prelude.{◌≡◌, []};
+ghost use Rattle.world_core_base.specs.StepRuns.{CanRun, HasRun};
 
 use crate::gather::{RowSources, gather_rows};
 use crate::gathered_rows::GatheredRows;
 use crate::impulses::put_impulses;
 use crate::joint_table::JointTable;
-use body_handles::MAX_SLOTS;
 use colour_solver::{StepSums, run_step};
 use contacts::{Constraint, ContactTable};
 use fixed_geom::Vec2;
-use graph_colours::{COLOURS, Colours};
+use graph_colours::Colours;
 use momenta::BodyState;
 use std::alloc::Global;
 
@@ -69,18 +65,8 @@ pub trait StepSolver {
         moving: MovingSlots,
         pace: Pace,
     ) -> StepSums
-        requires few { length states.old.items ≤ MAX_SLOTS }
-        requires gravity { IsWithin (2 ^ 16) pace.gravity }
-        requires count { pace.count ≤ 8 }
-        requires awake { moving.awake.now ≡ movers_of states.old.items }
-        requires carried { moving.carried.now ≡ carried_of states.old.items }
-        requires flushed { colours.now.pending ≡ 0 }
-        requires can { CanStep states.old.items constraints.old.joints.joints constraints.old.contacts.contacts colours.now.lists }
-        requires room { length (all_members colours.now.lists) ≤ gathered.old.rows.room }
-        requires more { COLOURS + 1 ≤ gathered.old.rows.more }
-        ensures left { HasLeft (run_over pace.count pace.gravity states.old.items constraints.old.joints.joints constraints.old.contacts.contacts colours.now.lists) states.old.items states.new.items result }
-        ensures impulses { HaveImpulses (run_over pace.count pace.gravity states.old.items constraints.old.joints.joints constraints.old.contacts.contacts colours.now.lists) constraints.old.joints.joints constraints.old.contacts.contacts constraints.new.joints.joints constraints.new.contacts.contacts result }
-        ensures numbered { constraints.new.contacts.numbered ≡ constraints.old.contacts.numbered };
+        requires can_run { CanRun states.old.items constraints.old colours.now gathered.old moving pace }
+        ensures has_run { HasRun pace colours.now.lists states.old.items constraints.old states.new.items constraints.new result };
 }
 
 /// Runs the ticks of a step on the calling thread.
@@ -93,18 +79,8 @@ pub fn run_alone(
     moving: MovingSlots,
     pace: Pace,
 ) -> StepSums
-    requires few { length states.old.items ≤ MAX_SLOTS }
-    requires gravity { IsWithin (2 ^ 16) pace.gravity }
-    requires count { pace.count ≤ 8 }
-    requires awake { moving.awake.now ≡ movers_of states.old.items }
-    requires carried { moving.carried.now ≡ carried_of states.old.items }
-    requires flushed { colours.now.pending ≡ 0 }
-    requires can { CanStep states.old.items constraints.old.joints.joints constraints.old.contacts.contacts colours.now.lists }
-    requires room { length (all_members colours.now.lists) ≤ gathered.old.rows.room }
-    requires more { COLOURS + 1 ≤ gathered.old.rows.more }
-    ensures left { HasLeft (run_over pace.count pace.gravity states.old.items constraints.old.joints.joints constraints.old.contacts.contacts colours.now.lists) states.old.items states.new.items result }
-    ensures impulses { HaveImpulses (run_over pace.count pace.gravity states.old.items constraints.old.joints.joints constraints.old.contacts.contacts colours.now.lists) constraints.old.joints.joints constraints.old.contacts.contacts constraints.new.joints.joints constraints.new.contacts.contacts result }
-    ensures numbered { constraints.new.contacts.numbered ≡ constraints.old.contacts.numbered }
+    requires can_run { CanRun states.old.items constraints.old colours.now gathered.old moving pace }
+    ensures has_run { HasRun pace colours.now.lists states.old.items constraints.old states.new.items constraints.new result }
 {
     let sources = RowSources {
         states: states.as_slice(),
