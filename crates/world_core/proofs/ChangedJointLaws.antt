@@ -1,7 +1,7 @@
 -- The sets of joints where a body leaves, comes, is disabled or is enabled, and where a joint goes: they stay as they
 -- are, since whoever sleeps does so as before.
-use Rattle.std.proofs.Common.{◌≡◌, ◌≢◌, ◌⊎◌, ℕ, zero, suc, ◌<◌, ◌≤◌, Bool, true, false, cond, List, [], ◌∷◌, length, slice_set, pos, Option, Some, None, is_some, inl, inr, refl, sym, ap, ◌∙◌, subst, arith}
-use Rattle.std.specs.Prelude.{Contains, option_map}
+use Rattle.std.proofs.Common.{◌≡◌, ◌≢◌, ℕ, zero, suc, ◌<◌, ◌≤◌, Bool, true, false, cond, List, [], ◌∷◌, length, slice_set, pos, Option, Some, None, is_some, inl, inr, refl, sym, ap, ◌∙◌, subst, arith}
+use Rattle.std.specs.Prelude.{option_map}
 use Rattle.std.proofs.lemmas.Bool.{cases_eq, false≢true}
 use Rattle.std.proofs.lemmas.List.{length-set}
 use Rattle.plain_world.specs.declared.body.Body.{Body}
@@ -15,7 +15,8 @@ use Rattle.solver_sets.specs.Joining.{handle_at, unjoined, unjoined_all, unjoine
 use Rattle.solver_sets.specs.Ties.{JointSlots, is_enabled, is_enabled_in}
 use Rattle.islands.proofs.JoinLemmas.{contains_head}
 use Rattle.world_core_base.proofs.AsleepLaws.{alike_own, with_item_other}
-use Rattle.world_core_base.proofs.JointAsleepLaws.{joint_alike, joint_named, joints_as, joints_by_ends, own_first, own_second}
+use Rattle.world_core_base.proofs.JointAsleepLaws.{joint_alike, joint_named, joints_as, joints_by_ends}
+use Rattle.world_core_base.proofs.TieSleepLaws.{both_far}
 use Rattle.world_core_base.proofs.JointEndLaws.{item_at-same}
 use Rattle.world_core_base.proofs.OwnJointLaws.{below_if}
 use Rattle.world_core_base.specs.Following.{CanFollow}
@@ -79,9 +80,7 @@ left_apart body s k j at = by (is_end_in body (joint_at s.joints k)) refl
 
 -- a joint that has no end at the slot in which the body is another
 pub joint_far : (old new : List (Option Body)) (slot : ℕ) (o : Option BodyJoint) → ((other : ℕ) → other ≢ slot → IsSleepAlike (body_at old other) (body_at new other)) → is_end_in slot o ≡ false → sleep_with new (movers_of_joint new o) ≡ sleep_with old (movers_of_joint old o)
-joint_far old new slot o others off = joint_alike old new o (λ j at.
-    let off_own : is_joint_of slot j ≡ false = ap (is_end_in slot) (sym at) ∙ off in
-    (others j.a (λ e. false≢true (sym off_own ∙ ap (λ (b : ℕ). is_joint_of b j) (sym e) ∙ own_first j)), others j.b (λ e. false≢true (sym off_own ∙ ap (λ (b : ℕ). is_joint_of b j) (sym e) ∙ own_second j))))
+joint_far old new slot o others off = joint_alike old new o (λ j at. both_far old new slot j.a j.b others (ap (is_end_in slot) (sym at) ∙ off))
 
 -- whoever is in another slot than one that is set is as before
 pub set_beside : (bodies : List (Option Body)) (slot : ℕ) (o : Option Body) (other : ℕ) → other ≢ slot → IsSleepAlike (body_at bodies other) (body_at (slice_set bodies slot o) other)

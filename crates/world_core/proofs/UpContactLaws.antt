@@ -12,7 +12,7 @@ use Rattle.contacts.specs.declared.number_book.NumberedContact.{NumberedContact}
 use Rattle.contacts_base.specs.Contacts.{contacts_without, has_slot}
 use Rattle.contacts_base.specs.Evaluate.{touches}
 use Rattle.contacts_base.specs.declared.contact.ContactEntry.{ContactEntry}
-use Rattle.graph_colours.proofs.PlaceLemmas.{is_same, same_from}
+use Rattle.graph_colours.proofs.PlaceLemmas.{same_from}
 use Rattle.graph_colours.specs.declared.member.Member.{Member}
 use Rattle.graph_colours.specs.declared.member.Movers.{Movers}
 use Rattle.plain_world.specs.declared.body.Body.{Body}
@@ -24,7 +24,8 @@ use Rattle.solver_sets.specs.Ties.{JointSlots, contact_bond, contact_movers, is_
 use Rattle.contacts.proofs.NumberedLaws.{dropped_has, entry_at, gone_touching, key_at, left_same, number_for, stayed_touching, without_end, without_within}
 use Rattle.contacts.specs.Touching.{TouchesOnlyIn}
 use Rattle.islands.proofs.JoinLemmas.{contains_cases, contains_head, contains_tail}
-use Rattle.world_core_base.proofs.ContactAsleepLaws.{contact_alike, contact_below, contacts_as}
+use Rattle.world_core_base.proofs.ContactAsleepLaws.{contact_alike, contact_past, contacts_as}
+use Rattle.world_core_base.proofs.TieSleepLaws.{both_far, there_below}
 use Rattle.world_core_base.proofs.FollowLaws.{none_contained}
 use Rattle.world_core_base.specs.Turned.{AreTurned}
 use Rattle.world_core_base.specs.Asleep.{AreContactSets, IsSleepAlike, contact_sleep, is_contact_end, movers_of_contact, sleep_with}
@@ -95,13 +96,7 @@ no_end slot contacts numbered number are none = by (contact_at numbered number) 
 
 -- a contact that doesn't have the body in the slot in which that is another
 pub contact_far : (old new : List (Option Body)) (slot : ℕ) (o : Option NumberedContact) → ((other : ℕ) → other ≢ slot → IsSleepAlike (body_at old other) (body_at new other)) → is_contact_end slot o ≡ false → sleep_with new (movers_of_contact new o) ≡ sleep_with old (movers_of_contact old o)
-contact_far old new slot o others off = contact_alike old new o (λ c at.
-    let off_own : is_contact_end slot (Some c) ≡ false = ap (is_contact_end slot) (sym at) ∙ off in
-    (others c.key.first.slot (λ e. false≢true (sym off_own ∙ ap (λ (t : Bool). t || (c.key.second.slot == slot)) (is_same c.key.first.slot slot e))), others c.key.second.slot (λ e. false≢true (sym off_own ∙ ap (λ (t : Bool). (c.key.first.slot == slot) || t) (is_same c.key.second.slot slot e) ∙ or_true (c.key.first.slot == slot)))))
-  where
-    or_true : (t : Bool) → (t || true) ≡ true
-    or_true true = refl
-    or_true false = refl
+contact_far old new slot o others off = contact_alike old new o (λ c at. both_far old new slot c.key.first.slot c.key.second.slot others (ap (is_contact_end slot) (sym at) ∙ off))
 
 contains_or : (ids : List ℕ) (id : ℕ) → Contains ids id ⊎ (Contains ids id → ⊥)
 contains_or [] id = inr (λ h. none_contained id h)
@@ -168,7 +163,7 @@ made_touching before after old new made gone number d was is turn now touch none
 -- touch sleeps with nobody
 pub contacts_turned : (bodies : List (Option Body)) (before after : List ContactEntry) (old new : List (Option NumberedContact)) (made gone : List ℕ) (sets : Sleeping) → AreNumbered before old → AreNumbered after new → IsTurnover old new made gone → AreTurned bodies before after → length new ≤ length sets.names
     → AreContactSets bodies old sets → AreContactSets bodies new sets
-contacts_turned bodies before after old new made gone sets was is turn up room are = contacts_as bodies bodies old new sets sets each (λ number. refl) (λ number on. let below = contact_below new number on in omega (arith, below, room)) are.named are
+contacts_turned bodies before after old new made gone sets was is turn up room are = contacts_as bodies bodies old new sets sets each (λ number. refl) (λ number on. let below = there_below (contact_at new) (length new) (contact_past new) number on in omega (arith, below, room)) are.named are
   where
     sleeps : NumberedContact → Option ℕ
     sleeps c = sleep_with bodies (cond c.touching (contact_movers bodies c.key) None)

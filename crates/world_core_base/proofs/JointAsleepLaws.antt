@@ -1,29 +1,25 @@
 -- Joints that sleep: with the first of their bodies that is a mover.
-use Rattle.std.proofs.Common.{◌≡◌, ◌⊎◌, ℕ, zero, suc, ◌+◌, ◌<◌, ◌≤◌, ◌==◌, ◌||◌, Bool, true, false, List, [], ◌∷◌, length, drop, get_or, Option, Some, None, is_some, inl, inr, refl, sym, ap, ◌∙◌, subst, add-one, arith}
+use Rattle.std.proofs.Common.{◌≡◌, ℕ, ◌<◌, ◌≤◌, true, false, List, [], length, Option, Some, None, is_some, inl, inr, refl, sym, ap, ◌∙◌, subst, arith}
+use Rattle.std.specs.Option.{option_flatten}
 use Rattle.std.specs.Prelude.{Contains, option_map}
-use Rattle.std.proofs.lemmas.Bool.{cases_eq, cases_lt}
-use Rattle.std.proofs.lemmas.List.{drop_all}
-use Rattle.std.proofs.Math.Seq.{drop-cons}
-use Rattle.graph_colours.proofs.PlaceLemmas.{is_same}
+use Rattle.std.proofs.lemmas.Bool.{cases_eq}
+use Rattle.std.proofs.lemmas.Option.{slice_get_past}
 use Rattle.graph_colours.specs.declared.member.Movers.{Movers}
 use Rattle.islands.specs.Labels.{Labels}
-use Rattle.islands.proofs.JoinLemmas.{contains_cases}
-use Rattle.packed_sets.specs.Packs.{list_at}
 use Rattle.plain_world.specs.declared.body.Body.{Body}
 use Rattle.plain_world.specs.declared.joint.BodyJoint.{BodyJoint}
 use Rattle.plain_world.specs.Bodies.{moves}
-use Rattle.plain_world.specs.Joints.{is_end_in, is_joint_of, joint_at}
+use Rattle.plain_world.specs.Joints.{joint_at}
 use Rattle.plain_world.specs.Sleep.{told}
 use Rattle.plain_world.specs.Slots.{body_at, with_item}
 use Rattle.solver_sets.specs.Ties.{joint_movers}
 use Rattle.world_core_base.specs.Asleep.{AreJointSets, AreNamedAsleep, IsOfNone, IsSleepAlike, SleepAlike, joint_sleep, movers_of_joint, sleep_with}
-use Rattle.world_core_base.specs.Following.{CanFollow, HaveFollowed}
-use Rattle.world_core_base.specs.JointEnds.{AreEnds, KeepEnds, ends_of, halves}
+use Rattle.world_core_base.specs.Following.{CanFollow}
+use Rattle.world_core_base.specs.JointEnds.{KeepEnds, ends_of}
 use Rattle.world_core_base.specs.Sleeping.{Sleeping, sleep_at}
 use Rattle.world_core_base.specs.Telling.{KeepSets}
 use Rattle.world_core_base.proofs.AsleepLaws.{can_follow_told, first_of, tie_alike, told_movers, with_item_here, with_item_other}
-use Rattle.world_core_base.proofs.FollowLaws.{followed_then, none_contained}
-use Rattle.world_core_base.proofs.OwnJointLaws.{all_ends}
+use Rattle.world_core_base.proofs.TieSleepLaws.{both_beside, named_below}
 
 -- ---- one joint
 
@@ -38,15 +34,7 @@ told_joint labels bodies (Some j) = told_movers labels bodies j.a j.b
 
 -- no joint is past the last slot
 pub joint_past : (joints : List (Option BodyJoint)) (slot : ℕ) → length joints ≤ slot → joint_at joints slot ≡ None
-joint_past [] slot le = refl
-joint_past (o ∷ joints) zero le = absurd (omega (arith, le))
-joint_past (o ∷ joints) (suc slot) le = joint_past joints slot (omega (arith, le))
-
-pub joint_below : (joints : List (Option BodyJoint)) (slot : ℕ) → is_some (joint_at joints slot) ≡ true → slot < length joints
-joint_below joints slot e = elim (cases_lt slot (length joints)) [
-  | inl lt ↦ lt
-  | inr past ↦ (let both : false ≡ true = sym (ap is_some (joint_past joints slot past)) ∙ e in cc)
-]
+joint_past joints slot le = ap option_flatten (slice_get_past joints slot le)
 
 -- what has movers is there
 joint_there : (bodies : List (Option Body)) (o : Option BodyJoint) (m : Movers) → movers_of_joint bodies o ≡ Some m → is_some o ≡ true
@@ -55,11 +43,7 @@ joint_there bodies (Some j) m e = refl
 
 -- a joint sleeps under a name under which a body does
 pub joint_named : (bodies : List (Option Body)) (o : Option BodyJoint) (name : ℕ) → AreNamedAsleep bodies → sleep_with bodies (movers_of_joint bodies o) ≡ Some name → name < length bodies
-joint_named bodies o name named h = by (movers_of_joint bodies o) refl h
-  where
-    by : (t : Option Movers) → movers_of_joint bodies o ≡ t → sleep_with bodies t ≡ Some name → name < length bodies
-    by None e k = cc
-    by (Some m) e k = named m.first name (joint_moves bodies o m e) k
+joint_named bodies o name = named_below bodies (movers_of_joint bodies o) name (joint_moves bodies o)
 
 -- ---- all joints, where bodies wake or fall asleep
 
@@ -139,43 +123,9 @@ joints_none bodies joints sets e f g = subst (λ (bs : List (Option Body)). AreJ
   named = omega arith;
 }))
 
--- ---- joints of listed bodies, of which those from a place on are left
-
-pub own_first : (j : BodyJoint) → is_joint_of j.a j ≡ true
-own_first j = ap (λ (t : Bool). t || (j.b == j.a)) (is_same j.a j.a refl)
-
-pub own_second : (j : BodyJoint) → is_joint_of j.b j ≡ true
-own_second j = ap (λ (t : Bool). (j.a == j.b) || t) (is_same j.b j.b refl) ∙ or_true (j.a == j.b)
-  where
-    or_true : (t : Bool) → (t || true) ≡ true
-    or_true true = refl
-    or_true false = refl
+-- ---- joints of listed bodies
 
 -- one of none of the bodies that may sleep otherwise now
 pub joint_beside : (old new : List (Option Body)) (slots : List ℕ) (o : Option BodyJoint) → ((slot : ℕ) → (Contains slots slot → ⊥) → IsSleepAlike (body_at old slot) (body_at new slot)) → IsOfNone slots o → sleep_with new (movers_of_joint new o) ≡ sleep_with old (movers_of_joint old o)
 joint_beside old new slots None others off = refl
-joint_beside old new slots (Some j) others off = tie_alike old new j.a j.b
-    (others j.a (λ h. let own : is_joint_of j.a j ≡ false = off j.a h in let both : true ≡ false = sym (own_first j) ∙ own in cc))
-    (others j.b (λ h. let own : is_joint_of j.b j ≡ false = off j.b h in let both : true ≡ false = sym (own_second j) ∙ own in cc))
-
-pub joints_first : (now : ℕ → Option ℕ) (joints : List (Option BodyJoint)) (slots : List ℕ) (old : List (Option ℕ)) → ((slot : ℕ) → IsOfNone slots (joint_at joints slot) → now slot ≡ sleep_at old slot)
-    → HaveFollowed now (λ slot. IsOfNone (drop 0 slots) (joint_at joints slot)) old old
-joints_first now joints slots old others = record { each = λ slot. inl refl; done = λ slot off. sym (others slot off); long = refl }
-
-pub joints_more : (now : ℕ → Option ℕ) (joints : List (Option BodyJoint)) (ends : List (List ℕ)) (slots : List ℕ) (place body d : ℕ) (old mid new : List (Option ℕ)) → place < length slots → body ≡ get_or slots place d → AreEnds joints ends
-    → HaveFollowed now (λ slot. IsOfNone (drop place slots) (joint_at joints slot)) old mid → HaveFollowed now (Contains (halves (list_at ends body))) mid new → HaveFollowed now (λ slot. IsOfNone (drop (place + 1) slots) (joint_at joints slot)) old new
-joints_more now joints ends slots place body d old mid new lt at are f g =
-    let split : drop place slots ≡ body ∷ drop (suc place) slots = drop-cons slots place d lt ∙ ap (λ (s : ℕ). s ∷ drop (suc place) slots) (sym at) in
-    let either : (slot : ℕ) → IsOfNone (drop (suc place) slots) (joint_at joints slot) → IsOfNone (drop place slots) (joint_at joints slot) ⊎ Contains (halves (list_at ends body)) slot = λ slot off. by slot off split (is_end_in body (joint_at joints slot)) refl in
-    rw add-one (followed_then now (λ slot. IsOfNone (drop place slots) (joint_at joints slot)) (Contains (halves (list_at ends body))) (λ slot. IsOfNone (drop (suc place) slots) (joint_at joints slot)) old mid new either f g)
-  where
-    by : (slot : ℕ) → IsOfNone (drop (suc place) slots) (joint_at joints slot) → drop place slots ≡ body ∷ drop (suc place) slots → (t : Bool) → is_end_in body (joint_at joints slot) ≡ t → IsOfNone (drop place slots) (joint_at joints slot) ⊎ Contains (halves (list_at ends body)) slot
-    by slot off split true e = inr (all_ends joints ends body slot are e)
-    by slot off split false e = inl (λ other c. elim (contains_cases body (drop (suc place) slots) other (subst (λ (l : List ℕ). Contains l other) split c)) [
-      | inl same ↦ subst (λ (b : ℕ). is_end_in b (joint_at joints slot) ≡ false) same e
-      | inr rest ↦ off other rest
-    ])
-
-pub joints_all : (now : ℕ → Option ℕ) (joints : List (Option BodyJoint)) (slots : List ℕ) (place : ℕ) (old new : List (Option ℕ)) → length slots ≤ place → HaveFollowed now (λ slot. IsOfNone (drop place slots) (joint_at joints slot)) old new
-    → (slot : ℕ) → sleep_at new slot ≡ now slot
-joints_all now joints slots place old new le f slot = f.done slot (λ other c. absurd (none_contained other (subst (λ (l : List ℕ). Contains l other) (drop_all place slots le) c)))
+joint_beside old new slots (Some j) others off = let both = both_beside old new slots j.a j.b others off in tie_alike old new j.a j.b both.0 both.1

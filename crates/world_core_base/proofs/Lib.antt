@@ -16,6 +16,7 @@ pub mod FollowLaws
 pub mod SleepingLaws
 pub mod SideLaws
 pub mod AsleepLaws
+pub mod TieSleepLaws
 pub mod JointAsleepLaws
 pub mod ContactAsleepLaws
 pub mod StandingLaws

@@ -2,7 +2,8 @@ use Rattle.std.proofs.Common.{◌<◌, ◌≤◌, Option, length, ap, ◌∙◌,
 use Rattle.contacts.specs.declared.number_book.NumberedContact.{NumberedContact}
 use Rattle.contacts.specs.Numbered.{contact_at}
 use Rattle.world_core_base.specs.Asleep.{contact_sleep, movers_of_contact, sleep_with}
-use Rattle.world_core_base.proofs.ContactAsleepLaws.{contact_below, contact_named, contact_past}
+use Rattle.world_core_base.proofs.ContactAsleepLaws.{contact_named, contact_past}
+use Rattle.world_core_base.proofs.TieSleepLaws.{there_below}
 use Rattle.world_core_base.proofs.FollowLaws.{length_placed, listing_all, listing_first, listing_more}
 use Rattle.world_core_base.proofs.contacts_asleep.list_contacts_asleep.Goals as goal
 
@@ -33,6 +34,6 @@ returns-clause-asleep c =
     let ended : length numbered ≤ c.loop-number.number = omega (arith, c.loop-number-test.false, c.number_bound-count.ensures.numbered) in
     record {
       asleep = listing_all (contact_sleep bodies numbered) c.loop-number.number c.loop-number.sets.names (λ id le. ap (λ (o : Option NumberedContact). sleep_with bodies (movers_of_contact bodies o)) (contact_past numbered id (omega (arith, ended, le)))) c.loop-number.invariant.0;
-      items = λ number on. let below = contact_below numbered number on in let room = c.loop-number.invariant.1.0 in omega (arith, below, room, c.number_bound-count.ensures.numbered);
+      items = λ number on. let below = there_below (contact_at numbered) (length numbered) (contact_past numbered) number on in let room = c.loop-number.invariant.1.0 in omega (arith, below, room, c.number_bound-count.ensures.numbered);
       named = c.loop-number.invariant.1.1;
     }

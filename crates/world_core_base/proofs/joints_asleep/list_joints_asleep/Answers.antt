@@ -4,7 +4,8 @@ use Rattle.plain_world.specs.declared.joint.BodyJoint.{BodyJoint}
 use Rattle.std.specs.Prelude.{Option}
 use Rattle.world_core_base.specs.Asleep.{joint_sleep, movers_of_joint, sleep_with}
 use Rattle.world_core_base.proofs.FollowLaws.{length_placed, listing_all, listing_first, listing_more}
-use Rattle.world_core_base.proofs.JointAsleepLaws.{joint_below, joint_named, joint_past}
+use Rattle.world_core_base.proofs.JointAsleepLaws.{joint_named, joint_past}
+use Rattle.world_core_base.proofs.TieSleepLaws.{there_below}
 use Rattle.world_core_base.proofs.joints_asleep.list_joints_asleep.Goals as goal
 
 pub loop-slot-init : goal.loop-slot-init
@@ -33,6 +34,6 @@ returns-clause-asleep c =
     let ended : length c.args.joints.now ≤ c.loop-slot.slot = omega (arith, c.loop-slot-test.false) in
     record {
       asleep = listing_all (joint_sleep bodies c.args.joints.now) c.loop-slot.slot c.loop-slot.sets.names (λ id le. ap (λ (o : Option BodyJoint). sleep_with bodies (movers_of_joint bodies o)) (joint_past c.args.joints.now id (omega (arith, ended, le)))) c.loop-slot.invariant.0;
-      items = λ slot on. let below = joint_below c.args.joints.now slot on in let room = c.loop-slot.invariant.1.0 in omega (arith, below, room);
+      items = λ slot on. let below = there_below (joint_at c.args.joints.now) (length c.args.joints.now) (joint_past c.args.joints.now) slot on in let room = c.loop-slot.invariant.1.0 in omega (arith, below, room);
       named = c.loop-slot.invariant.1.1;
     }
