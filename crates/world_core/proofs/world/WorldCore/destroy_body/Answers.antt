@@ -1,11 +1,10 @@
-use Rattle.std.proofs.Common.{◌≡◌, ◌∙◌, ◌<◌, ◌^◌, true, Some, sym, ap, arith, refl, List, Option, None, length}
+use Rattle.std.proofs.Common.{◌≡◌, ◌∙◌, ◌<◌, ◌^◌, Some, sym, ap, arith, refl, List, Option, None}
 use Rattle.solver_sets.specs.Ties.{JointSlots}
 use Rattle.world_rules.specs.World.{World, body_named, joints_in_slots}
 use Rattle.world_rules.proofs.KeptChanges.{named_at}
 use Rattle.world_core.specs.contracts.world.WorldCore.{the_view}
-use Rattle.world_core.proofs.GoingLaws.{IsGoing, is_going, there_still}
-use Rattle.world_core.proofs.UpJointLaws.{own_stirred_up}
-use Rattle.world_core.proofs.ChangedJointLaws.{body_leaves, set_beside}
+use Rattle.world_core.proofs.GoingLaws.{IsGoing, contacts_gone, is_going, joints_up, there_still}
+use Rattle.world_core.proofs.ChangedJointLaws.{body_leaves}
 use Rattle.world_core.proofs.LeavingLaws.{destroyed_quietly}
 use Rattle.world_core.proofs.PartLaws.{destroy_answers, entry_fits, kept_of, whole}
 use Rattle.plain_world.specs.declared.body.Body.{Body}
@@ -14,8 +13,6 @@ use Rattle.solver_sets.proofs.SlotLemmas.{item_at-set_none}
 use Rattle.world_core.proofs.CoreLaws.{core_destroyed}
 use Rattle.world_core.proofs.KnownLaws.{marked_after}
 use Rattle.world_core.proofs.ReadyLaws.{core_ready}
-use Rattle.std.proofs.lemmas.List.{length-set}
-use Rattle.world_core.proofs.UpContactLaws.{contacts_leave, own_contact_up}
 use Rattle.world_core.proofs.world.WorldCore.destroy_body.Goals as goal
 use Rattle.world_core.proofs.world.WorldCore.destroy_body.Goals.{After-deref-2}
 
@@ -67,14 +64,11 @@ invariant_of-self-2 c =
     c.wake_planned.new.activity.joint_sets
     (rw (c.clear.ensures.bodies, joints)
     (body_leaves c.wake_planned.new.activity.bodies.bodies c.args.handle.slot (joints_in_slots w.plain) c.wake_planned.new.activity.joint_sets
-    (λ k own. rw (c.wake_planned.ensures.told, leaving.bodies) (own_stirred_up w c.self.inside.activity.sets.acting c.args.handle.slot k c.self.invariant.whole own)) c.wake_planned.ensures.standing))
+    (joints_up leaving c.self.invariant.whole c.wake_planned.new.activity.bodies.bodies c.wake_planned.ensures.told) c.wake_planned.ensures.standing))
     c.drop_of_body.new.self.numbered c.wake_planned.new.activity.contact_sets
-    (contacts_leave c.wake_planned.new.activity.bodies.bodies c.clear.new.self.bodies c.args.handle.slot w.plain.contacts c.self.inside.constraints.contacts.numbered c.drop_of_body.new.self.numbered c.drop_of_body.new.self.made c.drop_of_body.new.self.gone c.wake_planned.new.activity.contact_sets c.know_numbered.ensures.numbered (rw c.drop_of_body.ensures.contacts at c.know_numbered-2.ensures.numbered)
-    c.drop_of_body.ensures.turnover c.drop_of_body.ensures.none
-    (λ e there own touch. rw (c.wake_planned.ensures.told, leaving.bodies) (own_contact_up w c.self.inside.activity.sets.acting c.args.handle.slot e c.self.invariant.whole there own touch))
-    (λ other ne. rw c.clear.ensures.bodies (set_beside c.wake_planned.new.activity.bodies.bodies c.args.handle.slot None other ne))
-    (let long = ap (λ (os : List (Option Body)). length os) c.clear.ensures.bodies ∙ length-set c.wake_planned.new.activity.bodies.bodies c.args.handle.slot None in omega (arith, long))
-    c.wake_planned.ensures.contacts_standing)
+    (contacts_gone leaving c.self.invariant.whole c.wake_planned.new.activity.bodies.bodies c.wake_planned.ensures.told
+    c.clear.new.self.bodies None c.clear.ensures.bodies c.self.inside.constraints.contacts.numbered c.drop_of_body.new.self.numbered c.drop_of_body.new.self.made c.drop_of_body.new.self.gone c.wake_planned.new.activity.contact_sets c.know_numbered.ensures.numbered (rw c.drop_of_body.ensures.contacts at c.know_numbered-2.ensures.numbered)
+    c.drop_of_body.ensures.turnover c.drop_of_body.ensures.none c.wake_planned.ensures.contacts_standing)
 
 pub returns : goal.returns
 returns c =

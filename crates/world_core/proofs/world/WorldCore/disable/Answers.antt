@@ -1,22 +1,20 @@
-use Rattle.std.proofs.Common.{◌≡◌, ◌∙◌, ℕ, ◌<◌, ◌^◌, true, length, List, Option, Some, sym, ap, arith, refl}
+use Rattle.std.proofs.Common.{◌≡◌, ◌∙◌, ◌<◌, ◌^◌, length, Some, sym, arith, refl}
 use Rattle.std.specs.Prelude.{option_map}
 use Rattle.std.proofs.lemmas.List.{length-set}
-use Rattle.plain_world.specs.declared.body.Body.{Body}
 use Rattle.plain_world.specs.Changes.{changed_at, disabled_body}
 use Rattle.plain_world.specs.Joints.{idle_joints, joint_at}
 use Rattle.plain_world.specs.Slots.{body_at}
 use Rattle.world_core.proofs.ChangedJointLaws.{body_changed, disabled_off, idle_ends, set_beside}
-use Rattle.world_core.proofs.UpJointLaws.{off_up, own_stirred_up}
+use Rattle.world_core.proofs.UpJointLaws.{off_up}
 use Rattle.world_rules.specs.World.{World, body_named}
 use Rattle.world_rules.proofs.KeptChanges.{named_at}
 use Rattle.world_core.specs.contracts.world.WorldCore.{the_view}
-use Rattle.world_core.proofs.GoingLaws.{IsGoing, is_going, there_still}
+use Rattle.world_core.proofs.GoingLaws.{IsGoing, contacts_gone, is_going, joints_up, there_still}
 use Rattle.world_core.proofs.LeavingLaws.{disabled_quietly}
 use Rattle.world_core.proofs.PartLaws.{disable_answers, entry_fits, kept_of, whole}
 use Rattle.world_core.proofs.CoreLaws.{core_disabled}
 use Rattle.world_core.proofs.KnownLaws.{marked_after}
 use Rattle.world_core.proofs.ReadyLaws.{core_ready}
-use Rattle.world_core.proofs.UpContactLaws.{contacts_leave, own_contact_up}
 use Rattle.world_core.proofs.world.WorldCore.disable.Goals as goal
 use Rattle.world_core.proofs.world.WorldCore.disable.Goals.{After-deref-2}
 
@@ -69,15 +67,12 @@ invariant_of-self-2 c =
     let long = length-set woke slot (option_map disabled_body (body_at woke slot)) in
     rw (c.disable.ensures.bodies, c.idle.ensures)
     (body_changed woke (changed_at disabled_body woke slot) w.plain.joints (idle_joints slot w.plain.joints) slot c.wake_planned.new.activity.joint_sets (omega (arith, long)) (idle_ends slot w.plain.joints) (set_beside woke slot (option_map disabled_body (body_at woke slot)))
-    (λ k own. rw (c.wake_planned.ensures.told, leaving.bodies) (own_stirred_up w c.self.inside.activity.sets.acting slot k c.self.invariant.whole own))
+    (joints_up leaving c.self.invariant.whole c.wake_planned.new.activity.bodies.bodies c.wake_planned.ensures.told)
     (λ k own. off_up (changed_at disabled_body woke slot) slot (joint_at w.plain.joints k) (disabled_off woke slot there) own) c.wake_planned.ensures.standing))
     c.drop_of_body.new.self.numbered c.wake_planned.new.activity.contact_sets
-    (contacts_leave c.wake_planned.new.activity.bodies.bodies c.disable.new.self.bodies c.args.handle.slot w.plain.contacts c.self.inside.constraints.contacts.numbered c.drop_of_body.new.self.numbered c.drop_of_body.new.self.made c.drop_of_body.new.self.gone c.wake_planned.new.activity.contact_sets c.know_numbered.ensures.numbered (rw c.drop_of_body.ensures.contacts at c.know_numbered-2.ensures.numbered)
-    c.drop_of_body.ensures.turnover c.drop_of_body.ensures.none
-    (λ e there own touch. rw (c.wake_planned.ensures.told, leaving.bodies) (own_contact_up w c.self.inside.activity.sets.acting c.args.handle.slot e c.self.invariant.whole there own touch))
-    (rw c.disable.ensures.bodies (set_beside c.wake_planned.new.activity.bodies.bodies c.args.handle.slot (option_map disabled_body (body_at c.wake_planned.new.activity.bodies.bodies c.args.handle.slot))))
-    (let woke = c.wake_planned.new.activity.bodies.bodies in let long = ap (λ (os : List (Option Body)). length os) c.disable.ensures.bodies ∙ length-set woke c.args.handle.slot (option_map disabled_body (body_at woke c.args.handle.slot)) in omega (arith, long))
-    c.wake_planned.ensures.contacts_standing)
+    (contacts_gone leaving c.self.invariant.whole c.wake_planned.new.activity.bodies.bodies c.wake_planned.ensures.told
+    c.disable.new.self.bodies (option_map disabled_body (body_at c.wake_planned.new.activity.bodies.bodies c.args.handle.slot)) c.disable.ensures.bodies c.self.inside.constraints.contacts.numbered c.drop_of_body.new.self.numbered c.drop_of_body.new.self.made c.drop_of_body.new.self.gone c.wake_planned.new.activity.contact_sets c.know_numbered.ensures.numbered (rw c.drop_of_body.ensures.contacts at c.know_numbered-2.ensures.numbered)
+    c.drop_of_body.ensures.turnover c.drop_of_body.ensures.none c.wake_planned.ensures.contacts_standing)
 
 pub returns : goal.returns
 returns c =
