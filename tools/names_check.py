@@ -84,7 +84,8 @@ class Module:
         self.code = rust_code(text)
         self.words = set(WORD.findall(self.code))
         plain = ghost_free(self.code)
-        self.items, self.methods, self.variants = {}, set(), {}
+        # (functions that call one another are proved together, under the name of their cycle)
+        self.items, self.methods, self.variants = {}, set(re.findall(r"#\[cycle\((\w+)\)\]", plain)), {}
         for found in ITEM.finditer(plain):
             indent = len(found.group(0)) - len(found.group(0).lstrip(" \t\n"))
             seen = "own" if not found["seen"] else "crate" if found["where"] else "all"
