@@ -25,7 +25,7 @@ use Rattle.world_file_base.specs.SavedSlots.{bodies_in, body_key, joint_key, joi
 use Rattle.world_file_base.specs.AskedSlots.{bodies_asks, joints_asks, slots_asks}
 use Rattle.world_file_base.specs.SavedTotals.{total_data, totals_data, totals_members}
 use Rattle.world_file_base.specs.Versions.{most_slots}
-use Rattle.world_file_base.specs.Written.{Member, list_data, natural, vector_of}
+use Rattle.world_file_base.specs.Written.{list_data, natural, vector_of}
 use Rattle.world_file_base.specs.declared.clause.Broken.{Broken}
 use Rattle.world_file_base.specs.declared.clause.Clause.TheVariants.{Limits}
 use Rattle.world_file_base.specs.declared.reader.Reader.{Reader}
@@ -34,7 +34,7 @@ use Rattle.world_file_base.specs.declared.version.Version.TheVariants.{Second}
 use Rattle.world_file.specs.Clauses.{first_unfit}
 use Rattle.world_file.proofs.FirstBroken.{found_unfit}
 use Rattle.world_file_base.specs.declared.clause.Clause.{Clause}
-use Rattle.world_file.specs.Files.{plain_of}
+use Rattle.world_file.specs.Files.{plain_of, world_members}
 use Rattle.world_file.specs.Parts.{parts_of}
 use Rattle.world_file.specs.Saved.{calls_in, most_calls, most_ticks, saved_in, slow_ticks, steps_in}
 use Rattle.world_file.specs.AskedParts.{heads_asks, parts_asks, fitting_asks, IsBrokenBy}
@@ -91,20 +91,8 @@ totals_stand lead t a b c d e f g h i k before begun one two three four five six
 
 -- ---- a world
 
-abbrev world_members : List Data → ℕ → List Data → Vec2 → List Data → Totals → ℕ → List Member
-world_members bodies calls contacts gravity joints totals steps =
-    (codes "bodies", list_data bodies)
-    ∷ (codes "call", natural calls)
-    ∷ (codes "contacts", list_data contacts)
-    ∷ (codes "gravity", vector_of gravity)
-    ∷ (codes "joints", list_data joints)
-    ∷ (codes "ledger", totals_data totals)
-    ∷ (codes "step", natural steps)
-    ∷ (codes "version", natural 2)
-    ∷ []
-
 abbrev world_data : List Data → ℕ → List Data → Vec2 → List Data → Totals → ℕ → Data
-world_data bodies calls contacts gravity joints totals steps = object (in_order (world_members bodies calls contacts gravity joints totals steps))
+world_data bodies calls contacts gravity joints totals steps = object (in_order (world_members (list_data bodies) calls (list_data contacts) gravity (list_data joints) totals steps))
 
 world_depth : (bodies : List Data) (calls : ℕ) (contacts : List Data) (gravity : Vec2) (joints : List Data) (totals : Totals) (steps : ℕ) → depth (list_data bodies) ≤ 7 → depth (list_data contacts) ≤ 5 → depth (list_data joints) ≤ 4 → depth (world_data bodies calls contacts gravity joints totals steps) ≤ 8
 world_depth bodies calls contacts gravity joints totals steps low also more = omega (arith, low, also, more)
@@ -245,7 +233,7 @@ world_stands old s a b c d e f g h i k empty begun bodies call contacts gravity 
     let few_joints = joints.few in
     record {
       value = world_data bs s.calls cs s.gravity js s.totals s.steps;
-      stands = object_stands [] (world_members bs s.calls cs s.gravity js s.totals s.steps) a a b (125 ∷ k) k refl begun members refl refl;
+      stands = object_stands [] (world_members (list_data bs) s.calls (list_data cs) s.gravity (list_data js) s.totals s.steps) a a b (125 ∷ k) k refl begun members refl refl;
       shallow = world_depth bs s.calls cs s.gravity js s.totals s.steps bodies.shallow contacts.shallow joints.shallow;
       few = omega (arith, own, few);
       few_joints = omega (arith, slot_entries, few_joints);

@@ -22,7 +22,7 @@ use Rattle.world_file_base.specs.SavedTotals.{totals_data, totals_members}
 use Rattle.world_file_base.specs.Written.{corners_of, ends_of, integer, list_data, natural, vector_of}
 use Rattle.shapes.specs.declared.shape.Shape.TheVariants.{Circle, Capsule, Segment}
 use Rattle.shapes.specs.declared.shape.ShapeDef.{ShapeDef}
-use Rattle.world_file.specs.Files.{contact_colours, joint_colours, value_of, written_version}
+use Rattle.world_file.specs.Files.{contact_colours, joint_colours, value_of, world_members}
 use Rattle.saved_text.specs.Bodies.{first_of_body, last_of_body, membership_by}
 use Rattle.saved_text.specs.Tokens.{IsObject}
 use Rattle.saved_text.specs.declared.bodies.SavedMembership.{SavedMembership}
@@ -111,15 +111,6 @@ joint_slot_object slot_entries slot_entry j colour = record { is = refl; ascends
 pub totals_object : (t : Totals) → IsObject (totals_members t) (totals_data t)
 totals_object t = record { is = refl; ascends = refl }
 
-pub world_object : (p : Plain) (t : Totals) → IsObject (
-    (codes "bodies", bodies_data p.slot_entries p.bodies p.islands)
-    ∷ (codes "call", natural p.calls)
-    ∷ (codes "contacts", contacts_data p.contacts (contact_colours p.colours p.contacts))
-    ∷ (codes "gravity", vector_of p.gravity)
-    ∷ (codes "joints", joints_data p.slot_entries p.joint_entries p.joints (joint_colours p.colours 0 p.joint_entries))
-    ∷ (codes "ledger", totals_data t)
-    ∷ (codes "step", natural p.steps)
-    ∷ (codes "version", natural written_version)
-    ∷ []) (value_of p t)
+pub world_object : (p : Plain) (t : Totals) → IsObject (world_members (bodies_data p.slot_entries p.bodies p.islands) p.calls (contacts_data p.contacts (contact_colours p.colours p.contacts)) p.gravity (joints_data p.slot_entries p.joint_entries p.joints (joint_colours p.colours 0 p.joint_entries)) t p.steps) (value_of p t)
 unfolding value_of
 world_object p t = record { is = refl; ascends = refl }

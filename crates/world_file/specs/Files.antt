@@ -5,10 +5,11 @@ use Rattle.contacts.specs.declared.constraint.Constraint.{Constraint}
 use Rattle.contacts.specs.declared.constraint.Constraint.TheVariants.{Joint, Contact}
 use Rattle.contacts_base.specs.declared.contact.ContactEntry.{ContactEntry}
 use Rattle.body_handles.specs.declared.slot_table.SlotEntry.{SlotEntry}
+use Rattle.fixed_geom.specs.declared.vectors.Vec2.{Vec2}
 use Rattle.graph_colours.specs.declared.limits.TheConstants.{COLOURS}
 use Rattle.impulse_ledger.specs.declared.totals.Totals.{Totals}
 use Rattle.plain_world.specs.Plain.{Plain, colour_of}
-use Rattle.world_file_base.specs.Written.{natural, object_of, vector_of}
+use Rattle.world_file_base.specs.Written.{Member, natural, object_of, vector_of}
 use Rattle.world_file_base.specs.declared.clause.Clause.{Clause}
 use Rattle.world_file_base.specs.SavedContacts.{contacts_data}
 use Rattle.world_file_base.specs.SavedSlots.{bodies_data, joints_data}
@@ -32,18 +33,29 @@ joint_colours colours slot (place ∷ slot_entries) = colour_of (Joint (record {
 abbrev pub written_version : ℕ
 written_version = 2
 
+-- the members of a world with these bodies, contacts and joints
+abbrev pub world_members : Data → ℕ → Data → Vec2 → Data → Totals → ℕ → List Member
+world_members bodies calls contacts gravity joints totals steps =
+    (codes "bodies", bodies)
+    ∷ (codes "call", natural calls)
+    ∷ (codes "contacts", contacts)
+    ∷ (codes "gravity", vector_of gravity)
+    ∷ (codes "joints", joints)
+    ∷ (codes "ledger", totals_data totals)
+    ∷ (codes "step", natural steps)
+    ∷ (codes "version", natural written_version)
+    ∷ []
+
 -- a world with the totals of its ledger
 unfoldable pub value_of : Plain → Totals → Data
-value_of p t = object_of (
-    (codes "bodies", bodies_data p.slot_entries p.bodies p.islands)
-    ∷ (codes "call", natural p.calls)
-    ∷ (codes "contacts", contacts_data p.contacts (contact_colours p.colours p.contacts))
-    ∷ (codes "gravity", vector_of p.gravity)
-    ∷ (codes "joints", joints_data p.slot_entries p.joint_entries p.joints (joint_colours p.colours 0 p.joint_entries))
-    ∷ (codes "ledger", totals_data t)
-    ∷ (codes "step", natural p.steps)
-    ∷ (codes "version", natural written_version)
-    ∷ [])
+value_of p t = object_of (world_members
+    (bodies_data p.slot_entries p.bodies p.islands)
+    p.calls
+    (contacts_data p.contacts (contact_colours p.colours p.contacts))
+    p.gravity
+    (joints_data p.slot_entries p.joint_entries p.joints (joint_colours p.colours 0 p.joint_entries))
+    t
+    p.steps)
 
 -- ---- the world of a value
 
