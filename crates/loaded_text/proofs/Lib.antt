@@ -8,6 +8,10 @@ pub mod Joined
 pub mod Parts
 pub mod Back
 pub mod Printed
+pub mod Lexemes
+pub mod Keys
+pub mod Copied
+pub mod SavedAlike
 pub mod Lists
 pub mod ShapeLaws
 pub mod BodyKeys

@@ -30,7 +30,7 @@ negative_number n small =
     let other : (head ds == 45) ≡ false = no_minus ds (first_decimal (suc n) (omega arith) (omega (arith, small))) in
     ap (λ (b : Bool). option_and_then after_exponent (option_and_then after_fraction (after_whole (cond b (drop 1 ds) ds)))) (sym other) ∙ IsNumber-decimal (suc n) (omega (arith, small))
 
-number_is : (n : Num) → is_narrow n ≡ true → IsNumber (number_text n)
+pub number_is : (n : Num) → is_narrow n ≡ true → IsNumber (number_text n)
 number_is (unsigned n) narrow = IsNumber-decimal n (grind (arith, nat_tests))
 number_is (negative (pos n)) narrow = cc
 number_is (negative (negsuc n)) narrow = negative_number n (grind (arith, nat_tests))

@@ -1,4 +1,5 @@
 pub mod Leads
+pub mod Canonical
 pub mod Stands
 pub mod Shapes
 pub mod Bodies

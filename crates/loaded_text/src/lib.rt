@@ -1,8 +1,9 @@
 //! A saved world that is read of its text, with no tree of values between.
 //!
 //! What saves write is read so: compact JSON of version 2, the keys of each object ascending, each number within its
-//! limits. Of any other text nothing is answered, and it is read as a value instead, by `world_file`. What is answered
-//! is what `world_file` reads of the value that the text denotes.
+//! limits. A text that says the same with spaces, or with keys in another order, is first written as saves write it
+//! (`canonical`). Of any other text nothing is answered, and it is read as a value instead, by `world_file`. What is
+//! answered is what `world_file` reads of the value that the text denotes.
 //!
 //! Each function takes one part from the front of the text. Its contract says that a value stands there, printed, of
 //! which the part is read, and that no clause is broken by it.
@@ -14,6 +15,7 @@
 mod bodies;
 mod body_members;
 mod body_slots;
+mod canonical;
 mod forms;
 mod heads;
 mod items;

@@ -4,6 +4,7 @@ ghost use Rattle.std.specs.Prelude.{IfSome, MatchResult};
 ghost use Rattle.loaded_text.specs.Worlds.{IsEmpty, IsReadOf, IsRefusedOf, IsSavedText, WorldStands};
 
 use crate::body_slots::add_bodies;
+use crate::canonical::canonical_text;
 use crate::heads::are_heads_fitting;
 use crate::joint_slots::add_joints;
 use crate::leaves::read_natural;
@@ -89,13 +90,33 @@ fn saved_of(alloc: Global, text: &[u8]) -> Option<Saved>
     Some(saved)
 }
 
-/// The world that a text saves, and the totals of its ledger, if the text is one that is written of a world: compact,
-/// in version 2, the keys of each object ascending, its numbers within their limits. The first of the clauses is
-/// answered that its parts break together. Nothing is answered of another text, nor where memory was wanting before the
-/// text's end.
+/// What a text saves, if one that says the same as saves write it is one that is written of a world.
+fn saved_otherwise(alloc: Global, text: &[u8]) -> Option<Saved>
+    ensures { IfSome result (IsSavedText text.now) }
+{
+    let written = canonical_text(alloc, text)?;
+    if written.as_slice() == text {
+        return None;
+    }
+    saved_of(alloc, written.as_slice())
+}
+
+fn saved_in(alloc: Global, text: &[u8]) -> Option<Saved>
+    ensures { IfSome result (IsSavedText text.now) }
+{
+    if let Some(saved) = saved_of(alloc, text) {
+        return Some(saved);
+    }
+    saved_otherwise(alloc, text)
+}
+
+/// The world that a text saves, and the totals of its ledger, if the text says in JSON what is written of a world: in
+/// version 2, its numbers within their limits. Spaces may stand between its parts, and the keys of each object in any
+/// order. The first of the clauses is answered that its parts break together. Nothing is answered of another text, nor
+/// of one with escapes or a key twice in one object, nor where memory was wanting before the text's end.
 pub fn read_text(alloc: Global, text: &[u8]) -> Option<Result<(Plain, Totals), Broken>>
     ensures { IfSome result (λ answer. MatchResult answer (IsReadOf text.now) (IsRefusedOf text.now)) }
 {
-    let saved = saved_of(alloc, text)?;
+    let saved = saved_in(alloc, text)?;
     Some(fit(alloc, saved))
 }

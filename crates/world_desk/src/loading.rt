@@ -10,8 +10,8 @@ use serde_json::Value;
 use std::alloc::Global;
 use world_core::{Broken, WorldCore};
 
-/// The world of a text that a save wrote, which is read with no value of it. Nothing is answered of any other text: it
-/// is to be read as a value.
+/// The world of a text that says what a save writes, with any spaces and its keys in any order, which is read with no
+/// value of it. Nothing is answered of any other text: it is to be read as a value.
 pub fn read_world(alloc: Global, text: &[u8]) -> Option<Result<WorldCore, Broken>>
     ensures { IfSome result (λ r. MatchResult r (IsLoaded text.now) (BreaksOf (read text.now))) }
 {
