@@ -12,7 +12,7 @@ use Rattle.serde_json.specs.View.{items_of}
 use Rattle.serde_json.specs.Written.{compact_text, items_text, members_text}
 use Rattle.saved_text.specs.Whole.{are_items_whole, are_members_whole, is_whole}
 use Rattle.loaded_text.specs.Canonical.{Held, IsCanonical, IsCopied, IsKey, IsLeaf, IsMember, ItemsSoFar, MembersSoFar, Named, Told, each_named, each_said, each_value, member_text, named_text, put_all}
-use Rattle.loaded_text.specs.declared.canonical.Piece.{Piece}
+use Rattle.loaded_text.specs.declared.pieces.Piece.{Piece}
 use Rattle.loaded_text.proofs.Keys.{EndsObject, none_held, object_ends, put_shallow}
 use Rattle.loaded_text.proofs.Lexemes.{allowed, key_placed, none_left, operator_first}
 use Rattle.loaded_text.proofs.Printed.{read_printed}

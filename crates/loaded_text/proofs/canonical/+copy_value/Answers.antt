@@ -55,7 +55,7 @@ pub copy_members-returns-then-mark-2 : goal.copy_members-returns-then-mark-2
 copy_members-returns-then-mark-2 t c =
     let depth : c.in_ok-inner.inner + 1 ≡ c.args.depth = grind (arith, c.in_ok-inner.ensures) in
     let start = lex between c.mark.new.self.rest.now in
-    let sum : length c.loop.out.items + c.in_ok-size.size ≡ length c.copy_member.new.out.items = ap (λ (n : ℕ). n + c.in_ok-size.size) (sym c.size_of-before.ensures) ∙ c.in_ok-size.ensures in
+    let sum : length c.loop.out.items + c.in_ok-size.size ≡ length c.copy_member.new.out.items = ap (λ (n : ℕ). n + c.in_ok-size.size) (sym c.count_bytes-before.ensures) ∙ c.in_ok-size.ensures in
     if_some c.close.result
     (λ u closes. copied_from c.args.depth (token begin_object ∷ lex between c.args.text.now.rest.now) (token begin_object ∷ start) (lex between c.mark-in-loop.new.self.rest.now) c.args.out.now.items c.close.new.out.items
     (ap (λ l. token begin_object ∷ l) (sym (c.mark.ensures.kept c.if-mark.false)))
@@ -66,7 +66,7 @@ copy_members-returns-then-mark-2 t c =
 
 pub copy_members-loop-preserved : goal.copy_members-loop-preserved
 copy_members-loop-preserved t c =
-    let sum : length c.loop.out.items + c.in_ok-size.size ≡ length c.copy_member.new.out.items = ap (λ (n : ℕ). n + c.in_ok-size.size) (sym c.size_of-before.ensures) ∙ c.in_ok-size.ensures in
+    let sum : length c.loop.out.items + c.in_ok-size.size ≡ length c.copy_member.new.out.items = ap (λ (n : ℕ). n + c.in_ok-size.size) (sym c.count_bytes-before.ensures) ∙ c.in_ok-size.ensures in
     member_then c.in_ok-inner.inner (lex between c.mark.new.self.rest.now) (lex between c.loop.text.rest.now) (lex between c.copy_member.new.text.rest.now) c.mark-in-loop-2.new.self.rest.now c.in_ok-key.key.now c.put_byte.new.out.items c.loop.out.items
     c.copy_member.new.out.items c.settle.new.out.items c.in_ok-size.size c.loop.pieces.items c.settle.new.pieces.items c.loop.invariant c.in_ok-key.ensures sum c.in_ok-settle.ensures
     (sym (c.mark-in-loop.ensures.kept c.if-mark-2.false) ∙ c.mark-in-loop-2.ensures.taken c.if-not-mark.false)
