@@ -98,11 +98,10 @@ fn step_scoped<R: Threads + Wait + Sync, G: Gate + Sync>(
 
 /// Makes a step with workers that start for it. Another world stands in this one's place meanwhile, since what a scope
 /// changes behind a reference can't be told.
-fn step_apart<R: Threads + Wait + Sync, G: Gate + Sync>(
+fn step_apart<R: AllocGlobal + Threads + Wait + Sync, G: Gate + Sync>(
     world: &mut WorldCore,
     aside: WorldCore,
     rt: &R,
-    alloc: Global,
     gate: &G,
     workers: usize,
     ticks: i64,
@@ -119,7 +118,7 @@ fn step_apart<R: Threads + Wait + Sync, G: Gate + Sync>(
     let Done {
         world: made,
         answer,
-    } = step_scoped(rt, alloc, gate, workers, task);
+    } = step_scoped(rt, rt.alloc(), gate, workers, task);
     drop(mem::replace(world, made));
     answer
 }
@@ -151,6 +150,6 @@ pub fn step_with<R: AllocGlobal + Threads + Wait + Sync, G: Gate + Sync>(
     let alloc = rt.alloc();
     match WorldCore::new(alloc, ZERO_VECTOR) {
         Err(refused) => Err(refused),
-        Ok(aside) => step_apart(world, aside, rt, alloc, gate, workers as usize, ticks),
+        Ok(aside) => step_apart(world, aside, rt, gate, workers as usize, ticks),
     }
 }
