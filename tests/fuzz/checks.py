@@ -138,6 +138,25 @@ def load_of(saved):
     return b'{"do":"load",' + saved[1:]
 
 
+def spaced(value, chance):
+    """A value as JSON with spaces between its parts, and the keys of its objects in any order."""
+
+    def gap():
+        return chance.choice(("", "", " ", "  ", "\t", " \r"))
+
+    if isinstance(value, dict):
+        members = [f"{gap()}{json.dumps(key)}{gap()}:{spaced(part, chance)}" for key, part in chance.sample([*value.items()], len(value))]
+        return f"{gap()}{{{','.join(members) or gap()}}}{gap()}"
+    if isinstance(value, list):
+        return f"{gap()}[{','.join(spaced(part, chance) for part in value) or gap()}]{gap()}"
+    return f"{gap()}{json.dumps(value)}{gap()}"
+
+
+def spaced_load_of(world, chance):
+    """A line that loads a world whose text no save writes."""
+    return b'{"do":"load","world":%s}' % spaced(world, chance).encode()
+
+
 def ids_in(world):
     return [f'{slot}.{entry["generation"]}' for slot, entry in enumerate(world["bodies"]) if "body" in entry]
 
@@ -232,11 +251,13 @@ class Checks:
             raise Broken("the ledger's total isn't the sum of all momenta that are shown", lines)
 
     def saves_load(self):
-        """What was saved loads, and is saved to the same bytes."""
-        if not can_be_loaded(json.loads(self.saved)["world"]):
+        """What was saved loads, also with spaces and its keys in another order, and is saved to the same bytes."""
+        world = json.loads(self.saved)["world"]
+        if not can_be_loaded(world):
             return
-        lines = [load_of(self.saved), SAVE]
-        must_be_same("a save that is loaded and saved", lines, [b'{"done":true}', self.saved], self.run(lines).texts)
+        for load in (load_of(self.saved), spaced_load_of(world, self.random)):
+            lines = [load, SAVE]
+            must_be_same("a save that is loaded and saved", lines, [b'{"done":true}', self.saved], self.run(lines).texts)
 
     def cut_in_two(self):
         """A script that is cut in two by save and load gives the same answers and ends in the same world."""
@@ -320,6 +341,8 @@ class Checks:
         load = compact({"do": "load", "world": world})
         lines = [load, SAVE, *[b'{"do":"step","ticks":%d}' % ticks for ticks in (1, 8, 1)], SAVE, LEDGER]
         run = self.run(lines)
+        other = [spaced_load_of(world, self.random), *lines[1:]]
+        must_be_same("a changed world with spaces, its keys in another order", other, run.texts, self.run(other).texts)
         first = run.answers[0]
         if "refused" in first:
             if first["refused"] != 12 or not 1 <= first["clause"] <= 10:
