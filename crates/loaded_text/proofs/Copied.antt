@@ -1,19 +1,19 @@
 -- Values that are printed as they are read.
-use Rattle.std.proofs.Common.{◌≡◌, ℕ, ◌+◌, ◌≤◌, ◌&&◌, ◌++◌, ◌∷◌, [], Bool, true, false, max, List, length, Option, Some, option_and_then, option_map, refl, sym, ap, ap₂, subst, ◌∙◌, arith, append_assoc, append-nil, length-append}
+use Rattle.std.proofs.Common.{◌≡◌, ℕ, ◌+◌, ◌≤◌, ◌++◌, ◌∷◌, [], Bool, true, false, max, List, length, Option, Some, option_and_then, option_map, refl, sym, ap, subst, ◌∙◌, arith, append_assoc, append-nil, length-append}
 use Rattle.std.proofs.lemmas.Bool.{and_from}
 use Rattle.json.specs.Json as json
 use Rattle.json.specs.Lex.{Lexeme, Place, after_comma, after_value, begins_colon, between, colon, comma, fresh, lex, may_begin, punctuate, token, tokens}
 use Rattle.json.specs.Token.{Token, begin_array, begin_object, end_array, end_object}
 use Rattle.json.specs.Tree as tree
 use Rattle.json.proofs.Printed.Trees.{value-json_tokens}
-use Rattle.serde_json.specs.Data.{Data, Items, Members, array, depth, item, items_depth, members_depth, no_items, no_members, object, put}
+use Rattle.serde_json.specs.Data.{Data, Members, array, depth, item, items_depth, members_depth, no_members, object, put}
 use Rattle.serde_json.specs.Read.{max_depth, of_items, of_json, of_members, read}
 use Rattle.serde_json.specs.View.{items_of}
 use Rattle.serde_json.specs.Written.{compact_text, items_text, members_text}
 use Rattle.saved_text.specs.Whole.{are_items_whole, are_members_whole, is_whole}
-use Rattle.loaded_text.specs.Canonical.{Held, IsCanonical, IsCopied, IsKey, IsLeaf, IsMember, ItemsSoFar, MembersSoFar, Named, Told, each_named, each_said, each_value, member_text, named_text, put_all}
+use Rattle.loaded_text.specs.Canonical.{Held, IsCanonical, IsCopied, IsKey, IsLeaf, IsMember, IsSorted, ItemsSoFar, MembersSoFar, Named, Told, each_named, each_said, each_value, member_text, named_text, put_all}
 use Rattle.loaded_text.specs.declared.pieces.Piece.{Piece}
-use Rattle.loaded_text.proofs.Keys.{EndsObject, none_held, object_ends, put_shallow}
+use Rattle.loaded_text.proofs.Keys.{none_held, object_ends, put_shallow}
 use Rattle.loaded_text.proofs.Lexemes.{allowed, key_placed, none_left, operator_first}
 use Rattle.loaded_text.proofs.Printed.{read_printed}
 
@@ -235,71 +235,78 @@ member_copied deep key old mid new before one two three named copied pushed = re
       ∙ append_assoc (before ++ named_text key) (compact_text copied.told.value) (44 ∷ []) ∙ append_assoc before (named_text key) (compact_text copied.told.value ++ 44 ∷ []);
 }
 
-pub no_members_yet : (deep : ℕ) (start : List Lexeme) (front : List ℕ) (pieces : List Piece) → pieces ≡ [] → MembersSoFar deep start start front pieces front
+pub no_members_yet : (deep : ℕ) (start : List Lexeme) (front : List ℕ) (pieces : List Piece) → pieces ≡ [] → MembersSoFar deep start start front false pieces front
 no_members_yet deep start front pieces none = record {
   members = [];
   place = fresh;
   begins = refl;
   tokens = refl;
-  held = subst (λ (ps : List Piece). Held front no_members ps front) (sym none) (none_held front);
+  held = subst (λ (ps : List Piece). Held front no_members false ps front) (sym none) (none_held front);
 }
 
 -- what was settled of a member
-abbrev pub Settles : List ℕ → ℕ → List Piece → List Piece → List ℕ → List ℕ → Type 0
-Settles key size pieces new_pieces out new_out =
-    (front before : List ℕ) (found : Members) (d : Data) → Held front found pieces before → is_whole d ≡ true → out ≡ before ++ member_text (key, d) → size ≡ length (member_text (key, d)) → Held front (put key d found) new_pieces new_out
+abbrev pub Settles : List ℕ → ℕ → ℕ → Bool → Bool → List Piece → List Piece → Type 0
+Settles key start size mixed now_mixed pieces new_pieces =
+    (front before after : List ℕ) (found : Members) (d : Data) → Held front found mixed pieces before → is_whole d ≡ true → after ≡ before ++ member_text (key, d) → length before ≡ start → size ≡ length (member_text (key, d))
+    → Held front (put key d found) now_mixed new_pieces after
 
-size_of : (before part out : List ℕ) (size : ℕ) → out ≡ before ++ part → length before + size ≡ length out → size ≡ length part
-size_of before part out size is sum = let all = ap length is ∙ length-append before part in omega (arith, sum, all)
+size_of : (before part out : List ℕ) (start size : ℕ) → out ≡ before ++ part → length before ≡ start → start + size ≡ length out → size ≡ length part
+size_of before part out start size is starts sum = let all = ap length is ∙ length-append before part in omega (arith, sum, all, starts)
 
-settled_more : (deep : ℕ) (now mid : List Lexeme) (key front out one two : List ℕ) (size : ℕ) (pieces new_pieces : List Piece) (found : Members) → Held front found pieces out → (m : IsMember deep key now mid out one)
-    → length out + size ≡ length one → Settles key size pieces new_pieces one two → Held front (put key m.told.value found) new_pieces two
-settled_more deep now mid key front out one two size pieces new_pieces found held m sum settles =
-    settles front out found m.told.value held m.told.whole m.printed (size_of out (member_text (key, m.told.value)) one size m.printed sum)
+-- a member whose bytes are counted
+pub record Counted (start size : ℕ) (before after : List ℕ) : Type 0 where
+  pub begins : length before ≡ start
+  pub sum : start + size ≡ length after
 
-pub member_then : (deep : ℕ) (start now mid : List Lexeme) (next key front out one two : List ℕ) (size : ℕ) (pieces new_pieces : List Piece) → MembersSoFar deep start now front pieces out → IsMember deep key now mid out one
-    → length out + size ≡ length one → Settles key size pieces new_pieces one two → mid ≡ lex between (44 ∷ next) → MembersSoFar deep start (lex between next) front new_pieces two
-member_then deep start now mid next key front out one two size pieces new_pieces so_far m sum settles marked =
-    let named : Named deep = record { key = key; told = m.told } in
-    let mark : mid ≡ comma ∷ lex between next = marked ∙ operator_first 44 next refl in
-    record {
-      members = so_far.members ++ named ∷ [];
-      place = after_comma;
-      begins = refl;
-      tokens =
-          so_far.tokens ∙ ap (λ l. each_named so_far.members ++ l) (m.tokens so_far.place so_far.begins (no_colon comma mid _ mark refl))
-          ∙ ap (λ l. each_named so_far.members ++ Token.key key ∷ (tree.json_tokens m.told.said ++ l)) (ap (punctuate after_value) mark ∙ comma_passed (lex between next))
-          ∙ sym (append_assoc (each_named so_far.members) (Token.key key ∷ tree.json_tokens m.told.said) (punctuate after_comma (lex between next)))
-          ∙ ap (λ l. l ++ punctuate after_comma (lex between next)) (sym (each_named_more so_far.members named));
-      held = subst (λ (ms : Members). Held front ms new_pieces two) (sym (put_all_more so_far.members named no_members))
-          (settled_more deep now mid key front out one two size pieces new_pieces (put_all so_far.members no_members) so_far.held m sum settles);
-    }
+module _ (deep : ℕ) (start now mid : List Lexeme) (key front out one : List ℕ) (begin size : ℕ) (mixed now_mixed : Bool) (pieces new_pieces : List Piece) (so_far : MembersSoFar deep start now front mixed pieces out) (m : IsMember deep key now mid out one)
+    (count : Counted begin size out one) (settles : Settles key begin size mixed now_mixed pieces new_pieces) where
+  abbrev named : Named deep
+  named = record { key = key; told = m.told }
 
-pub members_end : (deep above : ℕ) (start now mid : List Lexeme) (next key before front out one two three : List ℕ) (size : ℕ) (pieces new_pieces : List Piece) → deep + 1 ≡ above → front ≡ before ++ 123 ∷ [] → MembersSoFar deep start now front pieces out
-    → IsMember deep key now mid out one → length out + size ≡ length one → Settles key size pieces new_pieces one two → mid ≡ lex between (125 ∷ next)
-    → ((l : List ℕ) (byte : ℕ) → two ≡ l ++ byte ∷ [] → three ≡ l ++ 125 ∷ []) → IsCopied above (token begin_object ∷ start) (lex between next) before three
-members_end deep above start now mid next key before front out one two three size pieces new_pieces deeper opened so_far m sum settles marked closes =
-    let named : Named deep = record { key = key; told = m.told } in
-    let found = put_all so_far.members no_members in
-    let held = settled_more deep now mid key front out one two size pieces new_pieces found so_far.held m sum settles in
-    let all = so_far.members ++ named ∷ [] in
-    let same = put_all_more so_far.members named no_members in
-    let mark : mid ≡ token end_object ∷ lex between next = marked ∙ operator_first 125 next refl in
-    let after = punctuate after_value (lex between next) in
-    let ends = object_ends front key m.told.value found new_pieces two held in
-    record {
-      told = object_told all above deeper (ap are_members_whole (same ∙ held.is) ∙ held.whole);
-      tokens = λ p may none.
-          object_opened p start may
-          ∙ ap (λ l. begin_object ∷ l)
-          (so_far.tokens ∙ ap (λ l. each_named so_far.members ++ l) (m.tokens so_far.place so_far.begins (no_colon (token end_object) mid _ mark refl))
-          ∙ ap (λ l. each_named so_far.members ++ Token.key key ∷ (tree.json_tokens m.told.said ++ l)) (ap (punctuate after_value) mark ∙ object_closed fresh (lex between next))
-          ∙ sym (append_assoc (each_named so_far.members) (Token.key key ∷ tree.json_tokens m.told.said) (end_object ∷ after))
-          ∙ ap (λ l. l ++ end_object ∷ after) (sym (each_named_more so_far.members named)) ∙ named_closed all after);
-      printed =
-          closes ends.body 44 ends.with_comma ∙ ends.with_brace ∙ ap (λ ms. front ++ members_text false ms) (sym same) ∙ ap (λ l. l ++ members_text false (put_all all no_members)) opened
-          ∙ append_assoc before (123 ∷ []) (members_text false (put_all all no_members));
-    }
+  abbrev found : Members
+  found = put_all so_far.members no_members
+
+  held_more : Held front (put key m.told.value found) now_mixed new_pieces one
+  held_more = settles front out one found m.told.value so_far.held m.told.whole m.printed count.begins (size_of out (member_text (key, m.told.value)) one begin size m.printed count.begins count.sum)
+
+  pub member_then : (next : List ℕ) → mid ≡ lex between (44 ∷ next) → MembersSoFar deep start (lex between next) front now_mixed new_pieces one
+  member_then next marked =
+      let mark : mid ≡ comma ∷ lex between next = marked ∙ operator_first 44 next refl in
+      record {
+        members = so_far.members ++ named ∷ [];
+        place = after_comma;
+        begins = refl;
+        tokens =
+            so_far.tokens ∙ ap (λ l. each_named so_far.members ++ l) (m.tokens so_far.place so_far.begins (no_colon comma mid _ mark refl))
+            ∙ ap (λ l. each_named so_far.members ++ Token.key key ∷ (tree.json_tokens m.told.said ++ l)) (ap (punctuate after_value) mark ∙ comma_passed (lex between next))
+            ∙ sym (append_assoc (each_named so_far.members) (Token.key key ∷ tree.json_tokens m.told.said) (punctuate after_comma (lex between next)))
+            ∙ ap (λ l. l ++ punctuate after_comma (lex between next)) (sym (each_named_more so_far.members named));
+        held = subst (λ (ms : Members). Held front ms now_mixed new_pieces one) (sym (put_all_more so_far.members named no_members)) held_more;
+      }
+
+  pub members_end : (above : ℕ) (next before two three : List ℕ) → deep + 1 ≡ above → front ≡ before ++ 123 ∷ []
+      → ((l : List ℕ) (found : Members) → length l ≡ length front → Held l found now_mixed new_pieces one → IsSorted l found two) → mid ≡ lex between (125 ∷ next)
+      → ((l : List ℕ) (byte : ℕ) → two ≡ l ++ byte ∷ [] → three ≡ l ++ 125 ∷ []) → IsCopied above (token begin_object ∷ start) (lex between next) before three
+  members_end above next before two three deeper opened sorts marked closes =
+      let all = so_far.members ++ named ∷ [] in
+      let same = put_all_more so_far.members named no_members in
+      let mark : mid ≡ token end_object ∷ lex between next = marked ∙ operator_first 125 next refl in
+      let after = punctuate after_value (lex between next) in
+      let held = held_more in
+      let ends = object_ends front key m.told.value found two (sorts front (put key m.told.value found) refl held) in
+      record {
+        told = object_told all above deeper (ap are_members_whole (same ∙ held.is) ∙ held.whole);
+        tokens = λ p may none.
+            object_opened p start may
+            ∙ ap (λ l. begin_object ∷ l)
+            (so_far.tokens ∙ ap (λ l. each_named so_far.members ++ l) (m.tokens so_far.place so_far.begins (no_colon (token end_object) mid _ mark refl))
+            ∙ ap (λ l. each_named so_far.members ++ Token.key key ∷ (tree.json_tokens m.told.said ++ l)) (ap (punctuate after_value) mark ∙ object_closed fresh (lex between next))
+            ∙ sym (append_assoc (each_named so_far.members) (Token.key key ∷ tree.json_tokens m.told.said) (end_object ∷ after))
+            ∙ ap (λ l. l ++ end_object ∷ after) (sym (each_named_more so_far.members named)) ∙ named_closed all after);
+        printed =
+            closes ends.body 44 ends.with_comma ∙ ends.with_brace ∙ ap (λ ms. front ++ members_text false ms) (sym same) ∙ ap (λ l. l ++ members_text false (put_all all no_members)) opened
+            ∙ append_assoc before (123 ∷ []) (members_text false (put_all all no_members));
+      }
 
 pub no_member_ends : (deep above : ℕ) (start : List Lexeme) (next before front out : List ℕ) → deep + 1 ≡ above → front ≡ before ++ 123 ∷ [] → out ≡ front ++ 125 ∷ [] → start ≡ lex between (125 ∷ next) → IsCopied above (token begin_object ∷ start) (lex between next) before out
 no_member_ends deep above start next before front out deeper opened closed marked = record {

@@ -1,15 +1,14 @@
 -- Lexemes at the front of a text.
-use Rattle.std.proofs.Common.{◌≡◌, ℕ, suc, ◌+◌, ◌^◌, ◌<◌, ◌++◌, ◌∷◌, ◌==◌, ◌||◌, ◌⊎◌, inl, inr, [], Bool, true, false, cond, get_or, length, take, List, Option, Some, option_map, decimal, refl, sym, ap, ap₂, subst, ◌∙◌, arith, append_assoc, unsigned_abs}
+use Rattle.std.proofs.Common.{◌≡◌, ℕ, ◌+◌, ◌^◌, ◌<◌, ◌++◌, ◌∷◌, ◌==◌, ◌||◌, ◌⊎◌, inl, inr, [], Bool, true, false, cond, get_or, length, take, List, Some, option_map, refl, sym, ap, ap₂, subst, ◌∙◌, arith, append_assoc}
 use Rattle.std.specs.Prelude.{ℤ, nat_lt, pos, negsuc}
 use Rattle.std.proofs.lemmas.Bool.{eqb-false, eqb-true, ltb-false, lt-ltb, not-true, or_cases, or_parts}
 use Rattle.std.proofs.lemmas.List.{take_more}
 use Rattle.std.proofs.lemmas.Bool.Decides.{nat_tests}
 use Rattle.json.specs.Json as json
-use Rattle.json.specs.Lex.{Class, Lexeme, Place, after_value, begins_colon, between, class, colon, if_allowed, lex, lex_byte, may_begin, operator, operator_lexeme, place_token, punctuate, string_token, token}
+use Rattle.json.specs.Lex.{Lexeme, Place, after_value, begins_colon, between, class, colon, if_allowed, lex, lex_byte, may_begin, operator, operator_lexeme, place_token, punctuate, string_token, token}
 use Rattle.json.specs.Print.{escape, quoted}
 use Rattle.json.specs.Run.{is_plain}
 use Rattle.json.specs.Token.{Token}
-use Rattle.json.specs.Tree as tree
 use Rattle.json.specs.Word.{ends_word, is_space, word}
 use Rattle.json.proofs.Printed.Numbers.{in_word-ended, lex-number}
 use Rattle.json.proofs.Printed.Strings.{content-escape, lex-escape}
@@ -19,7 +18,7 @@ use Rattle.serde_json.specs.Written.{compact_text, number_text}
 use Rattle.serde_json.proofs.Numbers.{number_of-decimal, number_of-negative}
 use Rattle.saved_text.specs.Whole.{is_narrow}
 use Rattle.world_file_base.specs.Written.{integer, natural}
-use Rattle.loaded_text.specs.Canonical.{IsBare, IsKey, IsLeaf, IsPlainText, Told}
+use Rattle.loaded_text.specs.Canonical.{IsBare, IsKey, IsLeaf, IsPlainText}
 use Rattle.loaded_text.specs.Leads.{IsSigned}
 use Rattle.loaded_text.proofs.Plain.{escape_both, escape_plain, quoted_stands}
 use Rattle.loaded_text.proofs.Printed.{number_is}
@@ -167,4 +166,11 @@ pub key_is : (key start old new one two out before : List ℕ) → lex between o
 key_is key start old new one two out before passed plain copied marked pushed = record {
   lexemes = sym passed ∙ quoted_first key old new plain ∙ ap (λ l. token (Token.string key) ∷ l) (marked ∙ operator_first 58 two refl);
   printed = pushed ∙ ap (λ l. l ++ 58 ∷ []) (copied (quoted key) (quoted_is key old new plain)) ∙ append_assoc before (quoted key) (58 ∷ []);
+}
+
+-- the same with no space before the colon
+pub key_at_once : (key start old new two out before : List ℕ) → lex between old ≡ lex between start → IsPlainText key old new → new ≡ 58 ∷ two → ((part : List ℕ) → old ≡ part ++ two → out ≡ before ++ part) → IsKey key start two before out
+key_at_once key start old new two out before passed plain next copied = record {
+  lexemes = sym passed ∙ quoted_first key old new plain ∙ ap (λ l. token (Token.string key) ∷ l) (ap (lex between) next ∙ operator_first 58 two refl);
+  printed = copied (quoted key ++ 58 ∷ []) (quoted_is key old new plain ∙ ap (λ l. quoted key ++ l) next ∙ sym (append_assoc (quoted key) (58 ∷ []) two));
 }

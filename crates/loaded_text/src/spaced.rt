@@ -17,6 +17,7 @@ fn is_plain(byte: u8) -> bool
 }
 
 /// How many bytes from the first on stand for themselves between quotes.
+#[inline(never)]
 fn plain_size(bytes: &[u8]) -> usize
     ensures within { result ≤ length bytes.now }
     ensures plain { escape (take result bytes.now) ≡ take result bytes.now }
@@ -54,7 +55,7 @@ impl<'a> Text<'a> {
     }
 
     /// Takes this byte if it stands first.
-    fn take_byte(&mut self, byte: u8) -> bool
+    pub(crate) fn take_byte(&mut self, byte: u8) -> bool
         ensures taken { result ≡ true → self.old.rest.now ≡ byte ∷ self.new.rest.now }
         ensures kept { result ≡ false → self.new.rest.now ≡ self.old.rest.now }
     {
@@ -77,7 +78,7 @@ impl<'a> Text<'a> {
     }
 
     /// Whether a word has ended before what is left.
-    fn is_word_over(&self) -> bool
+    pub(crate) fn is_word_over(&self) -> bool
         ensures { result ≡ ends_word self.now.rest.now }
     {
         match self.rest.first() {
@@ -103,7 +104,7 @@ impl<'a> Text<'a> {
     }
 
     /// A whole number of 64 bits.
-    fn bare_number(&mut self) -> Option<()>
+    pub(crate) fn bare_number(&mut self) -> Option<()>
         ensures { IfSome result (λ _. IsBare self.old.rest.now self.new.rest.now) }
     {
         if self.rest.first() == Some(&b'-') {
@@ -114,8 +115,8 @@ impl<'a> Text<'a> {
         Some(())
     }
 
-    /// A truth, null or a whole number of 64 bits.
-    fn bare_word(&mut self) -> Option<()>
+    /// A truth or null.
+    pub(crate) fn bare_word(&mut self) -> Option<()>
         ensures { IfSome result (λ _. IsBare self.old.rest.now self.new.rest.now) }
     {
         if self.take(b"true") {
@@ -126,6 +127,16 @@ impl<'a> Text<'a> {
         }
         if self.take(b"null") {
             return Some(());
+        }
+        None
+    }
+
+    /// A truth, null or a whole number of 64 bits.
+    pub(crate) fn bare(&mut self) -> Option<()>
+        ensures { IfSome result (λ _. IsBare self.old.rest.now self.new.rest.now) }
+    {
+        if *self.rest.first()? > b'9' {
+            return self.bare_word();
         }
         self.bare_number()
     }
@@ -138,7 +149,7 @@ impl<'a> Text<'a> {
             self.plain_text()?;
             return Some(());
         }
-        self.bare_word()?;
+        self.bare()?;
         if self.is_word_over() { Some(()) } else { None }
     }
 }

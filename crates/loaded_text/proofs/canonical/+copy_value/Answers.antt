@@ -1,7 +1,9 @@
-use Rattle.std.proofs.Common.{◌≡◌, ℕ, ◌+◌, ◌∷◌, ap, length, refl, sym, ◌∙◌, arith}
+use Rattle.std.proofs.Common.{◌≡◌, ◌+◌, ◌∷◌, ap, List, refl, subst, sym, ◌∙◌, arith}
 use Rattle.json.specs.Lex.{between, lex, token}
 use Rattle.json.specs.Token.{begin_array, begin_object}
-use Rattle.loaded_text.proofs.Copied.{copied_from, item_then, items_end, member_copied, member_then, members_end, no_item_ends, no_items_yet, no_member_ends, no_members_yet}
+use Rattle.loaded_text.specs.Canonical.{Held}
+use Rattle.loaded_text.specs.declared.pieces.Piece.{Piece}
+use Rattle.loaded_text.proofs.Copied.{Counted, copied_from, item_then, items_end, member_copied, member_then, members_end, no_item_ends, no_items_yet, no_member_ends, no_members_yet}
 use Rattle.loaded_text.proofs.Lexemes.{operator_first}
 use Rattle.loaded_text.proofs.Parts.{if_some}
 use Rattle.loaded_text.proofs.canonical.+copy_value.Goals as goal
@@ -23,16 +25,16 @@ copy_items-returns-then-mark-2 t c =
     let depth : c.in_ok-inner.inner + 1 ≡ c.args.depth = grind (arith, c.in_ok-inner.ensures) in
     let start = lex between c.mark.new.self.rest.now in
     if_some c.close.result
-    (λ u closes. copied_from c.args.depth (token begin_array ∷ lex between c.args.text.now.rest.now) (token begin_array ∷ start) (lex between c.mark-in-loop.new.self.rest.now) c.args.out.now.items c.close.new.out.items
+    (λ u closes. copied_from c.args.depth (token begin_array ∷ lex between c.args.text.now.rest.now) (token begin_array ∷ start) (lex between c.mark-then-not-mark.new.self.rest.now) c.args.out.now.items c.close.new.out.items
     (ap (λ l. token begin_array ∷ l) (sym (c.mark.ensures.kept c.if-mark.false)))
-    (items_end c.in_ok-inner.inner c.args.depth start (lex between c.loop.text.rest.now) (lex between c.copy_value.new.text.rest.now) c.mark-in-loop.new.self.rest.now c.args.out.now.items c.put_byte.new.out.items c.loop.out.items
-    c.copy_value.new.out.items c.put_byte-in-loop.new.out.items c.close.new.out.items depth c.in_ok-put_byte.ensures c.loop.invariant c.in_ok-copy_value.ensures c.in_ok-put_byte-2.ensures (c.mark-in-loop.ensures.taken c.if-mark-2.true) closes))
+    (items_end c.in_ok-inner.inner c.args.depth start (lex between c.loop.text.rest.now) (lex between c.copy_value.new.text.rest.now) c.mark-then-not-mark.new.self.rest.now c.args.out.now.items c.put_byte.new.out.items c.loop.out.items
+    c.copy_value.new.out.items c.put_byte-in-loop.new.out.items c.close.new.out.items depth c.in_ok-put_byte.ensures c.loop.invariant c.in_ok-copy_value.ensures c.in_ok-put_byte-2.ensures (sym (c.mark-in-loop.ensures.kept c.if-not-mark.true) ∙ c.mark-then-not-mark.ensures.taken c.if-mark-2.true) closes))
     c.close.ensures
 
 pub copy_items-loop-preserved : goal.copy_items-loop-preserved
 copy_items-loop-preserved t c =
-    item_then c.in_ok-inner.inner (lex between c.mark.new.self.rest.now) (lex between c.loop.text.rest.now) (lex between c.copy_value.new.text.rest.now) c.mark-in-loop-2.new.self.rest.now c.put_byte.new.out.items c.loop.out.items c.copy_value.new.out.items
-    c.put_byte-in-loop.new.out.items c.loop.invariant c.in_ok-copy_value.ensures c.in_ok-put_byte-2.ensures (sym (c.mark-in-loop.ensures.kept c.if-mark-2.false) ∙ c.mark-in-loop-2.ensures.taken c.if-not-mark.false)
+    item_then c.in_ok-inner.inner (lex between c.mark.new.self.rest.now) (lex between c.loop.text.rest.now) (lex between c.copy_value.new.text.rest.now) c.mark-in-loop.new.self.rest.now c.put_byte.new.out.items c.loop.out.items c.copy_value.new.out.items
+    c.put_byte-in-loop.new.out.items c.loop.invariant c.in_ok-copy_value.ensures c.in_ok-put_byte-2.ensures (c.mark-in-loop.ensures.taken c.if-not-mark.false)
 
 -- ---- members
 
@@ -55,21 +57,24 @@ pub copy_members-returns-then-mark-2 : goal.copy_members-returns-then-mark-2
 copy_members-returns-then-mark-2 t c =
     let depth : c.in_ok-inner.inner + 1 ≡ c.args.depth = grind (arith, c.in_ok-inner.ensures) in
     let start = lex between c.mark.new.self.rest.now in
-    let sum : length c.loop.out.items + c.in_ok-size.size ≡ length c.copy_member.new.out.items = ap (λ (n : ℕ). n + c.in_ok-size.size) (sym c.count_bytes-before.ensures) ∙ c.in_ok-size.ensures in
+    let count : Counted c.count_bytes-start.result c.in_ok-size.size c.loop.out.items c.copy_member.new.out.items = record { begins = sym c.count_bytes-start.ensures; sum = c.in_ok-size.ensures } in
+    let pieces = c.settle.new.pieces.items in
     if_some c.close.result
-    (λ u closes. copied_from c.args.depth (token begin_object ∷ lex between c.args.text.now.rest.now) (token begin_object ∷ start) (lex between c.mark-in-loop.new.self.rest.now) c.args.out.now.items c.close.new.out.items
+    (λ u closes. copied_from c.args.depth (token begin_object ∷ lex between c.args.text.now.rest.now) (token begin_object ∷ start) (lex between c.mark-then-not-mark.new.self.rest.now) c.args.out.now.items c.close.new.out.items
     (ap (λ l. token begin_object ∷ l) (sym (c.mark.ensures.kept c.if-mark.false)))
-    (members_end c.in_ok-inner.inner c.args.depth start (lex between c.loop.text.rest.now) (lex between c.copy_member.new.text.rest.now) c.mark-in-loop.new.self.rest.now c.in_ok-key.key.now c.args.out.now.items c.put_byte.new.out.items c.loop.out.items
-    c.copy_member.new.out.items c.settle.new.out.items c.close.new.out.items c.in_ok-size.size c.loop.pieces.items c.settle.new.pieces.items depth c.in_ok-put_byte.ensures c.loop.invariant c.in_ok-key.ensures sum c.in_ok-settle.ensures
-    (c.mark-in-loop.ensures.taken c.if-mark-2.true) closes))
+    (members_end c.in_ok-inner.inner start (lex between c.loop.text.rest.now) (lex between c.copy_member.new.text.rest.now) c.in_ok-key.key.now c.put_byte.new.out.items c.loop.out.items c.copy_member.new.out.items c.count_bytes-start.result c.in_ok-size.size
+    c.loop.mixed c.in_ok-mixed.mixed c.loop.pieces.items pieces c.loop.invariant c.in_ok-key.ensures count c.in_ok-mixed.ensures c.args.depth c.mark-then-not-mark.new.self.rest.now c.args.out.now.items c.put_in_order.new.out.items c.close.new.out.items depth
+    c.in_ok-put_byte.ensures
+    (λ l found same held. c.in_ok-put_in_order.ensures l found (same ∙ sym c.count_bytes-front.ensures) (subst (λ (ps : List Piece). Held l found c.in_ok-mixed.mixed ps c.copy_member.new.out.items) (sym c.as_slice.ensures.value) held))
+    (sym (c.mark-in-loop.ensures.kept c.if-not-mark.true) ∙ c.mark-then-not-mark.ensures.taken c.if-mark-2.true) closes))
     c.close.ensures
 
 pub copy_members-loop-preserved : goal.copy_members-loop-preserved
 copy_members-loop-preserved t c =
-    let sum : length c.loop.out.items + c.in_ok-size.size ≡ length c.copy_member.new.out.items = ap (λ (n : ℕ). n + c.in_ok-size.size) (sym c.count_bytes-before.ensures) ∙ c.in_ok-size.ensures in
-    member_then c.in_ok-inner.inner (lex between c.mark.new.self.rest.now) (lex between c.loop.text.rest.now) (lex between c.copy_member.new.text.rest.now) c.mark-in-loop-2.new.self.rest.now c.in_ok-key.key.now c.put_byte.new.out.items c.loop.out.items
-    c.copy_member.new.out.items c.settle.new.out.items c.in_ok-size.size c.loop.pieces.items c.settle.new.pieces.items c.loop.invariant c.in_ok-key.ensures sum c.in_ok-settle.ensures
-    (sym (c.mark-in-loop.ensures.kept c.if-mark-2.false) ∙ c.mark-in-loop-2.ensures.taken c.if-not-mark.false)
+    let count : Counted c.count_bytes-start.result c.in_ok-size.size c.loop.out.items c.copy_member.new.out.items = record { begins = sym c.count_bytes-start.ensures; sum = c.in_ok-size.ensures } in
+    member_then c.in_ok-inner.inner (lex between c.mark.new.self.rest.now) (lex between c.loop.text.rest.now) (lex between c.copy_member.new.text.rest.now) c.in_ok-key.key.now c.put_byte.new.out.items c.loop.out.items c.copy_member.new.out.items
+    c.count_bytes-start.result c.in_ok-size.size c.loop.mixed c.in_ok-mixed.mixed c.loop.pieces.items c.settle.new.pieces.items c.loop.invariant c.in_ok-key.ensures count c.in_ok-mixed.ensures c.mark-in-loop.new.self.rest.now
+    (c.mark-in-loop.ensures.taken c.if-not-mark.false)
 
 -- ---- values
 

@@ -19,4 +19,4 @@ abbrev pub invariant-copy_items-loop : goal.invariant-copy_items-loop
 invariant-copy_items-loop l = ItemsSoFar l.inner (lex between l.initial.text.rest.now) (lex between l.text.rest.now) l.initial.out.items l.out.items
 
 abbrev pub invariant-copy_members-loop : goal.invariant-copy_members-loop
-invariant-copy_members-loop l = MembersSoFar l.inner (lex between l.initial.text.rest.now) (lex between l.text.rest.now) l.initial.out.items l.pieces.items l.out.items
+invariant-copy_members-loop l = MembersSoFar l.inner (lex between l.initial.text.rest.now) (lex between l.text.rest.now) l.initial.out.items l.mixed l.pieces.items l.out.items

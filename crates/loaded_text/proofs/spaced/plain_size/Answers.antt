@@ -1,5 +1,4 @@
-use Rattle.std.proofs.Common.{sym, ◌∙◌, arith, ap, not}
-use Rattle.std.proofs.lemmas.Bool.{not-false}
+use Rattle.std.proofs.Common.{sym, ◌∙◌, arith}
 use Rattle.loaded_text.proofs.Lexemes.{plain_more}
 use Rattle.loaded_text.proofs.spaced.plain_size.Goals as goal
 

@@ -1,5 +1,4 @@
-use Rattle.std.proofs.Common.{sym, subst, ◌∙◌, List, ℕ}
-use Rattle.loaded_text.specs.Canonical.{IsBare}
+use Rattle.std.proofs.Common.{sym, ◌∙◌}
 use Rattle.loaded_text.proofs.Lexemes.{false_first, null_first, true_first}
 use Rattle.loaded_text.proofs.text.Text.bare_word.Goals as goal
 

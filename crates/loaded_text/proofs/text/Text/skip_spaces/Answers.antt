@@ -1,4 +1,4 @@
-use Rattle.std.proofs.Common.{sym, ap, ◌∙◌, ◌≡◌, ◌∷◌, arith, List, ℕ}
+use Rattle.std.proofs.Common.{sym, ap, ◌∙◌, ◌≡◌, ◌∷◌, arith}
 use Rattle.json.specs.Lex.{between, lex}
 use Rattle.loaded_text.proofs.Lexemes.{space_passed}
 use Rattle.loaded_text.proofs.text.Text.skip_spaces.Goals as goal
