@@ -2,7 +2,7 @@
 
 use crate::assertions::same;
 use json::Scratch;
-use script_engine::{BadLine, request_of};
+use script_requests::{BadLine, request_of};
 use std::alloc::Global;
 use std::test::Fail;
 use world_script_base::LineFault;

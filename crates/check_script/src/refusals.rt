@@ -3,7 +3,7 @@
 use crate::assertions::same;
 use fixed_geom::Refusal;
 use json::Scratch;
-use script_engine::{CrowdRefusals, Request, explain, request_of};
+use script_requests::{CrowdRefusals, Request, explain, request_of};
 use std::alloc::Global;
 use std::test::Fail;
 

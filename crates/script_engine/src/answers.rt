@@ -6,17 +6,17 @@ use crate::calls::{
 };
 use crate::crowd_threads::CrowdPlan;
 use crate::crowds::crowd;
-use crate::extended::{Extended, RayRequest};
 use crate::joints::joints_of;
-use crate::requests::{CrowdDef, Request};
 use crate::worlds::Worlds;
 use body_handles::Handle;
 use fixed_geom::{Box2, Refusal, Vec2};
 use script_options::Options;
+use script_requests::{CrowdDef, Extended, RayRequest, Request};
 use std::alloc::Global;
 use std::sync::Wait;
 use std::thread::Threads;
 use world_core::{Command, Reply, WorldCore};
+use world_queries::QueryFilter;
 use world_script_base::{Answer, BodyList};
 
 /// Makes a call.
@@ -128,7 +128,11 @@ fn answer_step<'a, E, R: Threads + Wait + Sync>(
 /// What a ray hits first of the shapes that it may hit. Refused 5 where it is beyond its limits, and else 2 where the
 /// body that it passes by doesn't live.
 fn answer_filtered_ray<'a>(world: &'a WorldCore, ray: RayRequest) -> Answer<'a> {
-    match filtered_ray(world, ray.from, ray.along, ray.filter) {
+    let filter = QueryFilter {
+        without: ray.without,
+        mask: ray.mask,
+    };
+    match filtered_ray(world, ray.from, ray.along, filter) {
         Ok(hit) if ray.ids => Answer::Hit(hit, Some(slot_entries_of(world))),
         Ok(hit) => Answer::Hit(hit, None),
         Err(refusal) => Answer::Refused(refusal),

@@ -1,8 +1,8 @@
 //! The threads of a crowd: each makes its calls through a seat of its own, its steps solved by workers of its own.
 
 use crate::calls::call;
-use crate::requests::{CrowdDef, copy_of};
 use fixed_geom::Refusal;
+use script_requests::{CrowdDef, copy_of};
 use std::alloc::Global;
 use std::sync::Wait;
 use std::sync::atomic::{AtomicU64, Ordering};

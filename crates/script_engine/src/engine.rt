@@ -2,14 +2,13 @@
 
 use crate::answers::{answer, answer_loaded};
 use crate::calls::{Stepper, settle};
-use crate::explanation::{BadLine, CrowdRefusals, explain};
-use crate::requests::{Request, request_of};
 use crate::saved_lines::loaded_by;
 use crate::status::Status;
 use crate::worlds::Worlds;
 use fixed_geom::Refusal;
 use json::Scratch;
 use script_options::Options;
+use script_requests::{BadLine, CrowdRefusals, Request, explain, request_of};
 use std::alloc::Global;
 use std::io::{BufRead, Write};
 use std::sync::Wait;

@@ -11,7 +11,7 @@ use momenta::MassData;
 use plain_world::{BodyDef, Course, JointDef, Kind};
 use shapes::Pose;
 use std::alloc::Global;
-use world_core::Command;
+use world_rules::Command;
 use world_script_base::{Fields, Line, LineFault, Reason};
 
 /// How often a crowd may make its calls.
@@ -48,7 +48,7 @@ pub enum Request<'a> {
 }
 
 /// A copy of a command.
-pub(crate) fn copy_of(command: &Command) -> Result<Command, Refusal>
+pub fn copy_of(command: &Command) -> Result<Command, Refusal>
     ensures copy { IfOk result (λ copy. copy ≡ command.now) }
     ensures memory_only { IsOkUnless result Refusal.NoMemory }
 {

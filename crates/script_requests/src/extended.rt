@@ -1,7 +1,7 @@
 //! What only the extended form of a script asks for.
 
+use body_handles::Handle;
 use fixed_geom::{Box2, Vec2};
-use world_queries::QueryFilter;
 use world_script_base::Fields;
 
 /// A ray: its start and its way (u), which shapes it may hit, and whether the id of the body that it hits is told.
@@ -9,7 +9,10 @@ use world_script_base::Fields;
 pub struct RayRequest {
     pub from: Vec2,
     pub along: Vec2,
-    pub filter: QueryFilter,
+    /// The body whose shapes it passes by, if there is one.
+    pub without: Option<Handle>,
+    /// The categories of the shapes that it may hit, or none where it may hit all.
+    pub mask: Option<u64>,
     pub ids: bool,
 }
 
@@ -48,19 +51,22 @@ pub(crate) fn take_box<'a>(fields: &mut Fields<'a>) -> Box2 {
     Box2 { lo, hi }
 }
 
-/// Which shapes a ray may hit: all but those of the body `without`, of the categories `mask`.
-fn take_filter<'a>(fields: &mut Fields<'a>) -> QueryFilter {
-    let mut filter = QueryFilter {
-        without: None,
-        mask: None,
-    };
+/// The body that a ray passes by, if it names one.
+fn take_without<'a>(fields: &mut Fields<'a>) -> Option<Handle> {
     if fields.has("without") {
-        filter.without = Some(fields.take_id("without"));
+        Some(fields.take_id("without"))
+    } else {
+        None
     }
+}
+
+/// The categories that a ray may hit, if it names some.
+fn take_mask<'a>(fields: &mut Fields<'a>) -> Option<u64> {
     if fields.has("mask") {
-        filter.mask = Some(fields.take_unsigned("mask"));
+        Some(fields.take_unsigned("mask"))
+    } else {
+        None
     }
-    filter
 }
 
 /// A ray, if it is one of the extended form: one that asks for ids, or says which shapes it may hit.
@@ -72,11 +78,13 @@ fn take_ray<'a>(fields: &mut Fields<'a>) -> Option<Extended> {
     }
     let from = fields.take_vector("from");
     let along = fields.take_vector("along");
-    let filter = take_filter(fields);
+    let without = take_without(fields);
+    let mask = take_mask(fields);
     Some(Extended::Ray(RayRequest {
         from,
         along,
-        filter,
+        without,
+        mask,
         ids,
     }))
 }

@@ -9,7 +9,7 @@ use momenta::{MAX_MASS, MAX_SPEED};
 use plain_world::{BodyDef, Course, JointDef, Kind};
 use shapes::{MAX_FRICTION, MAX_RESTITUTION, Pose, Shape, ShapeDef, check};
 use std::fmt;
-use world_core::Command;
+use world_rules::Command;
 use world_script_base::{Fault, Reason};
 
 /// What a refusal means of this request, where it means something else of other ones.
