@@ -67,7 +67,7 @@ PARTS = {
             "collide",
             "Collide",
             "Which shapes are near one another, and what becomes of contacts.",
-            "contacts_base/src contacts/src contacts/ByPairs contacts/Changes contacts/Forbidden contacts/Constraints contacts_base/Near "
+            "contacts_base/src contacts/src contacts_base/ByPairs contacts_base/Changes contacts_base/Forbidden plain_world/Constraints contacts_base/Near "
             "contacts_base/Evaluate contacts_base/Contacts contacts_base/Keys contacts_base/Surfaces",
         ),
         Chapter(

@@ -93,7 +93,7 @@ OF_README = [
         Claim(
             "The broad phase finds exactly the pairs that testing all pairs would find.",
             [Contract("commands", "world_core", "WorldCore::apply")],
-            "contacts/ByPairs.contacts_between",
+            "contacts_base/ByPairs.contacts_between",
         ),
     ],
 ]

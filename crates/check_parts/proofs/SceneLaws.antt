@@ -13,13 +13,13 @@ use Rattle.contacts_base.specs.Contacts.{contacts_without, has_slot}
 use Rattle.contacts_base.specs.Keys.{id_number}
 use Rattle.contacts_base.specs.Proxies.{IsProxy, IsProxyList, number_of}
 use Rattle.contacts_base.specs.Surfaces.{IsSurface}
-use Rattle.contacts.specs.declared.forbidden.BodyPair.{BodyPair}
-use Rattle.contacts.specs.ByPairs.{contacts_between}
+use Rattle.contacts_base.specs.declared.body_pair.BodyPair.{BodyPair}
+use Rattle.contacts_base.specs.ByPairs.{contacts_between}
 use Rattle.contacts.specs.Known.{IsKnown, IsPairKey, found}
 use Rattle.contacts.specs.Fates.{AreWithin, moved_by, stirs_in}
 use Rattle.contacts.proofs.ByPairsLaws.{contacts_by_codes-holds}
 use Rattle.contacts.proofs.KnownLemmas.{IsPlace, all_known_after-holds, place_of}
-use Rattle.contacts.proofs.Members.{contains_from_in, in_from_contains, in_left, in_right}
+use Rattle.contacts_base.proofs.Members.{contains_from_in, in_from_contains, in_left, in_right}
 use Rattle.check_parts.specs.Scenes.{ArePairs, IsListed, IsShown}
 
 -- ---- one more slot

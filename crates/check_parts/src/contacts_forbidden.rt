@@ -2,7 +2,8 @@
 
 ghost use Rattle.std.specs.Option.{option_to_list};
 
-use contacts::{BodyPair, ForbiddenPairs};
+use contacts::ForbiddenPairs;
+use contacts_base::BodyPair;
 use std::alloc::Global;
 use std::mem;
 

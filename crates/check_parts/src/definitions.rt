@@ -11,7 +11,7 @@ ghost use Rattle.world_rules.specs.declared.command.Reply.TheVariants.{Stepped};
 ghost use Rattle.world_rules.specs.Apply.{apply, empty_world, pushed, departed, booked};
 
 /// The definitions give the same values, computed by themselves: the empty step, refused steps and pushes.
-#[tactic(auto, unfolding(contacts::specs::ByPairs::contacts_between, plain_world::specs::Sleep::told, solver_sets::specs::Beside::timers_of, solver_sets::specs::Slept::asleep_only_in, solver_sets::specs::Ties::key_changes, solver_sets::specs::Ties::members_of, solver_sets::specs::Ties::ties_of, world_core_base::specs::Solving::solved, world_rules::specs::Collide::contacts_after, world_rules::specs::Sets::acting_of))]
+#[tactic(auto, unfolding(contacts_base::specs::ByPairs::contacts_between, plain_world::specs::Sleep::told, solver_sets::specs::Beside::timers_of, solver_sets::specs::Slept::asleep_only_in, solver_sets::specs::Ties::key_changes, solver_sets::specs::Ties::members_of, solver_sets::specs::Ties::ties_of, world_core_base::specs::Solving::solved, world_rules::specs::Collide::contacts_after, world_rules::specs::Sets::acting_of))]
 fn definitions_compute()
     ensures stepped { apply (empty_world (record { x = pos 0; y = pos 0 })).plain (Step (pos 4)) ≡ Ok (record { plain = record { slot_entries = []; bodies = []; joint_entries = []; joints = []; contacts = []; islands = []; colours = replicate (COLOURS + 1) []; gravity = record { x = pos 0; y = pos 0 }; steps = 1; calls = 1 }; reply = Stepped 1; entries = []; events = Some no_events }) }
     ensures no_ticks { apply (empty_world (record { x = pos 0; y = pos 0 })).plain (Step (pos 0)) ≡ Err OutOfRange }

@@ -6,14 +6,14 @@ use Rattle.contacts_base.specs.declared.near.Proxy.{Proxy}
 use Rattle.contacts_base.specs.declared.contact.ContactEntry.{ContactEntry}
 use Rattle.contacts_base.specs.Near.{is_near}
 use Rattle.contacts_base.specs.NearCodes.{near_codes, near_from, near_with, pair_code}
-use Rattle.contacts.specs.declared.forbidden.BodyPair.{BodyPair}
-use Rattle.contacts.specs.ByPairs.{contacts_between, near_pairs}
+use Rattle.contacts_base.specs.declared.body_pair.BodyPair.{BodyPair}
+use Rattle.contacts_base.specs.ByPairs.{contacts_between, near_pairs}
 use Rattle.contacts.specs.ByCodes.{contacts_of, entry_at, allowed_codes, is_allowed, ContactsByCodes}
 use Rattle.contacts.specs.Pairs.{first_place, proxy_at, second_place}
 use Rattle.contacts.proofs.KnownLemmas.{code_places}
 use Rattle.contacts.proofs.ProxyLemmas.{few}
-use Rattle.contacts.specs.Changes.{entry_of}
-use Rattle.contacts.specs.Forbidden.{is_forbidden}
+use Rattle.contacts_base.specs.Changes.{entry_of}
+use Rattle.contacts_base.specs.Forbidden.{is_forbidden}
 
 -- the two shapes that a code names
 abbrev pair_at : List Proxy → ℕ → Proxy × Proxy

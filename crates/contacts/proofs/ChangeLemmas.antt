@@ -11,11 +11,11 @@ use Rattle.contacts_base.specs.Keys.{id_number, key_number}
 use Rattle.contacts_base.specs.Proxies.{IsProxy, IsProxyList}
 use Rattle.contacts_base.specs.Contacts.{number_of, lookup, AreKeysRising}
 use Rattle.contacts.specs.Pairs.{proxy_at, IsPair, ArePairs, first_place, second_place, pair_key}
-use Rattle.contacts.specs.Changes.{entry_of, entry_with, key_if_touching, key_if_new, keys_touching_only_in}
+use Rattle.contacts_base.specs.Changes.{entry_of, entry_with, key_if_touching, key_if_new, keys_touching_only_in}
 use Rattle.contacts.specs.ByCodes.{entry_at, contacts_of}
-use Rattle.contacts.specs.ChangedKeys.{key_unless_in, key_unless, keys_not_in, AreRising}
-use Rattle.contacts.proofs.Members.{Each}
-use Rattle.contacts.proofs.Rising.{IsRising, increasing_from_rising, rising_from_increasing}
+use Rattle.contacts_base.specs.ChangedKeys.{key_unless_in, key_unless, keys_not_in, AreRising}
+use Rattle.contacts_base.proofs.Members.{Each}
+use Rattle.contacts_base.proofs.Rising.{IsRising, increasing_from_rising, rising_from_increasing}
 use Rattle.contacts.proofs.ProxyLemmas.{numbers_later}
 
 -- ---- the keys of the contacts rise

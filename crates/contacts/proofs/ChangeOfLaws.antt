@@ -15,13 +15,13 @@ use Rattle.contacts_base.specs.ContactLists.{AreContacts}
 use Rattle.contacts_base.specs.ShortLists.{counted_in}
 use Rattle.contacts_base.specs.Split.{Split, contacts_in, counting}
 use Rattle.contacts.specs.declared.changes.Changes.{Changes}
-use Rattle.contacts.specs.declared.forbidden.BodyPair.{BodyPair}
+use Rattle.contacts_base.specs.declared.body_pair.BodyPair.{BodyPair}
 use Rattle.contacts.specs.declared.number_book.NumberedContact.{NumberedContact}
 use Rattle.contacts.specs.declared.pending_update.PendingUpdate.{PendingUpdate}
 use Rattle.contacts.specs.ByCodes.{contacts_of, allowed_codes, entry_at}
-use Rattle.contacts.specs.ByPairs.{contacts_between}
-use Rattle.contacts.specs.ChangedKeys.{AreRising, key_unless, key_unless_in, keys_not_in}
-use Rattle.contacts.specs.Changes.{key_if_new, key_if_touching, keys_touching_only_in}
+use Rattle.contacts_base.specs.ByPairs.{contacts_between}
+use Rattle.contacts_base.specs.ChangedKeys.{AreRising, key_unless, key_unless_in, keys_not_in}
+use Rattle.contacts_base.specs.Changes.{key_if_new, key_if_touching, keys_touching_only_in}
 use Rattle.contacts.specs.Fates.{IsMade, gone_keys, key_if_gone, outcome}
 use Rattle.contacts.specs.Known.{IsKnown, IsPairKey, again, fresh, is_fresh, stays, staying}
 use Rattle.contacts.specs.Looked.{IsDone}
@@ -31,10 +31,10 @@ use Rattle.contacts.specs.PendingUpdates.{IsPendingUpdate, KeepLists, after, pen
 use Rattle.contacts.proofs.ByPairsLaws.{contacts_by_codes-holds}
 use Rattle.contacts.proofs.JoinLaws.{for_some_map, fresh_rises}
 use Rattle.contacts.proofs.KnownLemmas.{IsImage, all_known_after-holds, each_from_all, filter_in, in_filter, in_map, lookup_same, map_in}
-use Rattle.contacts.proofs.Members.{IsIn, contains_from_in, each_in, in_append, in_from_contains, in_left, in_right}
+use Rattle.contacts_base.proofs.Members.{IsIn, contains_from_in, each_in, in_append, in_from_contains, in_left, in_right}
 use Rattle.contacts.proofs.MergedMembers.{merged_has, merged_is}
 use Rattle.contacts.proofs.PartLemmas.{contacts_in_parts-holds, filter_rises, key_from, lookup_in}
-use Rattle.contacts.proofs.Rising.{IsRising, increasing_from_rising, rising_from_increasing}
+use Rattle.contacts_base.proofs.Rising.{IsRising, increasing_from_rising, rising_from_increasing}
 use Rattle.contacts.proofs.UpdateLemmas.{after_rises, again_key, fresh_none, lookup_after, new_ones, old_ones, touching_picks}
 use Rattle.packed_sets.proofs.ItemLaws.{equal_sizes}
 

@@ -4,7 +4,7 @@ use Rattle.std.specs.List.{All}
 use Rattle.std.proofs.lemmas.List.Elements.{All-drop, All-take}
 use Rattle.contacts_base.specs.declared.near.Proxy.{Proxy}
 use Rattle.contacts.specs.Sweep.{IsPlaceIn, dynamics_of}
-use Rattle.contacts.proofs.Members.{all_from_each, each_from, each_in}
+use Rattle.contacts_base.proofs.Members.{all_from_each, each_from, each_in}
 use Rattle.contacts.proofs.SweepLemmas.{each_from_all, in_dynamics}
 
 dynamics_in : (ps : List Proxy) (ss : List ℕ) → All (IsPlaceIn ps) ss → All (IsPlaceIn ps) (dynamics_of ps ss)

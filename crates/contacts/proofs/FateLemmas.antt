@@ -11,12 +11,12 @@ use Rattle.contacts_base.specs.declared.contact.ContactEntry.{ContactEntry}
 use Rattle.contacts_base.specs.ContactLists.{contact_set}
 use Rattle.contacts_base.specs.Keys.{id_number}
 use Rattle.contacts_base.specs.Proxies.{IsProxy, IsProxyList}
-use Rattle.contacts.specs.declared.forbidden.BodyPair.{BodyPair}
+use Rattle.contacts_base.specs.declared.body_pair.BodyPair.{BodyPair}
 use Rattle.contacts.specs.declared.fates.Fate.{Fate}
 use Rattle.contacts.specs.declared.fates.Fate.TheVariants.{Stays, Goes, Renewed}
 use Rattle.contacts_base.specs.declared.split.Renewal.{Renewal}
 use Rattle.contacts.specs.Known.{found, again_of, again}
-use Rattle.contacts.specs.Changes.{key_if_new}
+use Rattle.contacts_base.specs.Changes.{key_if_new}
 use Rattle.contacts.specs.Fates.{stirs_in, one_stirs_of, after_fate, outcome, key_if_begun, key_if_gone, begun_keys, ended_keys, gone_keys}
 use Rattle.contacts_base.specs.Split.{renewed}
 use Rattle.contacts.proofs.ChangeLemmas.{picked_more}

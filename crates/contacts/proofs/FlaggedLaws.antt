@@ -30,10 +30,10 @@ use Rattle.contacts.proofs.EndLaws.{list_within}
 use Rattle.contacts.proofs.PlaceLaws.{IsEntryAt, entry_with_key, key_there}
 use Rattle.packed_sets.specs.Packs.{list_at}
 use Rattle.packed_sets.proofs.ItemLaws.{equal_same, equal_sizes}
-use Rattle.contacts.proofs.Members.{Each, IsIn, contains_from_in, in_from_contains, in_new, in_passed}
+use Rattle.contacts_base.proofs.Members.{Each, IsIn, contains_from_in, in_from_contains, in_new, in_passed}
 use Rattle.contacts.proofs.MergedMembers.{merged_has}
 use Rattle.contacts.proofs.PartLemmas.{id_by, key_by}
-use Rattle.contacts.proofs.Rising.{IsRising, rising_from_increasing, rising_passed, same_rising}
+use Rattle.contacts_base.proofs.Rising.{IsRising, rising_from_increasing, rising_passed, same_rising}
 use Rattle.packed_sets.proofs.MarkLaws.{marks_cleared, marks_put}
 
 -- ---- flags are set and taken away

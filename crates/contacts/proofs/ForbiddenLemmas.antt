@@ -5,12 +5,12 @@ use Rattle.std.proofs.lemmas.List.Elements.{All-filter}
 use Rattle.contacts_base.specs.declared.near.Proxy.{Proxy}
 use Rattle.contacts_base.specs.NearCodes.{near_codes}
 use Rattle.contacts_base.specs.Proxies.{IsProxyList}
-use Rattle.contacts.specs.declared.forbidden.BodyPair.{BodyPair}
+use Rattle.contacts_base.specs.declared.body_pair.BodyPair.{BodyPair}
 use Rattle.contacts.specs.ByCodes.{allowed_codes, is_allowed}
 use Rattle.contacts.specs.Pairs.{IsPair, ArePairs}
-use Rattle.contacts.proofs.Members.{Each}
+use Rattle.contacts_base.proofs.Members.{Each}
 use Rattle.contacts.proofs.PairLemmas.{near_are_pairs}
-use Rattle.contacts.proofs.Rising.{IsRising, increasing_from_rising, rising_from_increasing, rising_passed}
+use Rattle.contacts_base.proofs.Rising.{IsRising, increasing_from_rising, rising_from_increasing, rising_passed}
 
 each_passed : (t : ℕ → Bool) (x : ℕ) (xs : List ℕ) → Each (λ y. x < y) xs → Each (λ y. x < y) (filter t xs)
 each_passed t x [] h = tt

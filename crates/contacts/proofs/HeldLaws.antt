@@ -4,12 +4,12 @@ use Rattle.contacts_base.specs.ContactLists.{AreContacts}
 use Rattle.contacts_base.specs.Split.{Split, contacts_in}
 use Rattle.contacts.specs.declared.number_book.NumberedContact.{NumberedContact}
 use Rattle.contacts.specs.declared.pending_update.PendingUpdate.{PendingUpdate}
-use Rattle.contacts.specs.ChangedKeys.{AreRising}
+use Rattle.contacts_base.specs.ChangedKeys.{AreRising}
 use Rattle.contacts.specs.declared.stirring.Stirring.{Stirring}
 use Rattle.contacts.specs.PendingUpdates.{IsPendingUpdate, IsNothing, after, pending_contacts, whole_or}
 use Rattle.contacts.specs.Stirring.{AreHeld}
 use Rattle.contacts.proofs.ChangeOfLaws.{nothing_changes}
-use Rattle.contacts.proofs.Rising.{increasing_from_rising}
+use Rattle.contacts_base.proofs.Rising.{increasing_from_rising}
 
 -- where nothing is noted the lists stay as they are
 pub nothing_after : (d : PendingUpdate) (s : Split) → IsNothing d → after d s ≡ s

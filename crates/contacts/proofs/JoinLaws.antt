@@ -18,10 +18,10 @@ use Rattle.contacts_base.specs.Split.{Split, carried, contacts_in, counting, or_
 use Rattle.contacts_base.proofs.LookupLemmas.{keys_later}
 use Rattle.contacts_base.proofs.MergeLaws.{is_lower, not_lower, tail_ascends}
 use Rattle.contacts_base.proofs.MergedLaws.{ascends_without, filter_merged, map_merged, merged_none}
-use Rattle.contacts.specs.declared.forbidden.BodyPair.{BodyPair}
+use Rattle.contacts_base.specs.declared.body_pair.BodyPair.{BodyPair}
 use Rattle.contacts.specs.declared.rebuild.Rebuilt.{Rebuilt}
-use Rattle.contacts.specs.ByPairs.{contacts_between}
-use Rattle.contacts.specs.Changes.{key_if_new, keys_touching_only_in}
+use Rattle.contacts_base.specs.ByPairs.{contacts_between}
+use Rattle.contacts_base.specs.Changes.{key_if_new, keys_touching_only_in}
 use Rattle.contacts.specs.ByCodes.{contacts_of, allowed_codes}
 use Rattle.contacts.specs.Known.{IsKnown, IsPairKey, again, stays, staying}
 use Rattle.contacts.specs.Looked.{AreGoneIf, IsDone, IsLookedOver, IsRebuilt, IsRebuiltIf}
@@ -31,10 +31,10 @@ use Rattle.contacts.specs.Fates.{begun_keys, ended_keys, gone_keys, key_if_begun
 use Rattle.contacts.proofs.ByPairsLaws.{contacts_by_codes-holds}
 use Rattle.contacts.proofs.ChangeLemmas.{PicksKeys, if_step, picked_rise, picked_rising, unless_step}
 use Rattle.contacts.proofs.KnownLemmas.{IsImage, in_map, map_in}
-use Rattle.contacts.proofs.Members.{Each, IsIn, all_from_each, each_from, each_in}
+use Rattle.contacts_base.proofs.Members.{Each, IsIn, all_from_each, each_from, each_in}
 use Rattle.contacts.proofs.MergedMembers.{merged_has, merged_rises}
 use Rattle.contacts.proofs.PartLemmas.{fresh_not_among}
-use Rattle.contacts.proofs.Rising.{IsRising, increasing_from_rising, rising_from_increasing}
+use Rattle.contacts_base.proofs.Rising.{IsRising, increasing_from_rising, rising_from_increasing}
 use Rattle.contacts.proofs.StirringLaws.{none_new, quiet_outcome}
 use Rattle.contacts.proofs.UpdateLemmas.{after_are_contacts, again_key, all_from, ascending, begin_from, begin_rises, end_rises, ended_is, increasing_ascends, new_ones, new_rise, old_ones, picked_put, put_cons, put_option}
 

@@ -23,17 +23,17 @@ use Rattle.packed_sets.proofs.ItemLaws.{none_in}
 use Rattle.contacts_base.specs.declared.near.Proxy.{Proxy}
 use Rattle.contacts_base.specs.Proxies.{IsProxyList}
 use Rattle.contacts.specs.declared.changes.Changes.{Changes}
-use Rattle.contacts.specs.declared.forbidden.BodyPair.{BodyPair}
+use Rattle.contacts_base.specs.declared.body_pair.BodyPair.{BodyPair}
 use Rattle.contacts.specs.ByCodes.{allowed_codes, contacts_of}
-use Rattle.contacts.specs.ByPairs.{contacts_between}
-use Rattle.contacts.specs.Changes.{keys_touching_only_in}
+use Rattle.contacts_base.specs.ByPairs.{contacts_between}
+use Rattle.contacts_base.specs.Changes.{keys_touching_only_in}
 use Rattle.contacts.specs.Known.{IsPairKey}
 use Rattle.contacts.specs.declared.ends.ContactEnds.{ContactEnds}
 use Rattle.contacts.specs.declared.ends.Side.{Side}
 use Rattle.contacts.specs.declared.ends.Side.TheVariants.{First, Second}
 use Rattle.contacts.specs.declared.number_book.NumberBook.{NumberBook}
 use Rattle.contacts.specs.declared.number_book.NumberedContact.{NumberedContact}
-use Rattle.contacts.specs.ChangedKeys.{AreRising, keys_not_in}
+use Rattle.contacts_base.specs.ChangedKeys.{AreRising, keys_not_in}
 use Rattle.contacts.specs.Ends.{IsOnce, ends_on}
 use Rattle.contacts.specs.Kept.{Kept, numbers_on}
 use Rattle.contacts.specs.Numbered.{AreEndsAt, AreKeysOnce, AreNumbered, contact_at, numbered_of}
@@ -43,7 +43,7 @@ use Rattle.contacts.specs.Stirring.{HaveKeys}
 use Rattle.contacts.proofs.ByPairsLaws.{contacts_by_codes-holds}
 use Rattle.contacts.proofs.KnownLemmas.{all_known_after-holds, in_map}
 use Rattle.contacts.proofs.UpdateLemmas.{after_are_contacts}
-use Rattle.contacts.proofs.Members.{contains_from_in, in_from_contains}
+use Rattle.contacts_base.proofs.Members.{contains_from_in, in_from_contains}
 use Rattle.contacts.proofs.NumberChangeLaws.{numbered_alike}
 use Rattle.contacts.proofs.StirringLaws.{renewed_keys}
 

@@ -10,14 +10,14 @@ use Rattle.contacts_base.specs.Near.{is_near}
 use Rattle.contacts_base.specs.NearCodes.{pair_code, near_codes}
 use Rattle.contacts_base.specs.Proxies.{IsProxy, IsProxyList, number_of}
 use Rattle.contacts_base.specs.Contacts.{lookup, number_of as entry_number}
-use Rattle.contacts.specs.declared.forbidden.BodyPair.{BodyPair}
+use Rattle.contacts_base.specs.declared.body_pair.BodyPair.{BodyPair}
 use Rattle.contacts.specs.Pairs.{proxy_at, pair_key, first_place, second_place}
-use Rattle.contacts.specs.Changes.{entry_of, entry_with, key_of}
+use Rattle.contacts_base.specs.Changes.{entry_of, entry_with, key_of}
 use Rattle.contacts.specs.ByCodes.{entry_at, contacts_of, is_allowed, allowed_codes}
-use Rattle.contacts.specs.Forbidden.{is_forbidden}
+use Rattle.contacts_base.specs.Forbidden.{is_forbidden}
 use Rattle.contacts.specs.Known.{found, may_touch, both_near, near_key, has_key, IsPairKey, either_moved, IsKnown, IsSameOf, stays, staying, is_fresh, fresh, code_number, all_still}
-use Rattle.contacts.proofs.Members.{Each, IsIn, each_in, each_from, all_from_each}
-use Rattle.contacts.proofs.Rising.{IsRising, rising_from_increasing}
+use Rattle.contacts_base.proofs.Members.{Each, IsIn, each_in, each_from, all_from_each}
+use Rattle.contacts_base.proofs.Rising.{IsRising, rising_from_increasing}
 use Rattle.contacts.proofs.NearLemmas.{IsNearFrom, from_has, from_is}
 use Rattle.contacts.proofs.ProxyLemmas.{few, numbers_later}
 

@@ -1,5 +1,3 @@
-pub mod Members
-pub mod Rising
 pub mod NearLemmas
 pub mod ProxyLemmas
 pub mod PairLemmas

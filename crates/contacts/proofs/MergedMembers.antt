@@ -2,8 +2,8 @@
 -- both.
 use Rattle.std.proofs.Common.{◌≡◌, ℕ, ◌<◌, ◌≤◌, List, [], ◌∷◌, map, Bool, true, false, cond, nat_lt, ltb-true, ltb-false, ◌⊎◌, inl, inr, refl, sym, ap, subst, arith}
 use Rattle.contacts_base.specs.Merge.{merged, put_in}
-use Rattle.contacts.proofs.Members.{Each, IsIn, each_in}
-use Rattle.contacts.proofs.Rising.{IsRising}
+use Rattle.contacts_base.proofs.Members.{Each, IsIn, each_in}
+use Rattle.contacts_base.proofs.Rising.{IsRising}
 use Rattle.contacts.proofs.KnownLemmas.{IsImage, in_map, map_in}
 
 -- ---- two lists with the same members are equal

@@ -4,8 +4,8 @@ use Rattle.contacts_base.specs.declared.near.Proxy.{Proxy}
 use Rattle.contacts_base.specs.Near.{is_near}
 use Rattle.contacts_base.specs.NearCodes.{pair_code, near_with, near_from}
 use Rattle.contacts.specs.Pairs.{proxy_at}
-use Rattle.contacts.proofs.Members.{IsIn, each_from, in_append, in_left, in_right, in_passed, in_new}
-use Rattle.contacts.proofs.Rising.{IsRising, rising_append, rising_passed}
+use Rattle.contacts_base.proofs.Members.{IsIn, each_from, in_append, in_left, in_right, in_passed, in_new}
+use Rattle.contacts_base.proofs.Rising.{IsRising, rising_append, rising_passed}
 
 -- the code of a near pair of the list, whose first shape is at place n
 pub record IsNearFrom (n : ℕ) (ps : List Proxy) (code : ℕ) : Type 0 where

@@ -18,15 +18,15 @@ use Rattle.contacts_base.specs.Keys.{key_number}
 use Rattle.contacts_base.specs.Near.{is_near}
 use Rattle.contacts_base.specs.Proxies.{IsProxy, IsProxyList, number_of}
 use Rattle.contacts_base.specs.Contacts.{lookup, number_of as entry_number}
-use Rattle.contacts.specs.declared.forbidden.BodyPair.{BodyPair}
+use Rattle.contacts_base.specs.declared.body_pair.BodyPair.{BodyPair}
 use Rattle.contacts.specs.Pairs.{proxy_at, pair_key, first_place, second_place}
-use Rattle.contacts.specs.Changes.{entry_of, entry_with, key_of}
+use Rattle.contacts_base.specs.Changes.{entry_of, entry_with, key_of}
 use Rattle.contacts.specs.ByCodes.{entry_at, contacts_of, allowed_codes}
 use Rattle.contacts.specs.Known.{either_moved, found, fresh, has_key, IsPairKey, is_fresh, may_touch, near_key}
 use Rattle.contacts.specs.NearMarked.{HasNumbers, HasNumbersIn, IsExtended, fresh_by, fresh_of_both, near_number, number_if, number_of_both, number_with, numbers_up, numbers_with}
 use Rattle.contacts.specs.Fates.{AreWithin, moved_by}
-use Rattle.contacts.proofs.Members.{Each, IsIn, contains_from_in, in_from_contains, in_left, in_right}
-use Rattle.contacts.proofs.Rising.{IsRising, rising_from_increasing}
+use Rattle.contacts_base.proofs.Members.{Each, IsIn, contains_from_in, in_from_contains, in_left, in_right}
+use Rattle.contacts_base.proofs.Rising.{IsRising, rising_from_increasing}
 use Rattle.contacts_base.proofs.MergeLaws.{drop_next}
 use Rattle.contacts.proofs.KnownLemmas.{IsAllowedFrom, IsCodeOf, IsImage, IsPlace, filter_in, found_at, in_codes, in_filter, in_map, map_in, near_code, place_of}
 use Rattle.contacts.proofs.MergedMembers.{same_members}

@@ -18,7 +18,7 @@ use Rattle.contacts.specs.declared.ends.ContactEnds.{ContactEnds}
 use Rattle.contacts.specs.declared.ends.Side.{Side}
 use Rattle.contacts.specs.declared.number_book.NumberBook.{NumberBook}
 use Rattle.contacts.specs.declared.number_book.NumberedContact.{NumberedContact}
-use Rattle.contacts.specs.ChangedKeys.{AreRising}
+use Rattle.contacts_base.specs.ChangedKeys.{AreRising}
 use Rattle.contacts.specs.Ends.{ends_on, slot_on}
 use Rattle.contacts.specs.Numbered.{AreEndsAt, AreKeysOnce, contact_at, key_of, number_key_at, slot_at}
 use Rattle.contacts.specs.NumberBooks.{AreFree, CanMake, HasMade, HasRoom, IsBook, bound_of}

@@ -5,8 +5,8 @@ use Rattle.contacts_base.specs.NearCodes.{pair_code, near_from, near_codes}
 use Rattle.contacts_base.specs.Proxies.{IsProxyList}
 use Rattle.contacts.specs.declared.strips.TheConstants.{PLACES}
 use Rattle.contacts.specs.Pairs.{IsPair, ArePairs}
-use Rattle.contacts.proofs.Members.{each_from, all_from_each}
-use Rattle.contacts.proofs.Rising.{increasing_from_rising}
+use Rattle.contacts_base.proofs.Members.{each_from, all_from_each}
+use Rattle.contacts_base.proofs.Rising.{increasing_from_rising}
 use Rattle.contacts.proofs.NearLemmas.{IsNearFrom, from_is, from_rises}
 use Rattle.contacts.proofs.ProxyLemmas.{few}
 

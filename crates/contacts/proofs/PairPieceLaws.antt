@@ -10,8 +10,8 @@ use Rattle.contacts_base.specs.Proxies.{IsProxyList}
 use Rattle.contacts.specs.declared.changes.Present.{Present}
 use Rattle.contacts.specs.Pairs.{IsPair, ArePairs}
 use Rattle.contacts.specs.ByCodes.{contacts_of, entry_at}
-use Rattle.contacts.specs.Changes.{key_if_touching, keys_touching_only_in}
-use Rattle.contacts.specs.ChangedKeys.{key_unless_in, keys_not_in}
+use Rattle.contacts_base.specs.Changes.{key_if_touching, keys_touching_only_in}
+use Rattle.contacts_base.specs.ChangedKeys.{key_unless_in, keys_not_in}
 use Rattle.contacts.specs.PieceRanges.{PieceRange, items_in, items_of}
 use Rattle.contacts.specs.PairValues.{Evaluated, NearLists}
 use Rattle.contacts.specs.PairPieces.{IsRoomFor, both, evaluated, evaluated_in, evaluated_of, joined, shown}

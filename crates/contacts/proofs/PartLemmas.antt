@@ -8,14 +8,14 @@ use Rattle.contacts_base.specs.Keys.{id_number, key_number}
 use Rattle.contacts_base.specs.Proxies.{IsProxyList, number_of}
 use Rattle.contacts_base.specs.Contacts.{lookup, AreKeysRising, number_of as entry_number}
 use Rattle.contacts_base.proofs.LookupLemmas.{lookup-here, lookup-later}
-use Rattle.contacts.specs.declared.forbidden.BodyPair.{BodyPair}
+use Rattle.contacts_base.specs.declared.body_pair.BodyPair.{BodyPair}
 use Rattle.contacts.specs.Pairs.{proxy_at, pair_key, first_place}
-use Rattle.contacts.specs.Changes.{entry_of, entry_with, key_of}
+use Rattle.contacts_base.specs.Changes.{entry_of, entry_with, key_of}
 use Rattle.contacts.specs.ByCodes.{entry_at, contacts_of, allowed_codes}
 use Rattle.contacts.specs.Known.{found, near_key, has_key, IsPairKey, either_moved, IsKnown, stays, staying, is_fresh, fresh, code_number, again_of, again}
 use Rattle.contacts_base.specs.Merge.{merged}
-use Rattle.contacts.proofs.Members.{Each, IsIn, each_in}
-use Rattle.contacts.proofs.Rising.{IsRising, rising_from_increasing}
+use Rattle.contacts_base.proofs.Members.{Each, IsIn, each_in}
+use Rattle.contacts_base.proofs.Rising.{IsRising, rising_from_increasing}
 use Rattle.contacts.proofs.ForbiddenLemmas.{allowed_are_pairs}
 use Rattle.contacts.proofs.ChangeLemmas.{contacts_rise}
 use Rattle.contacts.proofs.MergedMembers.{merged_has, merged_is, merged_rises, same_members}

@@ -9,8 +9,8 @@ use Rattle.shapes.specs.declared.limits.TheConstants.{MAX_SHAPES}
 use Rattle.contacts_base.specs.declared.near.Proxy.{Proxy}
 use Rattle.contacts_base.specs.Proxies.{IsProxy, IsProxyList, number_of}
 use Rattle.contacts.specs.declared.strips.TheConstants.{PLACES}
-use Rattle.contacts.proofs.Members.{Each}
-use Rattle.contacts.proofs.Rising.{increasing_from_rising, rising_append, rising_from_increasing}
+use Rattle.contacts_base.proofs.Members.{Each}
+use Rattle.contacts_base.proofs.Rising.{increasing_from_rising, rising_append, rising_from_increasing}
 
 pub numbers_later : (ps : List Proxy) → IsStrictlyIncreasing (map number_of ps) → (i j : ℕ) (d : Proxy) → i < j → j < length ps → number_of (get_or ps i d) < number_of (get_or ps j d)
 numbers_later ps h i j d lt lj =

@@ -13,8 +13,8 @@ use Rattle.contacts_base.specs.ContactLists.{contact_set}
 use Rattle.contacts_base.specs.Evaluate.{touches}
 use Rattle.contacts_base.specs.Keys.{id_number}
 use Rattle.contacts_base.specs.declared.split.Renewal.{Renewal}
-use Rattle.contacts.specs.declared.forbidden.BodyPair.{BodyPair}
-use Rattle.contacts.specs.Changes.{key_if_new}
+use Rattle.contacts_base.specs.declared.body_pair.BodyPair.{BodyPair}
+use Rattle.contacts_base.specs.Changes.{key_if_new}
 use Rattle.contacts.specs.Known.{again, either_moved, found, stays}
 use Rattle.contacts.specs.declared.stirring.Stirring.{Stirring}
 use Rattle.contacts.specs.Stirring.{AreHeld, AreQuiet, AreStirring, HaveKeys, is_flagged, one_flagged, passed_by}

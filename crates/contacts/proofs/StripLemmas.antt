@@ -13,7 +13,7 @@ use Rattle.contacts_base.specs.declared.near.Proxy.{Proxy}
 use Rattle.contacts.specs.declared.strips.TheConstants.{LEAST_BITS, PLACES, SPOTS, STEP, STRIPS}
 use Rattle.contacts.specs.Pairs.{proxy_at, no_box}
 use Rattle.contacts.specs.Sweep.{boxes_of, box_at, column, strip_of, spot, start_in, strip_at, place_at, reach, first_start, firsts_from, furthers_from, starts_up, starts_of, IsPlaceIn}
-use Rattle.contacts.proofs.Members.{Each, IsIn, each_append, in_left, in_right, in_from_contains, contains_from_in, all_from_each}
+use Rattle.contacts_base.proofs.Members.{Each, IsIn, each_append, in_left, in_right, in_from_contains, contains_from_in, all_from_each}
 
 -- ---- the boxes by themselves
 

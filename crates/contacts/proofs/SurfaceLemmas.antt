@@ -17,7 +17,7 @@ use Rattle.contacts_base.specs.Surfaces.{IsSurface, mixed}
 use Rattle.contacts_base.specs.Proxies.{IsProxy, IsProxyList}
 use Rattle.contacts_base.specs.Contacts.{number_of, lookup}
 use Rattle.contacts.specs.Pairs.{IsPair, ArePairs, proxy_at, no_proxy, first_place, second_place}
-use Rattle.contacts.specs.Changes.{surface_with, entry_with, entry_of, key_of}
+use Rattle.contacts_base.specs.Changes.{surface_with, entry_with, entry_of, key_of}
 use Rattle.contacts.specs.ByCodes.{entry_at, contacts_of}
 
 record IsSmall (n : ℕ) (z : ℤ) : Type 0 where

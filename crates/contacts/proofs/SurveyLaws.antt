@@ -15,17 +15,17 @@ use Rattle.contacts_base.specs.declared.split.Renewal.{Renewal}
 use Rattle.contacts_base.specs.ContactLists.{contact_set}
 use Rattle.contacts_base.specs.Split.{Split, counting, counting_at, is_over, over_at, places_from, renewed, unless_over}
 use Rattle.contacts_base.proofs.MergeLaws.{drop_next}
-use Rattle.contacts.specs.declared.forbidden.BodyPair.{BodyPair}
+use Rattle.contacts_base.specs.declared.body_pair.BodyPair.{BodyPair}
 use Rattle.contacts.specs.declared.fates.Fate.{Fate}
 use Rattle.contacts.specs.declared.fates.Fate.TheVariants.{Stays, Goes, Renewed}
-use Rattle.contacts.specs.Changes.{key_if_new}
+use Rattle.contacts_base.specs.Changes.{key_if_new}
 use Rattle.contacts.specs.Known.{IsPairKey, again, stays, staying}
 use Rattle.contacts.specs.Looked.{IsLookedOver, IsFate, begun_of, ended_of, ending, keys_at}
 use Rattle.contacts.specs.Stirring.{AreQuiet, AreStirring, one_flagged, passed_by}
 use Rattle.contacts.specs.Fates.{begun_keys, ended_keys, gone_keys, key_if_begun, key_if_gone, moved_by, noted, outcome, after_fate}
 use Rattle.contacts.proofs.ChangeLemmas.{picked_more}
 use Rattle.contacts.proofs.KnownLemmas.{each_from_all}
-use Rattle.contacts.proofs.Members.{IsIn, each_in}
+use Rattle.contacts_base.proofs.Members.{IsIn, each_in}
 use Rattle.contacts.proofs.StirringLaws.{none_new, passed_more, quiet_outcome}
 use Rattle.contacts.proofs.FateLemmas.{put_fate, renewed-append, set_later}
 

@@ -12,7 +12,7 @@ use Rattle.contacts_base.specs.declared.contact.ContactEntry.{ContactEntry}
 use Rattle.contacts_base.specs.declared.split.Renewal.{Renewal}
 use Rattle.contacts_base.specs.Keys.{id_number}
 use Rattle.contacts_base.specs.Split.{Split, counting, counting_at}
-use Rattle.contacts.specs.declared.forbidden.BodyPair.{BodyPair}
+use Rattle.contacts_base.specs.declared.body_pair.BodyPair.{BodyPair}
 use Rattle.contacts.specs.declared.fates.Fate.TheVariants.{Stays, Goes, Renewed}
 use Rattle.contacts.specs.Known.{IsPairKey, again, again_of, found, stays}
 use Rattle.contacts.specs.Fates.{after_fate, moved_by, noted, one_stirs_of, outcome}

@@ -20,10 +20,10 @@ use Rattle.fixed_geom.specs.declared.boxes.Box2.{Box2}
 use Rattle.contacts.specs.declared.strips.TheConstants.{PLACES}
 use Rattle.contacts.specs.Pairs.{proxy_at}
 use Rattle.contacts.specs.Sweep.{boxes_of, pair_at, near_pair, strip_of, spot, start_in, strip_at, place_at, starts_of, IsPlaceIn, box_at, end_of, may_meet, pair_of, met, is_dynamic_at, dynamics_of, swept}
-use Rattle.contacts.proofs.Members.{Each, IsIn, each_from, each_in, in_append, in_left, in_new, in_passed, in_right, in_from_contains, contains_from_in}
+use Rattle.contacts_base.proofs.Members.{Each, IsIn, each_from, each_in, in_append, in_left, in_new, in_passed, in_right, in_from_contains, contains_from_in}
 use Rattle.contacts.proofs.StripLemmas.{box_there, strip_is, place_is, start_rises, listed_first, listed_from, places_in}
 use Rattle.contacts.proofs.NearLemmas.{IsNearFrom, from_has, from_is, from_rises}
-use Rattle.contacts.proofs.Rising.{IsRising, same_rising, rising_from_increasing}
+use Rattle.contacts_base.proofs.Rising.{IsRising, same_rising, rising_from_increasing}
 
 -- ---- what being near says
 

@@ -11,17 +11,17 @@ use Rattle.contacts_base.specs.Keys.{id_number, key_number}
 use Rattle.contacts_base.specs.Proxies.{IsProxyList}
 use Rattle.contacts_base.specs.Contacts.{lookup, AreKeysRising, number_of as entry_number}
 use Rattle.contacts_base.specs.ContactLists.{AreContacts}
-use Rattle.contacts.specs.declared.forbidden.BodyPair.{BodyPair}
-use Rattle.contacts.specs.Changes.{key_if_new, key_if_touching, keys_touching_only_in}
+use Rattle.contacts_base.specs.declared.body_pair.BodyPair.{BodyPair}
+use Rattle.contacts_base.specs.Changes.{key_if_new, key_if_touching, keys_touching_only_in}
 use Rattle.contacts.specs.ByCodes.{contacts_of, entry_at, allowed_codes}
-use Rattle.contacts.specs.ChangedKeys.{AreRising}
+use Rattle.contacts_base.specs.ChangedKeys.{AreRising}
 use Rattle.contacts.specs.Pairs.{pair_key}
 use Rattle.contacts.specs.Known.{found, near_key, has_key, IsPairKey, either_moved, IsKnown, all_still, stays, staying, is_fresh, fresh, again_of, again}
 use Rattle.contacts_base.specs.Merge.{AreAscending, below_of, merged, put_in}
 use Rattle.contacts.specs.declared.fates.Fate.{Fate}
 use Rattle.contacts.specs.Fates.{IsAdded, begun_keys, ended_keys, key_if_begun, outcome, after_fate}
-use Rattle.contacts.proofs.Members.{Each, IsIn, each_in}
-use Rattle.contacts.proofs.Rising.{IsRising, increasing_from_rising, rising_from_increasing}
+use Rattle.contacts_base.proofs.Members.{Each, IsIn, each_in}
+use Rattle.contacts_base.proofs.Rising.{IsRising, increasing_from_rising, rising_from_increasing}
 use Rattle.contacts.proofs.ForbiddenLemmas.{allowed_are_pairs}
 use Rattle.contacts.proofs.ChangeLemmas.{PicksKeys, contacts_rise, if_step, keys_touching_rise, unless_step}
 use Rattle.contacts_base.proofs.MergeLaws.{drop_next, is_lower, merged_more, not_lower}

@@ -4,11 +4,11 @@ use Rattle.contacts_base.specs.NearCodes.{near_codes}
 use Rattle.contacts_base.specs.declared.near.Proxy.{Proxy}
 use Rattle.contacts_base.specs.declared.contact.ContactEntry.{ContactEntry}
 use Rattle.contacts_base.specs.Proxies.{IsProxyList}
-use Rattle.contacts.specs.declared.forbidden.BodyPair.{BodyPair}
+use Rattle.contacts_base.specs.declared.body_pair.BodyPair.{BodyPair}
 use Rattle.contacts.specs.Pairs.{proxy_at, first_place, second_place}
-use Rattle.contacts.specs.Forbidden.{is_forbidden}
-use Rattle.contacts.specs.Changes.{entry_of}
-use Rattle.contacts.specs.ByPairs.{contacts_between}
+use Rattle.contacts_base.specs.Forbidden.{is_forbidden}
+use Rattle.contacts_base.specs.Changes.{entry_of}
+use Rattle.contacts_base.specs.ByPairs.{contacts_between}
 
 -- the bodies of the pair of shapes with this code aren't among these pairs
 abbrev pub is_allowed : List BodyPair → List Proxy → ℕ → Bool

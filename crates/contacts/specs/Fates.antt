@@ -6,12 +6,12 @@ use Rattle.contacts_base.specs.declared.key.ContactKey.{ContactKey}
 use Rattle.contacts_base.specs.declared.contact.ContactEntry.{ContactEntry}
 use Rattle.contacts_base.specs.Contacts.{number_of as entry_number}
 use Rattle.contacts_base.specs.Keys.{id_number}
-use Rattle.contacts.specs.declared.forbidden.BodyPair.{BodyPair}
+use Rattle.contacts_base.specs.declared.body_pair.BodyPair.{BodyPair}
 use Rattle.contacts.specs.declared.fates.Fate.{Fate}
 use Rattle.contacts.specs.declared.fates.Fate.TheVariants.{Stays, Goes, Renewed}
 use Rattle.contacts_base.specs.declared.split.Renewal.{Renewal}
-use Rattle.contacts.specs.ByPairs.{contacts_between}
-use Rattle.contacts.specs.Changes.{key_if_new, keys_touching_only_in}
+use Rattle.contacts_base.specs.ByPairs.{contacts_between}
+use Rattle.contacts_base.specs.Changes.{key_if_new, keys_touching_only_in}
 use Rattle.contacts.specs.Known.{again, found, stays}
 use Rattle.contacts_base.specs.Merge.{below_of, beyond_of}
 

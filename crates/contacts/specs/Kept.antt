@@ -4,9 +4,9 @@ use Rattle.contacts_base.specs.declared.contact.ContactEntry.{ContactEntry}
 use Rattle.contacts_base.specs.declared.near.Proxy.{Proxy}
 use Rattle.contacts_base.specs.Proxies.{IsProxyList}
 use Rattle.contacts_base.specs.Split.{Split, contacts_in}
-use Rattle.contacts.specs.declared.forbidden.BodyPair.{BodyPair}
+use Rattle.contacts_base.specs.declared.body_pair.BodyPair.{BodyPair}
 use Rattle.contacts.specs.declared.pending_update.Touches.{Touches}
-use Rattle.contacts.specs.ChangedKeys.{AreRising}
+use Rattle.contacts_base.specs.ChangedKeys.{AreRising}
 use Rattle.contacts.specs.declared.ends.Side.{Side}
 use Rattle.contacts.specs.declared.ends.Side.TheVariants.{First, Second}
 use Rattle.contacts.specs.declared.collide_memory.CollideState.{CollideState}

@@ -8,10 +8,10 @@ use Rattle.contacts_base.specs.Keys.{id_number, key_number}
 use Rattle.contacts_base.specs.Near.{is_near}
 use Rattle.contacts_base.specs.Proxies.{IsProxyList, number_of}
 use Rattle.contacts_base.specs.Contacts.{lookup, AreKeysRising, number_of as entry_number}
-use Rattle.contacts.specs.declared.forbidden.BodyPair.{BodyPair}
-use Rattle.contacts.specs.Changes.{contact_with}
+use Rattle.contacts_base.specs.declared.body_pair.BodyPair.{BodyPair}
+use Rattle.contacts_base.specs.Changes.{contact_with}
 use Rattle.contacts.specs.ByCodes.{contacts_of, allowed_codes}
-use Rattle.contacts.specs.Forbidden.{is_forbidden}
+use Rattle.contacts_base.specs.Forbidden.{is_forbidden}
 use Rattle.contacts_base.specs.Merge.{merged}
 use Rattle.contacts.specs.Pairs.{pair_key}
 

@@ -11,12 +11,12 @@ use Rattle.contacts_base.specs.Contacts.{number_of}
 use Rattle.contacts_base.specs.ContactLists.{AreContacts}
 use Rattle.contacts_base.specs.Merge.{merged}
 use Rattle.contacts_base.specs.Split.{Split, carried, contacts_in, counting, over_at, renewed}
-use Rattle.contacts.specs.declared.forbidden.BodyPair.{BodyPair}
+use Rattle.contacts_base.specs.declared.body_pair.BodyPair.{BodyPair}
 use Rattle.contacts.specs.declared.rebuild.Rebuilt.{Rebuilt}
 use Rattle.contacts.specs.declared.fates.Fate.{Fate}
 use Rattle.contacts.specs.declared.fates.Fate.TheVariants.{Stays, Goes, Renewed}
-use Rattle.contacts.specs.Changes.{key_if_new}
-use Rattle.contacts.specs.ChangedKeys.{AreRising}
+use Rattle.contacts_base.specs.Changes.{key_if_new}
+use Rattle.contacts_base.specs.ChangedKeys.{AreRising}
 use Rattle.contacts.specs.Known.{again, staying}
 use Rattle.contacts.specs.Fates.{IsMade, begun_keys, ended_keys, gone_keys, key_if_begun, outcome, after_fate}
 

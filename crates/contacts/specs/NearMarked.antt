@@ -9,8 +9,8 @@ use Rattle.contacts_base.specs.declared.contact.ContactEntry.{ContactEntry}
 use Rattle.contacts_base.specs.Keys.{key_number}
 use Rattle.contacts_base.specs.Near.{is_near}
 use Rattle.contacts_base.specs.Proxies.{number_of}
-use Rattle.contacts.specs.declared.forbidden.BodyPair.{BodyPair}
-use Rattle.contacts.specs.Changes.{entry_with, key_of}
+use Rattle.contacts_base.specs.declared.body_pair.BodyPair.{BodyPair}
+use Rattle.contacts_base.specs.Changes.{entry_with, key_of}
 use Rattle.contacts.specs.Known.{either_moved, found, has_key, may_touch}
 
 -- ---- the numbers of near pairs' keys

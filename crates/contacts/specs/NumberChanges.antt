@@ -8,8 +8,8 @@ use Rattle.contacts.specs.declared.number_book.NumberBook.{NumberBook}
 use Rattle.contacts.specs.declared.number_book.NumberedContact.{NumberedContact}
 use Rattle.contacts_base.specs.ContactLists.{AreContacts}
 use Rattle.contacts.specs.declared.changes.Changes.{Changes}
-use Rattle.contacts.specs.Changes.{keys_touching_only_in}
-use Rattle.contacts.specs.ChangedKeys.{AreRising, keys_not_in}
+use Rattle.contacts_base.specs.Changes.{keys_touching_only_in}
+use Rattle.contacts_base.specs.ChangedKeys.{AreRising, keys_not_in}
 use Rattle.contacts.specs.Known.{IsPairKey}
 use Rattle.contacts.specs.NumberBooks.{HasRoomFor, IsNoKey}
 use Rattle.contacts.specs.Numbered.{contact_at, number_key_at, numbered_of}

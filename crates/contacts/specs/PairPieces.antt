@@ -4,8 +4,8 @@ use Rattle.std.specs.List.{flat_map}
 use Rattle.contacts_base.specs.declared.near.Proxy.{Proxy}
 use Rattle.contacts_base.specs.declared.contact.ContactEntry.{ContactEntry}
 use Rattle.contacts.specs.ByCodes.{contacts_of}
-use Rattle.contacts.specs.Changes.{keys_touching_only_in}
-use Rattle.contacts.specs.ChangedKeys.{keys_not_in}
+use Rattle.contacts_base.specs.Changes.{keys_touching_only_in}
+use Rattle.contacts_base.specs.ChangedKeys.{keys_not_in}
 use Rattle.contacts.specs.declared.changes.Present.{Present}
 use Rattle.contacts.specs.PieceRanges.{PieceRange, items_in}
 use Rattle.contacts.specs.PairValues.{Evaluated, NearLists}

@@ -6,7 +6,7 @@ use Rattle.fixed_geom.specs.Vectors.{zero_vector}
 use Rattle.shapes.specs.declared.shape.Shape.TheVariants.{Circle}
 use Rattle.contacts_base.specs.declared.near.Proxy.{Proxy}
 use Rattle.contacts_base.specs.declared.key.ContactKey.{ContactKey}
-use Rattle.contacts.specs.Changes.{key_of}
+use Rattle.contacts_base.specs.Changes.{key_of}
 
 -- what stands for a box beyond a list
 abbrev pub no_box : Box2

@@ -6,7 +6,7 @@ use Rattle.contacts_base.specs.ContactLists.{AreContacts}
 use Rattle.contacts_base.specs.ShortLists.{counted_in}
 use Rattle.contacts_base.specs.Split.{Split, carried, contacts_in}
 use Rattle.contacts.specs.declared.pending_update.PendingUpdate.{PendingUpdate}
-use Rattle.contacts.specs.ChangedKeys.{AreRising}
+use Rattle.contacts_base.specs.ChangedKeys.{AreRising}
 use Rattle.contacts.specs.NumberChanges.{IsChange}
 
 -- what the two lists become by what was noted of them

@@ -7,10 +7,10 @@ ghost use Rattle.std.specs.Option.{option_copied, option_to_list};
 ghost use Rattle.contacts_base.specs.Contacts.{AreKeysRising, is_touching};
 ghost use Rattle.contacts_base.specs.ContactLists.{AreContacts};
 ghost use Rattle.contacts.specs.Pairs.{IsPair, ArePairs, proxy_at, first_place, second_place, pair_key};
-ghost use Rattle.contacts.specs.Changes.{surface_with, contact_with, entry_with, kept_contact, key_if_new, keys_touching_only_in};
+ghost use Rattle.contacts_base.specs.Changes.{surface_with, contact_with, entry_with, kept_contact, key_if_new, keys_touching_only_in};
 ghost use Rattle.contacts.specs.ByCodes.{contacts_of};
 ghost use Rattle.contacts.specs.PairPieces.{IsRoomFor};
-ghost use Rattle.contacts.specs.ChangedKeys.{key_unless, keys_not_in, AreRising};
+ghost use Rattle.contacts_base.specs.ChangedKeys.{key_unless, keys_not_in, AreRising};
 
 use crate::pair_pieces::{EvaluatedPairs, PairPiece, evaluate_pairs};
 use contacts_base::{
@@ -80,7 +80,7 @@ pub(crate) fn contact_with(old: Option<&ContactEntry>, p: &Proxy, q: &Proxy) -> 
 }
 
 /// The contact of two shapes, whose contact until now was `old`.
-#[tactic(auto, unfolding(crate::specs::Changes::entry_with))]
+#[tactic(auto, unfolding(contacts_base::specs::Changes::entry_with))]
 pub(crate) fn entry_with(old: Option<&ContactEntry>, p: &Proxy, q: &Proxy) -> ContactEntry
     requires first { IsProxy p.now }
     requires second { IsProxy q.now }
@@ -108,7 +108,7 @@ pub(crate) fn pair_entry(old: Option<&ContactEntry>, proxies: &[Proxy], code: u6
 }
 
 /// The entry's key, unless there is another contact with it.
-#[tactic(auto, unfolding(crate::specs::ChangedKeys::key_unless))]
+#[tactic(auto, unfolding(contacts_base::specs::ChangedKeys::key_unless))]
 fn key_unless(other: Option<&ContactEntry>, entry: &ContactEntry) -> Option<ContactKey>
     ensures { result ≡ key_unless (option_copied other.entry) entry.now }
 {
@@ -128,7 +128,7 @@ fn is_touching(entry: Option<&ContactEntry>) -> bool
 }
 
 /// The entry's key, if it touches and the other contact with its key, if there is one, doesn't.
-#[tactic(auto, unfolding(crate::specs::Changes::key_if_new))]
+#[tactic(auto, unfolding(contacts_base::specs::Changes::key_if_new))]
 fn key_if_new(other: Option<&ContactEntry>, entry: &ContactEntry) -> Option<ContactKey>
     ensures { result ≡ key_if_new (option_copied other.entry) entry.now }
 {

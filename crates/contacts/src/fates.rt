@@ -8,7 +8,7 @@ ghost use Rattle.contacts_base.specs.declared.near.Proxy.{Proxy};
 ghost use Rattle.contacts_base.specs.Keys.{id_number};
 ghost use Rattle.contacts_base.specs.Proxies.{IsProxyList};
 ghost use Rattle.contacts_base.specs.Contacts.{is_touching};
-ghost use Rattle.contacts.specs.Changes.{key_if_new};
+ghost use Rattle.contacts_base.specs.Changes.{key_if_new};
 ghost use Rattle.contacts.specs.Known.{again, either_moved, found, may_touch, near_key, stays};
 ghost use Rattle.contacts.specs.Looked.{ending};
 ghost use Rattle.contacts.specs.SurveyPieces.{fate_of};
@@ -180,7 +180,7 @@ fn touches_after(entry: &ContactEntry, fate: &Fate) -> bool
 }
 
 /// The contact's key, if it touched, and doesn't after its fate.
-#[tactic(auto, unfolding(crate::specs::Changes::key_if_new))]
+#[tactic(auto, unfolding(contacts_base::specs::Changes::key_if_new))]
 pub(crate) fn ended_key(entry: &ContactEntry, fate: &Fate) -> Option<ContactKey>
     ensures { result ≡ key_if_new (after_fate entry.now fate.now) entry.now }
 {
@@ -206,7 +206,7 @@ pub(crate) fn gone_key(entry: &ContactEntry, fate: &Fate) -> Option<ContactKey>
 }
 
 /// The contact's key, if it touches with these points, and didn't before.
-#[tactic(auto, unfolding(crate::specs::Changes::key_if_new))]
+#[tactic(auto, unfolding(contacts_base::specs::Changes::key_if_new))]
 fn key_if_begins(entry: &ContactEntry, contact: &PackedContact) -> Option<ContactKey>
     ensures { result ≡ key_if_new (Some entry.now) (record entry.now { contact = contact.now }) }
 {

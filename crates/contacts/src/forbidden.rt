@@ -3,37 +3,14 @@
 ghost use Rattle.std.specs.Prelude.{◌≡◌, ◌++◌, ◌∷◌, [], List, cond, filter, OnOk};
 ghost use Rattle.std.specs.List.{list_any};
 ghost use Rattle.std.specs.Result.{IsOkUnless};
-ghost use Rattle.contacts.specs.declared.forbidden.BodyPair.{BodyPair as TheBodyPair};
-ghost use Rattle.contacts.specs.Forbidden.{is_forbidden, is_in_order, is_pair_of};
+ghost use Rattle.contacts_base.specs.declared.body_pair.BodyPair.{BodyPair as TheBodyPair};
+ghost use Rattle.contacts_base.specs.Forbidden.{is_forbidden, is_pair_of};
 ghost use Rattle.contacts.specs.ByCodes.{is_allowed};
 ghost use Rattle.contacts.specs.Pairs.{IsPair, ArePairs};
 
 use contacts_base::Proxy;
 use fixed_geom::Refusal;
 use std::alloc::Global;
-
-/// Two bodies, by their slots.
-#[derive(Clone, Copy)]
-pub struct BodyPair {
-    pub a: u32,
-    pub b: u32,
-}
-
-impl BodyPair {
-    /// Whether it is of the bodies in these two slots, in this order.
-    fn is_in_order(&self, a: u32, b: u32) -> bool
-        ensures { result ≡ is_in_order a b self.now }
-    {
-        self.a == a && self.b == b
-    }
-
-    /// Whether it is of the bodies in these two slots, whichever comes first.
-    pub fn is_of(&self, a: u32, b: u32) -> bool
-        ensures { result ≡ is_pair_of a b self.now }
-    {
-        self.is_in_order(a, b) || self.is_in_order(b, a)
-    }
-}
 
 /// Pairs of bodies that may not collide (`pairs`): a pair may stand there more than once. `JointTable` of
 /// `world_core_base` implements it, by the joints whose bodies don't collide, and

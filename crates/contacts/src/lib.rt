@@ -15,7 +15,6 @@ mod by_sweep;
 mod changes;
 mod collide;
 mod collide_memory;
-mod constraint;
 mod contact_table;
 mod crowded;
 mod dropping;
@@ -44,11 +43,10 @@ mod sweep;
 mod update;
 
 pub use changes::Changes;
-pub use constraint::Constraint;
 pub use contact_table::ContactTable;
 pub use ends::Side;
 pub use fates::{Fate, ShapesById};
-pub use forbidden::{BodyPair, ForbiddenPairs};
+pub use forbidden::ForbiddenPairs;
 pub use known::{
     all_known_after, contacts_by_codes, contacts_in_parts, known_stays, near_are_known,
 };

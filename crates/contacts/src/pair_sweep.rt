@@ -5,10 +5,10 @@ ghost use Rattle.std.specs.Result.{IsOkUnless};
 ghost use Rattle.contacts_base.specs.ContactLists.{AreContacts};
 ghost use Rattle.contacts_base.specs.NearCodes.{near_codes};
 ghost use Rattle.contacts_base.specs.Proxies.{IsProxy, IsProxyList, number_of};
-ghost use Rattle.contacts.specs.ByPairs.{contacts_between};
+ghost use Rattle.contacts_base.specs.ByPairs.{contacts_between};
 ghost use Rattle.contacts.specs.Pairs.{ArePairs};
-ghost use Rattle.contacts.specs.Changes.{keys_touching_only_in};
-ghost use Rattle.contacts.specs.ChangedKeys.{AreRising, keys_not_in};
+ghost use Rattle.contacts_base.specs.Changes.{keys_touching_only_in};
+ghost use Rattle.contacts_base.specs.ChangedKeys.{AreRising, keys_not_in};
 
 use crate::changes::{Changes, update};
 use crate::forbidden::{ForbiddenPairs, list_allowed};

@@ -7,7 +7,7 @@ ghost use Rattle.contacts_base.specs.Contacts.{AreKeysRising, number_of};
 ghost use Rattle.contacts_base.specs.ContactLists.{AreContacts};
 ghost use Rattle.contacts_base.specs.ShortLists.{counted_in};
 ghost use Rattle.contacts_base.specs.Proxies.{IsProxyList};
-ghost use Rattle.contacts.specs.Changes.{key_if_new};
+ghost use Rattle.contacts_base.specs.Changes.{key_if_new};
 ghost use Rattle.contacts.specs.Known.{IsPairKey, again, staying};
 ghost use Rattle.contacts.specs.Looked.{IsRebuilt};
 ghost use Rattle.contacts_base.specs.Merge.{AreAscending, merged};
@@ -133,7 +133,7 @@ fn fate_each<S: ShapesById, F: ForbiddenPairs>(
 }
 
 /// The contact's key, if it touches.
-#[tactic(auto, unfolding(crate::specs::Changes::key_if_new))]
+#[tactic(auto, unfolding(contacts_base::specs::Changes::key_if_new))]
 fn key_of_touching(entry: &ContactEntry) -> Option<ContactKey>
     ensures { result ≡ key_if_new None entry.now }
 {

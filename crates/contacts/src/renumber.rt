@@ -5,7 +5,7 @@ ghost use Rattle.std.specs.Result.{IsOkUnless};
 ghost use Rattle.contacts_base.specs.declared.contact.ContactEntry.{ContactEntry};
 ghost use Rattle.contacts_base.specs.ContactLists.{AreContacts};
 ghost use Rattle.contacts_base.specs.Split.{contacts_in};
-ghost use Rattle.contacts.specs.ChangedKeys.{AreRising};
+ghost use Rattle.contacts_base.specs.ChangedKeys.{AreRising};
 ghost use Rattle.contacts.specs.Numbered.{AreNumbered, IsTurnover};
 ghost use Rattle.contacts.specs.NumberBooks.{HasRoomFor, IsBook, IsNoKey, bound_of, gone_of};
 ghost use Rattle.contacts.specs.NumberChanges.{IsChange};

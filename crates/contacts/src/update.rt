@@ -12,7 +12,7 @@ ghost use Rattle.contacts_base.specs.Proxies.{IsProxyList};
 ghost use Rattle.contacts_base.specs.ShortLists.{counted_in};
 ghost use Rattle.contacts_base.specs.Split.{contacts_in, counting};
 ghost use Rattle.contacts.specs.ByCodes.{contacts_of};
-ghost use Rattle.contacts.specs.ChangedKeys.{AreRising};
+ghost use Rattle.contacts_base.specs.ChangedKeys.{AreRising};
 ghost use Rattle.contacts.specs.PendingUpdates.{IsPendingUpdate, pending_contacts};
 ghost use Rattle.contacts.specs.Known.{IsKnown, IsPairKey, fresh as fresh_codes};
 ghost use Rattle.contacts.specs.Looked.{AreGoneIf, IsDone, IsLookedOver, IsRebuiltIf, keys_at};

@@ -1,3 +1,5 @@
+pub mod Members
+pub mod Rising
 pub mod LookupLemmas
 pub mod ContactsLemmas
 pub mod CircleLemmas

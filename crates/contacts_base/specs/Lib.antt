@@ -5,6 +5,10 @@ pub mod ContactLists
 pub mod Evaluate
 pub mod Proxies
 pub mod Near
+pub mod ChangedKeys
+pub mod Changes
+pub mod Forbidden
+pub mod ByPairs
 pub mod NearCodes
 pub mod Limits
 pub mod PackedPoints

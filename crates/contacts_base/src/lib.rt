@@ -4,6 +4,7 @@
 
 mod ascending;
 mod begins;
+mod body_pair;
 mod circles;
 mod contact;
 mod contacts;
@@ -19,6 +20,7 @@ mod split;
 mod surface;
 
 pub use ascending::{Numbered, merge, push_below};
+pub use body_pair::BodyPair;
 pub use contact::{Contact, ContactEntry, ContactPoint, contact_at, find_next, seek_next};
 pub use contacts::{Contacts, put_contact};
 pub use evaluation::{Impulses, contact_of, evaluate};

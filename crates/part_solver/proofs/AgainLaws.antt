@@ -6,7 +6,7 @@ use Rattle.momenta.specs.declared.state.BodyState.{BodyState}
 use Rattle.graph_colours.specs.Colours.{Coloured}
 use Rattle.graph_colours.specs.declared.member.Member.{Member}
 use Rattle.contacts_base.specs.declared.contact.ContactEntry.{ContactEntry}
-use Rattle.contacts.specs.declared.constraint.Constraint.{Constraint}
+use Rattle.plain_world.specs.declared.constraint.Constraint.{Constraint}
 use Rattle.colour_solver.specs.declared.ticks.StepSums.{StepSums}
 use Rattle.colour_solver.specs.States.{carried_of, movers_of}
 use Rattle.plain_world.specs.declared.joint.BodyJoint.{BodyJoint}

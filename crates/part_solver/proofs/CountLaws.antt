@@ -4,7 +4,7 @@ use Rattle.std.proofs.lemmas.List.{append-nil, length-append, map_push, take_all
 use Rattle.std.proofs.lemmas.List.Concat.{flat_map-append}
 use Rattle.graph_colours.specs.Colours.{all_members}
 use Rattle.graph_colours.specs.declared.member.Member.{Member}
-use Rattle.contacts.specs.declared.constraint.Constraint.{Constraint}
+use Rattle.plain_world.specs.declared.constraint.Constraint.{Constraint}
 use Rattle.part_solver.specs.Stages.{lists_of}
 use Rattle.part_solver.specs.declared.stages.Stage.{Stage}
 

@@ -5,8 +5,8 @@ use Rattle.graph_colours.specs.declared.limits.TheConstants.{COLOURS}
 use Rattle.graph_colours.specs.Members.{AreRising}
 use Rattle.graph_colours.specs.declared.member.Member.{Member}
 use Rattle.contacts_base.specs.declared.contact.ContactEntry.{ContactEntry}
-use Rattle.contacts.specs.Constraints.{constraint_number}
-use Rattle.contacts.specs.declared.constraint.Constraint.{Constraint}
+use Rattle.plain_world.specs.Constraints.{constraint_number}
+use Rattle.plain_world.specs.declared.constraint.Constraint.{Constraint}
 use Rattle.plain_world.specs.declared.joint.BodyJoint.{BodyJoint}
 use Rattle.colour_solver.specs.declared.row_visits.Slots.{Slots}
 use Rattle.std.proofs.lemmas.List.{get_or-take, length-map, length-take-le}

@@ -12,8 +12,8 @@ use Rattle.contacts_base.specs.Contacts.{lookup}
 use Rattle.contacts_base.specs.Keys.{key_number}
 use Rattle.contacts_base.specs.declared.key.ContactKey.{ContactKey}
 use Rattle.contacts_base.specs.declared.contact.ContactEntry.{ContactEntry}
-use Rattle.contacts.specs.declared.constraint.Constraint.{Constraint}
-use Rattle.contacts.specs.declared.constraint.Constraint.TheVariants as constraints
+use Rattle.plain_world.specs.declared.constraint.Constraint.{Constraint}
+use Rattle.plain_world.specs.declared.constraint.Constraint.TheVariants as constraints
 use Rattle.joint_rows.specs.Rows.{joint_row}
 use Rattle.joint_rows.specs.declared.row.JointBodies.{JointBodies}
 use Rattle.colour_solver_base.specs.declared.row.Bodies.{Bodies}

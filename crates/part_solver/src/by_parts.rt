@@ -6,9 +6,9 @@ use crate::seat_map::SeatMap;
 use crate::sums::MOST_PARTS;
 use crate::team::Team;
 use colour_solver::StepSums;
-use contacts::Constraint;
 use graph_colours::Colours;
 use momenta::BodyState;
+use plain_world::Constraint;
 use std::sync::Wait;
 use world_core_base::{Constraints, GatheredRows, MovingSlots, Pace, StepSolver, run_alone};
 

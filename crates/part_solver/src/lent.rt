@@ -8,10 +8,9 @@ ghost use Rattle.part_solver.specs.Stages.{CanGather, HaveTheRows, lists_of, slo
 use crate::stages::Stage;
 use crate::step_lists::StepLists;
 use colour_solver::Slots;
-use contacts::Constraint;
 use contacts_base::SplitContacts;
 use graph_colours::{COLOURS, Member};
-use plain_world::BodyJoint;
+use plain_world::{BodyJoint, Constraint};
 use world_core_base::Constraints;
 
 /// The joints and contacts of a world, and the constraints that act, by stage.

@@ -9,9 +9,9 @@ use crate::homes::are_dealt;
 use crate::step_memory::StepMemory;
 use crate::sums::MOST_PARTS;
 use crate::work_guess::guess_work;
-use contacts::Constraint;
 use graph_colours::Colours;
 use momenta::BodyState;
+use plain_world::Constraint;
 use std::alloc::Global;
 use world_core_base::Constraints;
 

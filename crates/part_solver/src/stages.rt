@@ -1,15 +1,14 @@
 //! The constraints that act in a step, colour after colour, each with the slots of its bodies.
 
 ghost use Rattle.std.specs.Prelude.{◌≡◌, ◌++◌, ◌∷◌, ◌<◌, [], OnOk, length, option_copied, slice_index_or};
-ghost use Rattle.contacts.specs.declared.constraint.Constraint.{Constraint as TheConstraint};
+ghost use Rattle.plain_world.specs.declared.constraint.Constraint.{Constraint as TheConstraint};
 ghost use Rattle.graph_colours.specs.declared.member.Member.{Member as TheMember};
 ghost use Rattle.part_solver.specs.Stages.{AreStages, IsStageOf, joint_ends, lists_of, slot_lists, slots_in, slots_of};
 
 use colour_solver::Slots;
-use contacts::Constraint;
 use fixed_geom::Refusal;
 use graph_colours::{Colours, Member, OVERFLOW};
-use plain_world::{BodyJoint, item_at};
+use plain_world::{BodyJoint, Constraint, item_at};
 use std::alloc::Global;
 
 /// The constraints of a colour, or of the overflow, and the slots of the two bodies of each.

@@ -6,10 +6,9 @@ ghost use Rattle.part_solver.specs.Stages.{AreStages, lists_of};
 
 use crate::seat::{Lists, Part, Seat};
 use crate::stages::{Stage, list_stages};
-use contacts::Constraint;
 use fixed_geom::Refusal;
 use graph_colours::Colours;
-use plain_world::BodyJoint;
+use plain_world::{BodyJoint, Constraint};
 use std::alloc::Global;
 use world_core_base::MovingSlots;
 

@@ -24,10 +24,10 @@ use crate::seat::Lists;
 use crate::seeing::{is_mover, part_at};
 use crate::step_lists::StepLists;
 use colour_solver::Slots;
-use contacts::Constraint;
 use graph_colours::{COLOURS, Member};
 use momenta::BodyState;
 use part_runs::laws::walks_are_made;
+use plain_world::Constraint;
 use world_core_base::{RowSources, gather_colour};
 
 /// What a row's part is found by.

@@ -2,9 +2,9 @@
 
 ghost use Rattle.std.specs.Prelude.{◌≡◌};
 
-use contacts::Constraint;
 use contacts_base::{Hint, SplitContacts};
 use graph_colours::{Colours, Member, OVERFLOW};
+use plain_world::Constraint;
 
 /// So many constraints of each colour are looked at.
 const SAMPLES: usize = 4;

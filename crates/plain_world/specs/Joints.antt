@@ -13,7 +13,7 @@ use Rattle.body_handles.specs.declared.slot_table.SlotEntry.{SlotEntry}
 use Rattle.body_handles.specs.SlotEntries.{is_live}
 use Rattle.joint_rows.specs.Joints.{IsJoint}
 use Rattle.joint_rows.specs.declared.limits.TheConstants.{MAX_ANCHOR, MAX_JOINT_LENGTH}
-use Rattle.contacts.specs.declared.forbidden.BodyPair.{BodyPair}
+use Rattle.contacts_base.specs.declared.body_pair.BodyPair.{BodyPair}
 use Rattle.plain_world.specs.declared.body.Body.{Body}
 use Rattle.plain_world.specs.declared.joint.BodyJoint.{BodyJoint}
 use Rattle.plain_world.specs.declared.joint.JointDef.{JointDef}

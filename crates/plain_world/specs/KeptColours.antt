@@ -1,7 +1,7 @@
 -- Trusted: the constraints of each colour, as they are kept.
 use Rattle.std.specs.Prelude.{ℕ, List, [], map, slice_index_or, Vec, vec_items}
 use Rattle.std.specs.declared.alloc.Global.{Global}
-use Rattle.contacts.specs.declared.constraint.Constraint.{Constraint}
+use Rattle.plain_world.specs.declared.constraint.Constraint.{Constraint}
 
 -- the constraints of a colour: none where there is no such colour
 abbrev pub members_at : List (List Constraint) → ℕ → List Constraint

@@ -1,3 +1,4 @@
+pub mod Constraints
 pub mod Kinds
 pub mod Bodies
 pub mod Slots

@@ -6,7 +6,7 @@ ghost use Rattle.joint_rows.specs.Joints.{IsJoint};
 ghost use Rattle.plain_world.specs.Joints.{forbidden_by, is_joint_of, joint_made, joint_refusal};
 
 use body_handles::Handle;
-use contacts::BodyPair;
+use contacts_base::BodyPair;
 use fixed_geom::{Refusal, Vec2, is_within};
 use joint_rows::{Joint, MAX_ANCHOR, MAX_JOINT_LENGTH};
 

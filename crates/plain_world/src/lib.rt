@@ -2,12 +2,13 @@
 //!
 //! A world keeps its bodies and its joints by slot. This crate has what one slot contains (`Body`, `BodyDef`, `Kind`;
 //! `BodyJoint`, `JointDef`), where a body stands (`SetName`), the fat boxes of its shapes
-//! (`FatBoxes`), bodies of one shape by its density (`BodyDef::circle` and its like), and the whole world as plain
-//! lists (`Plain`). What a step gathers and moves stands above it.
+//! (`FatBoxes`), bodies of one shape by its density (`BodyDef::circle` and its like), what has a colour (`Constraint`), and the
+//! whole world as plain lists (`Plain`). What a step gathers and moves stands above it.
 #![tactic(auto)]
 
 mod body;
 mod changes;
+mod constraint;
 mod fats;
 mod filters;
 mod joint;
@@ -20,7 +21,7 @@ mod slots;
 
 pub use body::{Body, BodyDef, BodyView, SetName, is_mass_allowed};
 pub use changes::{BodyChange, change_slot, disable_slot, enable_slot};
-pub use contacts::Constraint;
+pub use constraint::Constraint;
 pub use contacts_base::{ContactEntry, ContactKey, ShapeId, Surface};
 pub use fats::FatBoxes;
 pub use filters::know_filters_fit;

@@ -4,9 +4,9 @@ ghost use Rattle.std.specs.Prelude.{◌≡◌, ◌<◌, length, map};
 ghost use Rattle.plain_world.specs.KeptColours.{constraints_of, members_at};
 
 use crate::body::Body;
+use crate::constraint::Constraint;
 use crate::joint::BodyJoint;
 use body_handles::SlotEntry;
-use contacts::Constraint;
 use contacts_base::ContactEntry;
 use fixed_geom::Vec2;
 use islands::Label;

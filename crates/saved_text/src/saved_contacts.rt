@@ -8,10 +8,10 @@ ghost use Rattle.saved_text.specs.Tokens.{AddsItems, AddsMembers, AddsValue};
 
 use crate::leaves::Leaf;
 use crate::members::{put_members, put_object};
-use contacts::Constraint;
 use contacts_base::{ContactEntry, ContactPoint, PackedContact};
 use graph_colours::ConstraintId;
 use json::Writer;
+use plain_world::Constraint;
 use std::alloc::AllocError;
 use std::collections::HashMap;
 use world_file::colour_at;

@@ -15,9 +15,9 @@ use Rattle.graph_colours.proofs.PlaceLemmas.{is_same, not_same, same_from}
 use Rattle.contacts_base.specs.declared.contact.ContactEntry.{ContactEntry}
 use Rattle.contacts_base.specs.Contacts.{AreKeysRising, contacts_without, has_slot}
 use Rattle.contacts_base.proofs.ContactsLemmas.{keys_rise-filter}
-use Rattle.contacts.specs.Constraints.{constraint_number}
-use Rattle.contacts.specs.declared.constraint.Constraint.{Constraint}
-use Rattle.contacts.proofs.Members.{IsIn, in_left, in_right, in_from_contains, contains_from_in}
+use Rattle.plain_world.specs.Constraints.{constraint_number}
+use Rattle.plain_world.specs.declared.constraint.Constraint.{Constraint}
+use Rattle.contacts_base.proofs.Members.{IsIn, in_left, in_right, in_from_contains, contains_from_in}
 use Rattle.sleep_wake.specs.ChangeLists.{each_inserted, each_without}
 use Rattle.plain_world.specs.declared.body.Body.{Body}
 use Rattle.plain_world.specs.declared.joint.BodyJoint.{BodyJoint}

@@ -5,14 +5,14 @@ use Rattle.body_handles.specs.declared.handle.Handle.{Handle}
 use Rattle.body_handles.specs.declared.slot_table.SlotEntry.{SlotEntry}
 use Rattle.body_handles.specs.SlotEntries.{IsSlotEntry}
 use Rattle.body_handles.proofs.LowestLemmas.{no_slot_entry}
-use Rattle.contacts.proofs.Members.{IsIn, in_append, in_left, in_right}
-use Rattle.contacts.proofs.Rising.{rising_from_increasing, IsRising}
+use Rattle.contacts_base.proofs.Members.{IsIn, in_append, in_left, in_right}
+use Rattle.contacts_base.proofs.Rising.{rising_from_increasing, IsRising}
 use Rattle.contacts_base.specs.declared.contact.ContactEntry.{ContactEntry}
 use Rattle.contacts_base.specs.Contacts.{AreKeysRising, number_of}
 use Rattle.contacts_base.specs.Evaluate.{touches}
 use Rattle.contacts_base.specs.Keys.{key_number}
-use Rattle.contacts.specs.Constraints.{constraint_number}
-use Rattle.contacts.proofs.Members.{each_in}
+use Rattle.plain_world.specs.Constraints.{constraint_number}
+use Rattle.contacts_base.proofs.Members.{each_in}
 use Rattle.plain_world.specs.declared.joint.BodyJoint.{BodyJoint}
 use Rattle.plain_world.specs.Joints.{joint_at}
 use Rattle.solver_sets.specs.Alike.{AreJointSlots}

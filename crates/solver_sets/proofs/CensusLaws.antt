@@ -9,7 +9,7 @@ use Rattle.body_handles.specs.declared.handle.Handle.{Handle}
 use Rattle.body_handles.specs.declared.slot_table.SlotEntry.{SlotEntry}
 use Rattle.graph_colours.proofs.Cases.{true_or_false}
 use Rattle.graph_colours.proofs.PlaceLemmas.{is_lower, is_same, not_lower, not_same, same_from}
-use Rattle.contacts.proofs.Members.{IsIn}
+use Rattle.contacts_base.proofs.Members.{IsIn}
 use Rattle.contacts_base.specs.declared.contact.ContactEntry.{ContactEntry}
 use Rattle.sleep_wake.specs.Sleeping.{with_one_name}
 use Rattle.plain_world.specs.declared.body.Body.{Body}

@@ -14,12 +14,12 @@ use Rattle.contacts_base.specs.declared.contact.ContactEntry.{ContactEntry}
 use Rattle.contacts_base.specs.Contacts.{AreKeysRising, is_touching, lookup, number_of}
 use Rattle.contacts_base.specs.Evaluate.{touches}
 use Rattle.contacts_base.specs.Keys.{key_number}
-use Rattle.contacts.specs.Changes.{key_if_new, key_if_touching, keys_touching_only_in}
+use Rattle.contacts_base.specs.Changes.{key_if_new, key_if_touching, keys_touching_only_in}
 use Rattle.body_handles.specs.declared.handle.Handle.{Handle}
-use Rattle.contacts.specs.Constraints.{constraint_number, joint_number}
-use Rattle.contacts.specs.declared.constraint.Constraint.{Constraint}
-use Rattle.contacts.specs.declared.constraint.Constraint.TheVariants.{Contact, Joint}
-use Rattle.contacts.proofs.Members.{IsIn, in_from_contains, contains_from_in}
+use Rattle.plain_world.specs.Constraints.{constraint_number, joint_number}
+use Rattle.plain_world.specs.declared.constraint.Constraint.{Constraint}
+use Rattle.plain_world.specs.declared.constraint.Constraint.TheVariants.{Contact, Joint}
+use Rattle.contacts_base.proofs.Members.{IsIn, in_from_contains, contains_from_in}
 use Rattle.sleep_wake.specs.declared.change.Change.{Change}
 use Rattle.sleep_wake.specs.declared.change.Change.TheVariants.{Begin, End}
 use Rattle.sleep_wake.specs.Changes.{begins_inserted, change_inserted}

@@ -6,7 +6,7 @@ use Rattle.std.proofs.lemmas.Option.{none-some, same_Some}
 use Rattle.body_handles.specs.declared.handle.Handle.{Handle}
 use Rattle.body_handles.specs.declared.slot_table.SlotEntry.{SlotEntry}
 use Rattle.body_handles.specs.SlotEntries.{IsLive, is_live, is_live_at}
-use Rattle.contacts.proofs.Members.{IsIn, contains_from_in, in_append, in_from_contains, in_left, in_right}
+use Rattle.contacts_base.proofs.Members.{IsIn, contains_from_in, in_append, in_from_contains, in_left, in_right}
 use Rattle.contacts_base.specs.declared.key.ShapeId.{ShapeId}
 use Rattle.contacts_base.specs.declared.key.ContactKey.{ContactKey}
 use Rattle.contacts_base.specs.declared.contact.ContactEntry.{ContactEntry}

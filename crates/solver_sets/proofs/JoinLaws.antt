@@ -17,10 +17,10 @@ use Rattle.graph_colours.proofs.Cases.{true_or_false}
 use Rattle.graph_colours.proofs.ListLemmas.{rising_inserted, rising_without}
 use Rattle.graph_colours.proofs.PlaceLemmas.{is_same, same_from}
 use Rattle.contacts_base.specs.declared.contact.ContactEntry.{ContactEntry}
-use Rattle.contacts.specs.Constraints.{constraint_number, joint_number}
-use Rattle.contacts.specs.declared.constraint.Constraint.{Constraint}
-use Rattle.contacts.specs.declared.constraint.Constraint.TheVariants.{Joint}
-use Rattle.contacts.proofs.Members.{IsIn, contains_from_in}
+use Rattle.plain_world.specs.Constraints.{constraint_number, joint_number}
+use Rattle.plain_world.specs.declared.constraint.Constraint.{Constraint}
+use Rattle.plain_world.specs.declared.constraint.Constraint.TheVariants.{Joint}
+use Rattle.contacts_base.proofs.Members.{IsIn, contains_from_in}
 use Rattle.plain_world.specs.declared.body.Body.{Body}
 use Rattle.plain_world.specs.declared.joint.BodyJoint.{BodyJoint}
 use Rattle.plain_world.specs.Joints.{is_end_in, joint_at}

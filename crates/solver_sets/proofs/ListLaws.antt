@@ -6,7 +6,7 @@ use Rattle.std.proofs.lemmas.Bool.{false≢true}
 use Rattle.std.proofs.lemmas.List.Kept.{AllPairs-cons}
 use Rattle.graph_colours.proofs.ListLemmas.{pairs_none, pairs_head, pairs_tail}
 use Rattle.std.proofs.lemmas.List.Elements.{All-contains}
-use Rattle.contacts.proofs.Members.{IsIn, in_append, in_from_contains, contains_from_in}
+use Rattle.contacts_base.proofs.Members.{IsIn, in_append, in_from_contains, contains_from_in}
 use Rattle.graph_colours.specs.declared.member.Member.{Member}
 use Rattle.graph_colours.specs.Members.{AreRising}
 use Rattle.sleep_wake.proofs.ChangeLemmas.{one_order}

@@ -2,7 +2,7 @@
 use Rattle.std.proofs.Common.{◌≡◌, ◌≢◌, ◌⊎◌, ℕ, ◌<◌, ◌==◌, Bool, true, false, cond, List, [], ◌∷◌, ◌++◌, map, filter, AllPairs, inl, inr, refl, sym, ap, ◌∙◌, subst, arith}
 use Rattle.std.proofs.lemmas.List.{get_or_default}
 use Rattle.std.proofs.lemmas.List.Kept.{AllPairs-cons}
-use Rattle.contacts.proofs.Members.{IsIn, in_append, in_left, in_right, in_from_place}
+use Rattle.contacts_base.proofs.Members.{IsIn, in_append, in_left, in_right, in_from_place}
 use Rattle.graph_colours.proofs.Cases.{true_or_false}
 use Rattle.graph_colours.proofs.ListLemmas.{pairs_none}
 use Rattle.graph_colours.proofs.PlaceLemmas.{is_same, same_from}

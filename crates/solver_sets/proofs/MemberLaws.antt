@@ -6,7 +6,7 @@ use Rattle.graph_colours.specs.Members.{AreRising, inserted, without_member}
 use Rattle.graph_colours.specs.FoundMembers.{has_id}
 use Rattle.graph_colours.proofs.ListLemmas.{rising_inserted, rising_without}
 use Rattle.graph_colours.proofs.PlaceLemmas.{has_no_id}
-use Rattle.contacts.proofs.Members.{IsIn, in_from_contains, contains_from_in}
+use Rattle.contacts_base.proofs.Members.{IsIn, in_from_contains, contains_from_in}
 use Rattle.sleep_wake.specs.ChangeLists.{each_inserted, each_without}
 use Rattle.sleep_wake.proofs.ListLemmas.{in_inserted, in_without, inserted_in, without_in}
 use Rattle.solver_sets.proofs.ListLaws.{Rises}

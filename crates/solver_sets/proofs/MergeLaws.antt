@@ -9,11 +9,11 @@ use Rattle.graph_colours.proofs.Cases.{by_test}
 use Rattle.graph_colours.proofs.PlaceLemmas.{is_lower, not_lower}
 use Rattle.contacts_base.specs.declared.key.ContactKey.{ContactKey}
 use Rattle.contacts_base.specs.Keys.{key_number}
-use Rattle.contacts.specs.ChangedKeys.{AreRising}
-use Rattle.contacts.specs.Constraints.{constraint_number}
-use Rattle.contacts.specs.declared.constraint.Constraint.{Constraint}
-use Rattle.contacts.proofs.Members.{Each, each_from, each_in}
-use Rattle.contacts.proofs.Rising.{IsRising, rising_from_increasing}
+use Rattle.contacts_base.specs.ChangedKeys.{AreRising}
+use Rattle.plain_world.specs.Constraints.{constraint_number}
+use Rattle.plain_world.specs.declared.constraint.Constraint.{Constraint}
+use Rattle.contacts_base.proofs.Members.{Each, each_from, each_in}
+use Rattle.contacts_base.proofs.Rising.{IsRising, rising_from_increasing}
 use Rattle.sleep_wake.specs.declared.change.Change.{Change}
 use Rattle.sleep_wake.specs.declared.change.Change.TheVariants.{Begin, End}
 use Rattle.sleep_wake.specs.Changes.{begins_inserted, change_inserted, change_number}

@@ -4,8 +4,8 @@ use Rattle.std.specs.List.{filter_map, cons_option}
 use Rattle.std.specs.List.Sorted.{IsStrictlyIncreasing}
 use Rattle.std.proofs.lemmas.Bool.{cases_eq}
 use Rattle.std.specs.Option.{option_map_or}
-use Rattle.contacts.proofs.Members.{Each, IsIn, each_from, each_in, in_from_contains}
-use Rattle.contacts.proofs.Rising.{IsRising, rising_from_increasing}
+use Rattle.contacts_base.proofs.Members.{Each, IsIn, each_from, each_in, in_from_contains}
+use Rattle.contacts_base.proofs.Rising.{IsRising, rising_from_increasing}
 use Rattle.body_handles.specs.declared.handle.Handle.{Handle}
 use Rattle.body_handles.specs.declared.slot_table.SlotEntry.{SlotEntry}
 use Rattle.islands.specs.declared.label.Label.{Label}

@@ -8,11 +8,11 @@ use Rattle.body_handles.specs.SlotEntries.{IsSlotEntry}
 use Rattle.graph_colours.specs.declared.member.Movers.{Movers}
 use Rattle.graph_colours.specs.declared.member.Member.{Member}
 use Rattle.graph_colours.specs.Colours.{all_members, ids_of}
-use Rattle.contacts.proofs.Members.{IsIn, in_from_contains, contains_from_in, in_left, in_right}
+use Rattle.contacts_base.proofs.Members.{IsIn, in_from_contains, contains_from_in, in_left, in_right}
 use Rattle.contacts_base.specs.declared.contact.ContactEntry.{ContactEntry}
-use Rattle.contacts.specs.declared.constraint.Constraint.{Constraint}
-use Rattle.contacts.specs.declared.constraint.Constraint.TheVariants.{Joint}
-use Rattle.contacts.specs.Constraints.{constraint_number}
+use Rattle.plain_world.specs.declared.constraint.Constraint.{Constraint}
+use Rattle.plain_world.specs.declared.constraint.Constraint.TheVariants.{Joint}
+use Rattle.plain_world.specs.Constraints.{constraint_number}
 use Rattle.islands.specs.declared.label.Label.{Label}
 use Rattle.islands.specs.Labels.{label_at}
 use Rattle.plain_world.specs.declared.body.Body.{Body}

@@ -14,10 +14,10 @@ use Rattle.contacts_base.specs.declared.key.ContactKey.{ContactKey}
 use Rattle.contacts_base.specs.declared.contact.ContactEntry.{ContactEntry}
 use Rattle.contacts_base.specs.Contacts.{AreKeysRising, contacts_without}
 use Rattle.contacts_base.specs.Keys.{key_number}
-use Rattle.contacts.specs.declared.constraint.Constraint.{Constraint}
-use Rattle.contacts.specs.declared.constraint.Constraint.TheVariants.{Joint}
-use Rattle.contacts.specs.Constraints.{constraint_number}
-use Rattle.contacts.specs.Changes.{keys_touching_only_in}
+use Rattle.plain_world.specs.declared.constraint.Constraint.{Constraint}
+use Rattle.plain_world.specs.declared.constraint.Constraint.TheVariants.{Joint}
+use Rattle.plain_world.specs.Constraints.{constraint_number}
+use Rattle.contacts_base.specs.Changes.{keys_touching_only_in}
 use Rattle.islands.specs.Labels.{Labels}
 use Rattle.sleep_wake.specs.Acting.{Acting, AreMovers, IsConsistent}
 use Rattle.sleep_wake.specs.ChangeLists.{AreChanges, begin_count, changes_between, each_inserted, each_without}

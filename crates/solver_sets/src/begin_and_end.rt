@@ -2,13 +2,13 @@
 
 ghost use Rattle.std.specs.Prelude.{◌≡◌, ◌<◌, true, false, length, Contains};
 ghost use Rattle.std.specs.Option.{ForSome};
-ghost use Rattle.contacts.specs.Constraints.{constraint_number};
+ghost use Rattle.plain_world.specs.Constraints.{constraint_number};
 ghost use Rattle.graph_colours.specs.FoundMembers.{has_id};
 ghost use Rattle.sleep_wake.specs.Acting.{are_awake};
 ghost use Rattle.solver_sets.specs.Ties.{begun_with, ended_with};
 
-use contacts::Constraint;
 use graph_colours::{Member, Movers};
+use plain_world::Constraint;
 use sleep_wake::Sets;
 
 /// A constraint comes, if it has movers: these are awake, and there is room. The islands of two movers are merged, and

@@ -2,16 +2,15 @@
 
 ghost use Rattle.std.specs.Prelude.{◌≡◌, ◌≤◌, ◌++◌, IfOk, OnOk, length, drop, option_map};
 ghost use Rattle.std.specs.Result.{IsOkUnless};
-ghost use Rattle.contacts.specs.ChangedKeys.{AreRising};
+ghost use Rattle.contacts_base.specs.ChangedKeys.{AreRising};
 ghost use Rattle.solver_sets.specs.Merging.{all_ends, begin_of, end_of, ends_from, ends_until, key_tie, merged};
 ghost use Rattle.solver_sets.specs.Ties.{key_changes};
 
 use crate::ties::{contact_movers, tie_with};
-use contacts::Constraint;
 use contacts_base::ContactKey;
 use fixed_geom::Refusal;
 use graph_colours::Member;
-use plain_world::Body;
+use plain_world::{Body, Constraint};
 use sleep_wake::{Change, push_some};
 use std::alloc::Global;
 

@@ -12,11 +12,10 @@ ghost use Rattle.solver_sets.specs.Ties.{joint_bonds, member_of, members_of, mov
 
 use crate::ties::{contact_movers, joint_movers, joint_tie, tie_with};
 use body_handles::{Handle, SlotEntry};
-use contacts::Constraint;
 use contacts_base::ContactEntry;
 use fixed_geom::Refusal;
 use graph_colours::{COLOURS, Member, Movers};
-use plain_world::{Body, BodyJoint, Plain, item_at};
+use plain_world::{Body, BodyJoint, Constraint, Plain, item_at};
 use sleep_wake::push_some;
 use std::alloc::Global;
 

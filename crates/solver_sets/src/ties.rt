@@ -5,10 +5,9 @@ ghost use Rattle.plain_world.specs.Bodies.{moves};
 ghost use Rattle.solver_sets.specs.Ties.{contact_movers, is_enabled, joint_movers, movers_if, movers_with, tie_with};
 
 use body_handles::Handle;
-use contacts::Constraint;
 use contacts_base::ContactKey;
 use graph_colours::{Member, Movers};
-use plain_world::{Body, BodyJoint, item_at};
+use plain_world::{Body, BodyJoint, Constraint, item_at};
 
 /// Whether a mover is in the slot.
 pub fn is_mover_at(bodies: &[Option<Body>], slot: u32) -> bool

@@ -9,9 +9,8 @@ ghost use Rattle.sleep_wake.specs.Acting.{is_mover_awake};
 ghost use Rattle.solver_sets.specs.Beside.{is_moving_at, timer_if, timers_of};
 ghost use Rattle.solver_sets.specs.BesideByTies.{ShowMoving, own_set, stilled, stilled_alone, stilled_by, stilled_lists, stilled_pair, stilled_tie, stilled_ties};
 
-use contacts::Constraint;
 use graph_colours::{Colours, Member, OVERFLOW};
-use plain_world::{Body, BodyJoint, item_at};
+use plain_world::{Body, BodyJoint, Constraint, item_at};
 
 /// Whether a kinematic body that moves is in the slot.
 pub fn is_moving_at(bodies: &[Option<Body>], slot: u32) -> bool

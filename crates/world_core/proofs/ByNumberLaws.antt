@@ -9,7 +9,7 @@ use Rattle.std.proofs.lemmas.List.Elements.{Contains-get_or}
 use Rattle.std.proofs.lemmas.Map.Keys.{IsDistinct-from_apart, IsDistinct-IsPermutation, apart_from_distinct}
 use Rattle.std.proofs.lemmas.Option.{none-some, same_Some}
 use Rattle.std.proofs.lemmas.List.Sorted.{IsPermutation-refl, IsPermutation-sym, IsPermutation-trans, IsPermutation-cons, IsPermutation-middle}
-use Rattle.contacts.proofs.Members.{IsIn, contains_from_in, in_append, in_from_contains, in_left, in_right}
+use Rattle.contacts_base.proofs.Members.{IsIn, contains_from_in, in_append, in_from_contains, in_left, in_right}
 use Rattle.packed_sets.specs.Once.{AreOnce}
 use Rattle.solver_sets.proofs.ListLaws.{Rises, filter_in, in_filter, in_map, map_in, map_same}
 use Rattle.world_core.specs.WorldTies.{kept}

@@ -7,14 +7,14 @@ use Rattle.fixed_geom.specs.declared.refusal.Refusal.TheVariants.{BadShape, OutO
 use Rattle.shapes.specs.declared.shape.ShapeDef.{ShapeDef}
 use Rattle.shapes.specs.Shapes.{are_forms_allowed, shapes_refusal, is_in_range, is_form_allowed}
 use Rattle.contacts_base.specs.declared.contact.ContactEntry.{ContactEntry}
-use Rattle.contacts.specs.ByPairs.{contacts_between}
+use Rattle.contacts_base.specs.ByPairs.{contacts_between}
 use Rattle.plain_world.specs.declared.body.Body.{Body}
 use Rattle.plain_world.specs.declared.joint.BodyJoint.{BodyJoint}
 use Rattle.plain_world.specs.Joints.{forbidden_pairs}
 use Rattle.world_rules.specs.Collide.{contacts_after, proxies_of}
 use Rattle.contacts_base.specs.Contacts.{number_of}
-use Rattle.contacts.proofs.Members.{Each}
-use Rattle.contacts.proofs.Rising.{IsRising}
+use Rattle.contacts_base.proofs.Members.{Each}
+use Rattle.contacts_base.proofs.Rising.{IsRising}
 
 -- ---- a body has eight shapes at most
 

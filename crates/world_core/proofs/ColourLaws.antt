@@ -5,12 +5,12 @@ use Rattle.std.specs.List.{list_any, position_or_len}
 use Rattle.std.proofs.lemmas.List.{length-append, length-map}
 use Rattle.graph_colours.specs.FoundMembers.{colour_of, has_id}
 use Rattle.graph_colours.proofs.SearchLemmas.{found_in_map}
-use Rattle.contacts.specs.Constraints.{constraint_number}
+use Rattle.plain_world.specs.Constraints.{constraint_number}
 use Rattle.plain_world.specs.Plain as plain
 use Rattle.plain_world.specs.Plain.{has_constraint}
 use Rattle.graph_colours.specs.declared.member.Member.{Member}
 use Rattle.graph_colours.specs.Colours.{all_members, ids_of}
-use Rattle.contacts.specs.declared.constraint.Constraint.{Constraint}
+use Rattle.plain_world.specs.declared.constraint.Constraint.{Constraint}
 use Rattle.solver_sets.specs.Ties.{Lists}
 use Rattle.world_core_base.specs.Solving.{solve_order}
 

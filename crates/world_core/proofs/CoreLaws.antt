@@ -1,7 +1,7 @@
 -- A world after each command: whole, and with all marked of which its contacts don't tell.
 use Rattle.std.proofs.Common.{◌≡◌, ℕ, ◌≤◌, Bool, true, List, length, map, Option, Some, None, inl, inr, sym, ap, ◌∙◌, subst}
 use Rattle.std.specs.Prelude.{slice_index_or, slice_set}
-use Rattle.contacts.specs.declared.constraint.Constraint.{Constraint}
+use Rattle.plain_world.specs.declared.constraint.Constraint.{Constraint}
 use Rattle.contacts.specs.declared.number_book.NumberedContact.{NumberedContact}
 use Rattle.contacts_base.specs.Contacts.{contacts_without, number_of}
 use Rattle.contacts_base.specs.declared.contact.ContactEntry.{ContactEntry}

@@ -11,7 +11,7 @@ use Rattle.shapes.specs.declared.pose.Pose.{Pose}
 use Rattle.shapes.specs.declared.shape.ShapeDef.{ShapeDef}
 use Rattle.box_tree.specs.BoxLists.{box_at, keys_over}
 use Rattle.box_tree_base.proofs.WalkLemmas.{overlaps_within}
-use Rattle.contacts.proofs.Members.{Each, IsIn, all_from_each, contains_from_in, each_append, in_new, in_passed}
+use Rattle.contacts_base.proofs.Members.{Each, IsIn, all_from_each, contains_from_in, each_append, in_new, in_passed}
 use Rattle.contacts_base.specs.declared.near.Proxy.{Proxy}
 use Rattle.plain_world.specs.declared.body.Body.{Body}
 use Rattle.plain_world.specs.Bodies.{pose_of, stirs}

@@ -14,7 +14,7 @@ use Rattle.graph_colours.specs.contracts.colours.Colours as Colours
 use Rattle.graph_colours.specs.contracts.edited.EditedList as EditedList
 use Rattle.islands.specs.contracts.islands.Islands as Islands
 use Rattle.islands.specs.contracts.scratch.SplitScratch as SplitScratch
-use Rattle.contacts.specs.contracts.constraint.Constraint as Constraint
+use Rattle.plain_world.specs.contracts.constraint.Constraint as Constraint
 use Rattle.sleep_wake.specs.contracts.sets.Sets as Sets
 use Rattle.world_core.specs.contracts.collide.BodyShapes as BodyShapes
 use Rattle.box_tree_base.proofs.CrossingLemmas.{tree_send, tree_sync}

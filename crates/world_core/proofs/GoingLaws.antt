@@ -3,8 +3,8 @@
 use Rattle.std.proofs.Common.{◌≡◌, ◌∙◌, ◌<◌, ℕ, Bool, true, cond, filter, List, [], Option, Some, None, length, slice_set, refl, ap, arith}
 use Rattle.std.proofs.lemmas.List.{length-set}
 use Rattle.body_handles.specs.declared.handle.Handle.{Handle}
-use Rattle.contacts.specs.Constraints.{constraint_number}
-use Rattle.contacts.specs.declared.constraint.Constraint.{Constraint}
+use Rattle.plain_world.specs.Constraints.{constraint_number}
+use Rattle.plain_world.specs.declared.constraint.Constraint.{Constraint}
 use Rattle.contacts.specs.declared.number_book.NumberedContact.{NumberedContact}
 use Rattle.contacts.specs.Numbered.{AreNumbered, IsTurnover}
 use Rattle.contacts_base.specs.Contacts.{contacts_without}

@@ -19,8 +19,8 @@ use Rattle.impulse_ledger.specs.declared.entry.Entry.{Entry}
 use Rattle.impulse_ledger.proofs.KeptLemmas.{same_totals}
 use Rattle.impulse_ledger.proofs.SumLemmas.{same_x, same_y}
 use Rattle.colour_solver.specs.Ticks.{AreSums}
-use Rattle.contacts.specs.Constraints.{constraint_number}
-use Rattle.contacts.specs.declared.constraint.Constraint.{Constraint}
+use Rattle.plain_world.specs.Constraints.{constraint_number}
+use Rattle.plain_world.specs.declared.constraint.Constraint.{Constraint}
 use Rattle.graph_colours.specs.Colours.{ids_of}
 use Rattle.islands.specs.Labels.{Labels}
 use Rattle.momenta.specs.declared.motion.Momenta.{Momenta}

@@ -7,7 +7,7 @@ use Rattle.body_handles.specs.declared.slot_table.TheConstants.{MAX_SLOTS}
 use Rattle.contacts.specs.Known.{IsKnown, IsPairKey, all_still, has_key}
 use Rattle.contacts.specs.Fates.{moved_by}
 use Rattle.contacts.proofs.KnownLemmas.{all_known_after-holds, each_from_all, ids_same, known_stays-holds}
-use Rattle.contacts.proofs.Members.{Each}
+use Rattle.contacts_base.proofs.Members.{Each}
 use Rattle.contacts_base.specs.Contacts.{contacts_without, has_slot, lookup, number_of}
 use Rattle.contacts_base.specs.Keys.{id_number, key_number}
 use Rattle.contacts_base.specs.declared.contact.ContactEntry.{ContactEntry}

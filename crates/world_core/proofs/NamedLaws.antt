@@ -15,7 +15,7 @@ use Rattle.contacts_base.specs.declared.surface.Surface.{Surface}
 use Rattle.contacts.specs.Known.{found}
 use Rattle.colour_solver.specs.States.{places_from}
 use Rattle.contacts.specs.Fates.{AreWithin, stirs_in}
-use Rattle.contacts.proofs.Members.{Each, IsIn, contains_from_in, in_new, in_passed}
+use Rattle.contacts_base.proofs.Members.{Each, IsIn, contains_from_in, in_new, in_passed}
 use Rattle.plain_world.specs.declared.body.Body.{Body}
 use Rattle.plain_world.specs.Bodies.{AreBodies, IsBody, is_awake, is_carried, pose_of, stirs}
 use Rattle.plain_world.specs.Changes.{is_awake_in}

@@ -5,14 +5,14 @@ use Rattle.std.specs.List.{filter_map, cons_option}
 use Rattle.std.specs.List.Sorted.{IsPermutation}
 use Rattle.std.proofs.lemmas.Bool.{false≢true}
 use Rattle.std.proofs.lemmas.List.Elements.{filter_map-append}
-use Rattle.contacts.specs.declared.constraint.Constraint.{Constraint}
-use Rattle.contacts.specs.declared.constraint.Constraint.TheVariants.{Contact}
+use Rattle.plain_world.specs.declared.constraint.Constraint.{Constraint}
+use Rattle.plain_world.specs.declared.constraint.Constraint.TheVariants.{Contact}
 use Rattle.contacts.specs.Ends.{slot_on}
-use Rattle.contacts.proofs.Members.{IsIn, contains_from_in, in_append, in_from_contains}
+use Rattle.contacts_base.proofs.Members.{IsIn, contains_from_in, in_append, in_from_contains}
 use Rattle.std.proofs.lemmas.Option.{same_Some}
 use Rattle.contacts.specs.declared.ends.Side.TheVariants.{First, Second}
 use Rattle.contacts.specs.declared.number_book.NumberedContact.{NumberedContact}
-use Rattle.contacts.specs.Constraints.{constraint_number}
+use Rattle.plain_world.specs.Constraints.{constraint_number}
 use Rattle.contacts.specs.Numbered.{AreEndsAt, AreNumbered, key_of, numbered_of}
 use Rattle.contacts_base.specs.declared.contact.ContactEntry.{ContactEntry}
 use Rattle.contacts_base.specs.declared.key.ContactKey.{ContactKey}

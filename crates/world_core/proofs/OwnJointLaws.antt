@@ -8,8 +8,8 @@ use Rattle.graph_colours.proofs.Cases.{by_test, or_left, or_right}
 use Rattle.body_handles.specs.declared.handle.Handle.{Handle}
 use Rattle.body_handles.specs.declared.slot_table.SlotEntry.{SlotEntry}
 use Rattle.body_handles.specs.SlotEntries.{generation_of}
-use Rattle.contacts.specs.declared.constraint.Constraint.{Constraint}
-use Rattle.contacts.proofs.Members.{Each, all_from_each}
+use Rattle.plain_world.specs.declared.constraint.Constraint.{Constraint}
+use Rattle.contacts_base.proofs.Members.{Each, all_from_each}
 use Rattle.plain_world.specs.declared.body.Body.{Body}
 use Rattle.plain_world.specs.declared.joint.BodyJoint.{BodyJoint}
 use Rattle.plain_world.specs.Joints.{is_end_in, is_joint_of, joint_at}

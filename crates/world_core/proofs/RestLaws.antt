@@ -5,10 +5,10 @@ use Rattle.std.proofs.lemmas.List.Kept.{AllPairs-from_increasing}
 use Rattle.std.specs.Option.{option_map_or, option_flatten}
 use Rattle.colour_solver.specs.States.{places_from}
 use Rattle.colour_solver.proofs.PlaceLaws.{length-places}
-use Rattle.contacts.proofs.Members.{Each, IsIn, each_from, each_in, in_from_contains}
-use Rattle.contacts.proofs.Rising.{IsRising, increasing_from_rising}
-use Rattle.contacts.specs.Constraints.{constraint_number}
-use Rattle.contacts.specs.declared.constraint.Constraint.{Constraint}
+use Rattle.contacts_base.proofs.Members.{Each, IsIn, each_from, each_in, in_from_contains}
+use Rattle.contacts_base.proofs.Rising.{IsRising, increasing_from_rising}
+use Rattle.plain_world.specs.Constraints.{constraint_number}
+use Rattle.plain_world.specs.declared.constraint.Constraint.{Constraint}
 use Rattle.contacts_base.specs.declared.contact.ContactEntry.{ContactEntry}
 use Rattle.islands.specs.declared.label.Label.{Label}
 use Rattle.islands.specs.Labels.{Labels, label_at, is_asleep}

@@ -17,8 +17,8 @@ use Rattle.contacts.specs.ByCodes.{contacts_of, allowed_codes}
 use Rattle.contacts.proofs.ByPairsLaws.{contacts_by_codes-holds}
 use Rattle.contacts.proofs.ChangeLemmas.{contacts_rise}
 use Rattle.contacts.proofs.ForbiddenLemmas.{allowed_are_pairs}
-use Rattle.contacts.proofs.Members.{Each, all_from_each, each_append}
-use Rattle.contacts.proofs.Rising.{IsRising, increasing_from_rising, rising_append}
+use Rattle.contacts_base.proofs.Members.{Each, all_from_each, each_append}
+use Rattle.contacts_base.proofs.Rising.{IsRising, increasing_from_rising, rising_append}
 use Rattle.plain_world.specs.declared.body.Body.{Body}
 use Rattle.plain_world.specs.declared.joint.BodyJoint.{BodyJoint}
 use Rattle.plain_world.specs.Bodies.{AreBodies, IsBody, pose_of, stirs}

@@ -9,8 +9,8 @@ use Rattle.graph_colours.specs.declared.limits.TheConstants.{COLOURS}
 use Rattle.graph_colours.specs.declared.member.Movers.{Movers}
 use Rattle.graph_colours.specs.declared.member.Member.{Member}
 use Rattle.graph_colours.specs.Movers.{has_mover}
-use Rattle.contacts.specs.declared.constraint.Constraint.{Constraint}
-use Rattle.contacts.specs.declared.constraint.Constraint.TheVariants.{Joint, Contact}
+use Rattle.plain_world.specs.declared.constraint.Constraint.{Constraint}
+use Rattle.plain_world.specs.declared.constraint.Constraint.TheVariants.{Joint, Contact}
 use Rattle.plain_world.specs.declared.body.Body.{Body}
 use Rattle.plain_world.specs.declared.joint.BodyJoint.{BodyJoint}
 use Rattle.plain_world.specs.Bodies as bodies_of

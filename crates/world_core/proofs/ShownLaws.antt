@@ -9,8 +9,8 @@ use Rattle.contacts_base.specs.Near.{is_near}
 use Rattle.contacts_base.specs.declared.key.ContactKey.{ContactKey}
 use Rattle.contacts_base.specs.declared.key.ShapeId.{ShapeId}
 use Rattle.contacts_base.specs.declared.near.Proxy.{Proxy}
-use Rattle.contacts.specs.declared.forbidden.BodyPair.{BodyPair}
-use Rattle.contacts.specs.Forbidden.{is_forbidden, is_pair_of}
+use Rattle.contacts_base.specs.declared.body_pair.BodyPair.{BodyPair}
+use Rattle.contacts_base.specs.Forbidden.{is_forbidden, is_pair_of}
 use Rattle.contacts.specs.Known.{IsPairKey, both_near, found, may_touch, near_key}
 use Rattle.plain_world.specs.declared.body.Body.{Body}
 use Rattle.plain_world.specs.Bodies.{AreBodies, pose_of, stirs}

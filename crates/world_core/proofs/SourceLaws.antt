@@ -2,8 +2,8 @@
 use Rattle.std.proofs.Common.{◌≡◌, ℕ, true, List, Option, Some, None, refl, sym, ap, ◌∙◌, subst}
 use Rattle.std.specs.Prelude.{Contains}
 use Rattle.std.proofs.lemmas.Bool.{false≢true}
-use Rattle.contacts.specs.declared.constraint.Constraint.{Constraint}
-use Rattle.contacts.proofs.Members.{in_from_contains}
+use Rattle.plain_world.specs.declared.constraint.Constraint.{Constraint}
+use Rattle.contacts_base.proofs.Members.{in_from_contains}
 use Rattle.contacts_base.specs.declared.contact.ContactEntry.{ContactEntry}
 use Rattle.graph_colours.specs.declared.member.Member.{Member}
 use Rattle.islands.specs.Labels.{Labels, label_at, sleeping_name}

@@ -8,8 +8,8 @@ use Rattle.std.proofs.lemmas.List.Elements.{Contains-append_left, Contains-appen
 use Rattle.std.specs.Option.{option_map_or}
 use Rattle.body_handles.specs.declared.handle.Handle.{Handle}
 use Rattle.body_handles.specs.declared.slot_table.SlotEntry.{SlotEntry}
-use Rattle.contacts.specs.Constraints.{constraint_number}
-use Rattle.contacts.specs.declared.constraint.Constraint.{Constraint}
+use Rattle.plain_world.specs.Constraints.{constraint_number}
+use Rattle.plain_world.specs.declared.constraint.Constraint.{Constraint}
 use Rattle.graph_colours.specs.declared.member.Member.{Member}
 use Rattle.graph_colours.proofs.PlaceLemmas.{is_same, not_same}
 use Rattle.islands.specs.declared.label.IslandState.{IslandState}

@@ -4,10 +4,10 @@ use Rattle.std.proofs.Common.{◌≡◌, ◌≢◌, ◌≤◌, ◌==◌, ◌||�
 use Rattle.std.specs.Prelude.{Contains, option_map}
 use Rattle.std.proofs.lemmas.Bool.{cases_eq, false≢true}
 use Rattle.std.proofs.lemmas.List.Elements.{All-contains}
-use Rattle.contacts.proofs.Members.{contains_from_in, in_from_contains}
+use Rattle.contacts_base.proofs.Members.{contains_from_in, in_from_contains}
 use Rattle.contacts.specs.Numbered.{AreNumbered, IsTurnover, contact_at, key_of, numbered_of}
-use Rattle.contacts.specs.declared.constraint.Constraint.{Constraint}
-use Rattle.contacts.specs.declared.constraint.Constraint.TheVariants.{Contact}
+use Rattle.plain_world.specs.declared.constraint.Constraint.{Constraint}
+use Rattle.plain_world.specs.declared.constraint.Constraint.TheVariants.{Contact}
 use Rattle.contacts.specs.declared.number_book.NumberedContact.{NumberedContact}
 use Rattle.contacts_base.specs.Contacts.{contacts_without, has_slot}
 use Rattle.contacts_base.specs.Evaluate.{touches}

@@ -7,9 +7,9 @@ use Rattle.body_handles.specs.declared.handle.Handle.{Handle}
 use Rattle.body_handles.specs.declared.slot_table.SlotEntry.{SlotEntry}
 use Rattle.body_handles.specs.SlotEntries.{lowest}
 use Rattle.body_handles.specs.declared.slot_table.TheConstants.{MAX_SLOTS}
-use Rattle.contacts.proofs.Members.{contains_from_in}
-use Rattle.contacts.specs.declared.constraint.Constraint.{Constraint}
-use Rattle.contacts.specs.declared.constraint.Constraint.TheVariants.{Joint}
+use Rattle.contacts_base.proofs.Members.{contains_from_in}
+use Rattle.plain_world.specs.declared.constraint.Constraint.{Constraint}
+use Rattle.plain_world.specs.declared.constraint.Constraint.TheVariants.{Joint}
 use Rattle.contacts_base.specs.declared.contact.ContactEntry.{ContactEntry}
 use Rattle.graph_colours.proofs.PlaceLemmas.{same_from}
 use Rattle.graph_colours.specs.declared.member.Member.{Member}

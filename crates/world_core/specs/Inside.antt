@@ -1,6 +1,6 @@
 -- The world that the fields of a `WorldCore` show, and what is kept of them.
 use Rattle.std.specs.Prelude.{◌≡◌, Bool, List, Option}
-use Rattle.contacts.specs.declared.constraint.Constraint.{Constraint}
+use Rattle.plain_world.specs.declared.constraint.Constraint.{Constraint}
 use Rattle.contacts.specs.declared.number_book.NumberedContact.{NumberedContact}
 use Rattle.contacts.specs.Known.{IsKnown}
 use Rattle.contacts.specs.Fates.{moved_by}

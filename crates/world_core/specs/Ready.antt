@@ -2,7 +2,7 @@
 use Rattle.std.specs.Prelude.{◌≡◌, ◌≤◌, List, length}
 use Rattle.body_handles.specs.declared.slot_table.SlotEntry.{SlotEntry}
 use Rattle.body_handles.specs.declared.slot_table.TheConstants.{MAX_SLOTS}
-use Rattle.contacts.specs.Constraints.{constraint_number}
+use Rattle.plain_world.specs.Constraints.{constraint_number}
 use Rattle.plain_world.specs.Bodies.{AreBodies}
 use Rattle.sleep_wake.specs.Acting.{IsConsistent}
 use Rattle.solver_sets.specs.Ties.{slots_of, ties_of}

@@ -1,7 +1,7 @@
 -- Trusted: The rows that a step gathers of a colour share no mover.
 use Rattle.std.specs.Prelude.{◌≡◌, ◌<◌, ℕ, List, [], map, Option, Some, Contains, slice_index_or}
-use Rattle.contacts.specs.Constraints.{constraint_number}
-use Rattle.contacts.specs.declared.constraint.Constraint.{Constraint}
+use Rattle.plain_world.specs.Constraints.{constraint_number}
+use Rattle.plain_world.specs.declared.constraint.Constraint.{Constraint}
 use Rattle.contacts_base.specs.declared.contact.ContactEntry.{ContactEntry}
 use Rattle.colour_solver.specs.Colour.{IsColour}
 use Rattle.colour_solver.specs.ConstraintVisits.{constraint_slots}

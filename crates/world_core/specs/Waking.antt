@@ -1,7 +1,7 @@
 -- Who is in the islands that wake or fall asleep, so that nobody else is told.
 use Rattle.std.specs.Prelude.{◌≡◌, ℕ, All, List, Contains, Option, Some, None, map}
 use Rattle.body_handles.specs.declared.handle.Handle.{Handle}
-use Rattle.contacts.specs.declared.constraint.Constraint.{Constraint}
+use Rattle.plain_world.specs.declared.constraint.Constraint.{Constraint}
 use Rattle.body_handles.specs.Orders.{slot_of}
 use Rattle.graph_colours.specs.declared.member.Movers.{Movers}
 use Rattle.islands.specs.Labels.{IsIn, Labels, label_at, sleeping_name}

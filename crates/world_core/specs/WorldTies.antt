@@ -1,8 +1,8 @@
 -- The constraints of a world, and how a source tells them: joints by slot, and contacts by number.
 use Rattle.std.specs.Prelude.{Contains, ◌≡◌, ◌≢◌, ℕ, Bool, List, Option, Some, None, cond, slice_get, map, filter}
 use Rattle.body_handles.specs.declared.slot_table.SlotEntry.{SlotEntry}
-use Rattle.contacts.specs.declared.constraint.Constraint.{Constraint}
-use Rattle.contacts.specs.declared.constraint.Constraint.TheVariants.{Joint, Contact}
+use Rattle.plain_world.specs.declared.constraint.Constraint.{Constraint}
+use Rattle.plain_world.specs.declared.constraint.Constraint.TheVariants.{Joint, Contact}
 use Rattle.contacts.specs.declared.number_book.NumberedContact.{NumberedContact}
 use Rattle.contacts.specs.Numbered.{contact_at}
 use Rattle.contacts_base.specs.declared.contact.ContactEntry.{ContactEntry}

@@ -1,6 +1,6 @@
 //! What changes in a world as islands wake and fall asleep.
 
-use contacts::Constraint;
+use plain_world::Constraint;
 use sleep_wake::Sets;
 use world_core_base::{BodyTable, SleepingSets};
 

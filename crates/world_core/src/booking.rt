@@ -3,7 +3,7 @@
 ghost use Rattle.std.specs.Prelude.{◌≡◌, ◌+◌, ◌≤◌, ◌^◌, ◌++◌, map, pos, neg_ℤ, unsigned_abs};
 ghost use Rattle.std.specs.List.Sorted.{IsStrictlyIncreasing};
 ghost use Rattle.body_handles.specs.Orders.{slot_of};
-ghost use Rattle.contacts.specs.ChangedKeys.{AreRising};
+ghost use Rattle.contacts_base.specs.ChangedKeys.{AreRising};
 ghost use Rattle.fixed_geom.specs.Vectors.{IsWithin};
 ghost use Rattle.impulse_ledger.specs.Sums.{Fits};
 ghost use Rattle.world_rules.specs.Apply.{booked, step_entries};

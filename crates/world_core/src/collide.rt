@@ -4,8 +4,8 @@ ghost use Rattle.std.specs.Prelude.{◌≡◌, ◌<◌, ◌≤◌, ◌*◌, ◌+
 ghost use Rattle.colour_solver.specs.States.{places_from};
 ghost use Rattle.std.specs.Result.{IsOkUnless};
 ghost use Rattle.contacts_base.specs.Proxies.{number_of};
-ghost use Rattle.contacts.specs.Changes.{keys_touching_only_in};
-ghost use Rattle.contacts.specs.ChangedKeys.{AreRising};
+ghost use Rattle.contacts_base.specs.Changes.{keys_touching_only_in};
+ghost use Rattle.contacts_base.specs.ChangedKeys.{AreRising};
 ghost use Rattle.contacts.specs.Fates.{AreWithin, stirs_in};
 ghost use Rattle.plain_world.specs.Bodies.{AreBodies, IsBody};
 ghost use Rattle.plain_world.specs.Changes.{is_awake_in};

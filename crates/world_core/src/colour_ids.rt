@@ -5,9 +5,9 @@ ghost use Rattle.std.specs.Result.{IsOkUnless};
 ghost use Rattle.graph_colours.specs.Colours.{ids_of, list_at};
 ghost use Rattle.plain_world.specs.KeptColours.{constraints_of};
 
-use contacts::Constraint;
 use fixed_geom::Refusal;
 use graph_colours::{Colours, Member, OVERFLOW};
+use plain_world::Constraint;
 use std::alloc::Global;
 
 /// The ids of these members.

@@ -3,7 +3,7 @@
 
 ghost use Rattle.std.specs.Prelude.{◌≡◌, ◌≤◌, ◌+◌, false, length, replicate, vec_capacity};
 ghost use Rattle.std.specs.List.Sorted.{IsStrictlyIncreasing};
-ghost use Rattle.contacts.specs.Constraints.{constraint_number};
+ghost use Rattle.plain_world.specs.Constraints.{constraint_number};
 ghost use Rattle.plain_world.specs.Sleep.{told};
 ghost use Rattle.sleep_wake.specs.Changes.{after_changes};
 ghost use Rattle.sleep_wake.specs.ChangeLists.{AreChanges, begin_count};

@@ -8,11 +8,10 @@ ghost use Rattle.plain_world.specs.Slots.{item_at};
 ghost use Rattle.world_core.specs.Quiet.{HasFlagged, KeepFlags, flagged_if, flagged_joined, flagged_pair, flagged_touched};
 
 use crate::sleep_test::flag;
-use contacts::Constraint;
 use contacts_base::{ContactEntry, ContactKey, Hint, SplitContacts};
 use graph_colours::{Colours, Member, OVERFLOW};
 use islands::Islands;
-use plain_world::{Body, BodyJoint, item_at};
+use plain_world::{Body, BodyJoint, Constraint, item_at};
 use solver_sets::is_moving_at;
 use world_core_base::Constraints;
 

@@ -3,15 +3,15 @@
 ghost use Rattle.std.specs.Prelude.{◌≡◌, IfOk, OnOk};
 ghost use Rattle.std.specs.List.Sorted.{IsStrictlyIncreasing};
 ghost use Rattle.std.specs.Result.{IsOkUnless};
-ghost use Rattle.contacts.specs.Constraints.{constraint_number};
+ghost use Rattle.plain_world.specs.Constraints.{constraint_number};
 ghost use Rattle.sleep_wake.specs.Acting.{IsConsistent};
 ghost use Rattle.world_core.specs.Waking.{HasName, HasSleepers, IsExtended, OfAll, OfBoth, movers_in};
 
 use crate::waking_islands::list_movers;
-use contacts::Constraint;
 use fixed_geom::Refusal;
 use graph_colours::Movers;
 use islands::sleeping_name;
+use plain_world::Constraint;
 use sleep_wake::{Change, Sets, push_some, sort_once};
 use std::alloc::Global;
 

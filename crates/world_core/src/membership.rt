@@ -1,7 +1,7 @@
 //! Bodies that come into the islands, and that leave them.
 
 ghost use Rattle.std.specs.Prelude.{◌≡◌, ◌<◌, ◌^◌, cond, filter, false, true, [], None};
-ghost use Rattle.contacts.specs.Constraints.{constraint_number};
+ghost use Rattle.plain_world.specs.Constraints.{constraint_number};
 ghost use Rattle.graph_colours.specs.Movers.{has_mover};
 ghost use Rattle.islands.specs.Labels.{label_at};
 ghost use Rattle.sleep_wake.specs.Acting.{is_mover_awake};
@@ -9,8 +9,8 @@ ghost use Rattle.sleep_wake.specs.Bodies.{mover_gone, mover_made};
 ghost use Rattle.sleep_wake.specs.Changes.{each_ended};
 ghost use Rattle.sleep_wake.specs.ChangeLists.{CanEnd};
 
-use contacts::Constraint;
 use graph_colours::Member;
+use plain_world::Constraint;
 use sleep_wake::Sets;
 
 /// A body comes: a mover has an island of its own.

@@ -13,10 +13,9 @@ ghost use Rattle.solver_sets.specs.Ties.{joint_ties_at, slots_of};
 ghost use Rattle.solver_sets.specs.BesideByTies.{joint_tie_of};
 
 use body_handles::{Handle, SlotEntry};
-use contacts::Constraint;
 use fixed_geom::Refusal;
 use graph_colours::Member;
-use plain_world::{Body, BodyJoint, item_at};
+use plain_world::{Body, BodyJoint, Constraint, item_at};
 use sleep_wake::put_some;
 use solver_sets::joint_tie;
 use std::alloc::Global;

@@ -5,10 +5,11 @@ ghost use Rattle.world_core_base.specs.Asleep.{AreJointSets, AreNamedAsleep};
 ghost use Rattle.std.specs.Result.{IsOkUnless};
 
 use body_handles::Handles;
-use contacts::{Constraint, ContactTable};
+use contacts::ContactTable;
 use event_feed::Events;
 use fixed_geom::Refusal;
 use impulse_ledger::Ledger;
+use plain_world::Constraint;
 use sleep_wake::Sets;
 use std::alloc::Global;
 use world_core_base::{BodyTable, JointTable, SleepingSets};

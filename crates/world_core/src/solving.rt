@@ -23,9 +23,9 @@ ghost use Rattle.world_rules.specs.Gathering.{CanGather};
 
 use body_handles::MAX_SLOTS;
 use colour_solver::StepSums;
-use contacts::Constraint;
 use fixed_geom::Refusal;
 use graph_colours::{COLOURS, Colours};
+use plain_world::Constraint;
 use world_core_base::{BodyTable, Constraints, GatheredRows, Pace, StepSolver};
 
 /// Makes room for a row for each of so many constraints and for those that begin, for a place beside each, and for all

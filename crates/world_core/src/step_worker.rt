@@ -2,10 +2,11 @@
 
 use crate::collide::BodyShapes;
 use colour_solver::StepSums;
-use contacts::{Constraint, PairPiece, SurveyPiece};
+use contacts::{PairPiece, SurveyPiece};
 use crew::{Piece, PieceMap, Returned};
 use graph_colours::Colours;
 use momenta::BodyState;
+use plain_world::Constraint;
 use world_core_base::{
     Constraints, GatheredRows, JointTable, MovingSlots, Pace, StepSolver, run_alone,
 };

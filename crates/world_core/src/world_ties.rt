@@ -16,9 +16,9 @@ ghost use Rattle.world_core_base.specs.Asleep.{AreContactSets, AreJointSets, asl
 
 use crate::own_contacts::contact_tie;
 use body_handles::{Handle, SlotEntry};
-use contacts::{Constraint, ContactTable, Side};
+use contacts::{ContactTable, Side};
 use graph_colours::Member;
-use plain_world::{Body, BodyJoint, item_at};
+use plain_world::{Body, BodyJoint, Constraint, item_at};
 use sleep_wake::{TieSource, put_some};
 use solver_sets::joint_tie;
 use std::marker::Model;

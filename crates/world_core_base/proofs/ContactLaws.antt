@@ -19,7 +19,7 @@ use Rattle.contacts_base.specs.declared.key.ContactKey.{ContactKey}
 use Rattle.contacts_base.specs.declared.contact.Contact.{Contact}
 use Rattle.contacts_base.specs.declared.contact.ContactEntry.{ContactEntry}
 use Rattle.contacts_base.specs.declared.contact.ContactPoint.{ContactPoint}
-use Rattle.contacts.specs.declared.constraint.Constraint.TheVariants as constraints
+use Rattle.plain_world.specs.declared.constraint.Constraint.TheVariants as constraints
 use Rattle.colour_solver_base.specs.declared.row.Bodies as pairs
 use Rattle.colour_solver_base.specs.declared.row.ContactRow.{ContactRow}
 use Rattle.colour_solver_base.specs.declared.row.PointRow.{PointRow}

@@ -2,9 +2,9 @@
 use Rattle.std.proofs.Common.{◌≡◌, ℕ, zero, suc, ◌==◌, ◌||◌, Bool, true, false, cond, List, [], ◌∷◌, Option, Some, None, ◌⊎◌, inl, inr, refl, sym, ap, ◌∙◌}
 use Rattle.std.specs.Prelude.{◌/◌, ◌&&◌, option_and_then}
 use Rattle.std.specs.List.{cons_option, list_any}
-use Rattle.contacts.specs.declared.forbidden.BodyPair.{BodyPair}
-use Rattle.contacts.specs.Forbidden.{is_pair_of}
-use Rattle.contacts.proofs.Members.{IsIn, in_from_contains}
+use Rattle.contacts_base.specs.declared.body_pair.BodyPair.{BodyPair}
+use Rattle.contacts_base.specs.Forbidden.{is_pair_of}
+use Rattle.contacts_base.proofs.Members.{IsIn, in_from_contains}
 use Rattle.packed_sets.specs.Packs.{list_at}
 use Rattle.plain_world.specs.declared.joint.BodyJoint.{BodyJoint}
 use Rattle.plain_world.specs.Joints.{forbidden_pairs, is_end_in, joint_at, forbidden_by}

@@ -8,7 +8,7 @@ use Rattle.std.proofs.lemmas.List.Sums.{sum_by-cons}
 use Rattle.std.proofs.lemmas.List.Sorted.{sum_by-IsPermutation, length_permutation}
 use Rattle.graph_colours.proofs.Cases.{by_test, true_or_false}
 use Rattle.graph_colours.proofs.PlaceLemmas.{is_same, not_same, same_from}
-use Rattle.contacts.proofs.Members.{IsIn, contains_from_in, in_from_contains}
+use Rattle.contacts_base.proofs.Members.{IsIn, contains_from_in, in_from_contains}
 use Rattle.packed_sets.specs.Packs.{IsAbsent, IsPut, IsTaken, Packs, HaveAtLeast, capacity_at, list_at}
 use Rattle.plain_world.specs.declared.joint.BodyJoint.{BodyJoint}
 use Rattle.plain_world.specs.Joints.{joint_at}

@@ -8,9 +8,9 @@ use Rattle.std.proofs.lemmas.List.{drop_all, length-set}
 use Rattle.std.proofs.lemmas.List.Sums.{sum_by-cons}
 use Rattle.graph_colours.proofs.Cases.{not_true_then, true_or_false}
 use Rattle.graph_colours.proofs.PlaceLemmas.{is_same, same_from}
-use Rattle.contacts.proofs.Members.{Each, IsIn, contains_from_in, in_from_contains, in_new, in_passed}
+use Rattle.contacts_base.proofs.Members.{Each, IsIn, contains_from_in, in_from_contains, in_new, in_passed}
 use Rattle.contacts_base.proofs.MergeLaws.{drop_next}
-use Rattle.contacts.proofs.Rising.{IsRising, rising_from_increasing, rising_passed, same_rising}
+use Rattle.contacts_base.proofs.Rising.{IsRising, rising_from_increasing, rising_passed, same_rising}
 use Rattle.packed_sets.specs.Packs.{list_at}
 use Rattle.packed_sets.specs.Once.{AreOnce}
 use Rattle.plain_world.specs.declared.joint.BodyJoint.{BodyJoint}

@@ -8,9 +8,9 @@ use Rattle.momenta.specs.declared.state.BodyState.{BodyState}
 use Rattle.joint_rows.specs.declared.row.JointRow.{JointRow}
 use Rattle.contacts_base.specs.Keys.{key_number}
 use Rattle.contacts_base.specs.declared.contact.ContactEntry.{ContactEntry}
-use Rattle.contacts.specs.Constraints.{constraint_number}
-use Rattle.contacts.specs.declared.constraint.Constraint.{Constraint}
-use Rattle.contacts.specs.declared.constraint.Constraint.TheVariants as constraints
+use Rattle.plain_world.specs.Constraints.{constraint_number}
+use Rattle.plain_world.specs.declared.constraint.Constraint.{Constraint}
+use Rattle.plain_world.specs.declared.constraint.Constraint.TheVariants as constraints
 use Rattle.graph_colours.specs.declared.member.Member.{Member}
 use Rattle.graph_colours.specs.Members.{AreRising}
 use Rattle.colour_solver.specs.ConstraintVisits.{contacts_among}

@@ -11,10 +11,10 @@ use Rattle.contacts_base.specs.Contacts.{AreKeysRising, lookup, number_of}
 use Rattle.contacts_base.specs.declared.contact.Contact.{Contact}
 use Rattle.contacts_base.specs.declared.contact.ContactEntry.{ContactEntry}
 use Rattle.contacts_base.specs.declared.key.ContactKey.{ContactKey}
-use Rattle.contacts.specs.declared.constraint.Constraint.TheVariants as constraints
-use Rattle.contacts.proofs.Members.{in_from_place}
+use Rattle.plain_world.specs.declared.constraint.Constraint.TheVariants as constraints
+use Rattle.contacts_base.proofs.Members.{in_from_place}
 use Rattle.contacts.proofs.PartLemmas.{lookup_in}
-use Rattle.contacts.proofs.Rising.{rising_from_increasing}
+use Rattle.contacts_base.proofs.Rising.{rising_from_increasing}
 use Rattle.world_core_base.specs.Gather.{row_in, row_of}
 use Rattle.world_core_base.specs.Solving.{with_contact}
 use Rattle.world_core_base.proofs.ContactLaws.{row_is}

@@ -18,8 +18,8 @@ use Rattle.contacts_base.specs.declared.contact.Contact.{Contact}
 use Rattle.contacts_base.specs.declared.contact.ContactEntry.{ContactEntry}
 use Rattle.contacts_base.specs.declared.contact.ContactPoint.{ContactPoint}
 use Rattle.contacts_base.specs.declared.key.ContactKey.{ContactKey}
-use Rattle.contacts.specs.declared.constraint.Constraint.{Constraint}
-use Rattle.contacts.specs.declared.constraint.Constraint.TheVariants as constraints
+use Rattle.plain_world.specs.declared.constraint.Constraint.{Constraint}
+use Rattle.plain_world.specs.declared.constraint.Constraint.TheVariants as constraints
 use Rattle.graph_colours.specs.Colours.{ids_of}
 use Rattle.colour_solver_base.specs.declared.row.ContactRow.{ContactRow}
 use Rattle.colour_solver_base.specs.ContactSolving.{SolvedPoint, at_points, bounces, contact_bounced, contact_solved, contact_warmed, point_bounced, point_solved, point_warmed}

@@ -9,8 +9,8 @@ use Rattle.joint_rows.specs.Rows.{joint_row}
 use Rattle.joint_rows.specs.declared.row.JointBodies.{JointBodies}
 use Rattle.joint_rows.specs.declared.row.JointRow.{JointRow}
 use Rattle.contacts_base.specs.declared.contact.ContactEntry.{ContactEntry}
-use Rattle.contacts.specs.declared.constraint.Constraint.{Constraint}
-use Rattle.contacts.specs.declared.constraint.Constraint.TheVariants as constraints
+use Rattle.plain_world.specs.declared.constraint.Constraint.{Constraint}
+use Rattle.plain_world.specs.declared.constraint.Constraint.TheVariants as constraints
 use Rattle.graph_colours.specs.declared.member.Member.{Member}
 use Rattle.colour_solver.specs.States.{nobody}
 use Rattle.colour_solver.specs.declared.constraint_row.ConstraintRow.{ConstraintRow}

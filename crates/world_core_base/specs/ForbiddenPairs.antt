@@ -1,8 +1,8 @@
 -- Which pairs of bodies joints keep from colliding, asked of the ends of some of them.
 use Rattle.std.specs.Prelude.{ℕ, ◌/◌, Bool, false, List, Option, Some, None, option_and_then}
 use Rattle.std.specs.List.{list_any}
-use Rattle.contacts.specs.declared.forbidden.BodyPair.{BodyPair}
-use Rattle.contacts.specs.Forbidden.{is_pair_of}
+use Rattle.contacts_base.specs.declared.body_pair.BodyPair.{BodyPair}
+use Rattle.contacts_base.specs.Forbidden.{is_pair_of}
 use Rattle.plain_world.specs.declared.joint.BodyJoint.{BodyJoint}
 use Rattle.plain_world.specs.Joints.{joint_at, forbidden_by}
 

@@ -7,8 +7,8 @@ use Rattle.graph_colours.specs.declared.member.Member.{Member}
 use Rattle.graph_colours.specs.Members.{AreApart}
 use Rattle.graph_colours.specs.Movers.{has_mover}
 use Rattle.contacts_base.specs.declared.contact.ContactEntry.{ContactEntry}
-use Rattle.contacts.specs.declared.constraint.Constraint.{Constraint}
-use Rattle.contacts.specs.declared.constraint.Constraint.TheVariants.{Contact, Joint}
+use Rattle.plain_world.specs.declared.constraint.Constraint.{Constraint}
+use Rattle.plain_world.specs.declared.constraint.Constraint.TheVariants.{Contact, Joint}
 use Rattle.colour_solver.specs.Colour.{IsColour, is_mover}
 use Rattle.colour_solver.specs.ConstraintVisits.{constraint_slots}
 use Rattle.plain_world.specs.declared.joint.BodyJoint.{BodyJoint}

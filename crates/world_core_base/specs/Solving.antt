@@ -17,8 +17,8 @@ use Rattle.contacts_base.specs.Contacts.{lookup, number_of}
 use Rattle.contacts_base.specs.declared.contact.Contact.{Contact}
 use Rattle.contacts_base.specs.declared.contact.ContactEntry.{ContactEntry}
 use Rattle.contacts_base.specs.declared.key.ContactKey.{ContactKey}
-use Rattle.contacts.specs.declared.constraint.Constraint.{Constraint}
-use Rattle.contacts.specs.declared.constraint.Constraint.TheVariants as constraints
+use Rattle.plain_world.specs.declared.constraint.Constraint.{Constraint}
+use Rattle.plain_world.specs.declared.constraint.Constraint.TheVariants as constraints
 use Rattle.joint_rows.specs.declared.joint.Joint.{Joint}
 use Rattle.joint_rows.specs.Joints.{SolvedJoint, joint_solved, joint_warmed}
 use Rattle.colour_solver_base.specs.ContactSolving.{SolvedContact, contact_bounced, contact_solved, contact_warmed}

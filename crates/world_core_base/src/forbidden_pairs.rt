@@ -4,7 +4,7 @@ ghost use Rattle.std.specs.Prelude.{◌≡◌};
 ghost use Rattle.std.specs.Option.{option_copied};
 ghost use Rattle.world_core_base.specs.ForbiddenPairs.{is_of, keeps_apart, one_keeps_apart};
 
-use contacts::BodyPair;
+use contacts_base::BodyPair;
 use plain_world::{BodyJoint, item_at};
 
 /// Whether a pair, if there is one, is of the bodies in these two slots.

@@ -4,7 +4,7 @@ ghost use Rattle.std.specs.Prelude.{◌≡◌, ◌<◌, ◌≤◌, ◌+◌, ◌^
 ghost use Rattle.std.specs.Option.{ForSome, option_to_list};
 ghost use Rattle.contacts_base.specs.Keys.{key_number};
 ghost use Rattle.contacts_base.specs.Split.{contacts_in};
-ghost use Rattle.contacts.specs.Constraints.{constraint_number};
+ghost use Rattle.plain_world.specs.Constraints.{constraint_number};
 ghost use Rattle.momenta.specs.ImpulseBounds.{AreStates};
 ghost use Rattle.colour_solver_base.specs.Rows.{AreSurfaces};
 ghost use Rattle.colour_solver.specs.States.{AreAllStates};
@@ -20,12 +20,11 @@ ghost use Rattle.world_core_base.specs.ConstraintRows.{HasJointOn, HaveJointsOn,
 use crate::joint_row::joint_row_at;
 use colour_solver::Rows;
 use colour_solver_base::{Bodies, ContactRow, contact_row};
-use contacts::Constraint;
 use contacts_base::{ContactKey, Hint, PackedContact, PackedSurface, SplitContacts};
 use graph_colours::{COLOURS, Colours, Member, OVERFLOW};
 use joint_rows::JointRow;
 use momenta::{BodyState, Ends};
-use plain_world::BodyJoint;
+use plain_world::{BodyJoint, Constraint};
 
 /// What rows are gathered from: the bodies by slot as the solver works on them, and a world's joints and contacts.
 #[derive(Clone, Copy)]

@@ -8,10 +8,11 @@ use crate::gathered_rows::GatheredRows;
 use crate::impulses::put_impulses;
 use crate::joint_table::JointTable;
 use colour_solver::{StepSums, run_step};
-use contacts::{Constraint, ContactTable};
+use contacts::ContactTable;
 use fixed_geom::Vec2;
 use graph_colours::Colours;
 use momenta::BodyState;
+use plain_world::Constraint;
 use std::alloc::Global;
 
 /// The joints and the contacts of a world: what a step gives impulses.

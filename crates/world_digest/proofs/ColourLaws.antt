@@ -2,7 +2,7 @@
 use Rattle.std.proofs.Common.{◌≡◌, ℕ, ◌+◌, List, [], ◌∷◌, ◌++◌, ◌∙◌, add-one, ap, ap₂, flat_map, map, refl, sym}
 use Rattle.std.proofs.Math.ListN.{get_or-map}
 use Rattle.std.proofs.lemmas.List.{length-map}
-use Rattle.contacts.specs.declared.constraint.Constraint.{Constraint}
+use Rattle.plain_world.specs.declared.constraint.Constraint.{Constraint}
 use Rattle.graph_colours.specs.Colours.{ids_of, list_at}
 use Rattle.graph_colours.specs.declared.member.Member.{Member}
 use Rattle.plain_world.specs.KeptColours.{members_at}

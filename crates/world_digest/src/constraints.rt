@@ -10,12 +10,11 @@ ghost use Rattle.world_digest.specs.Sums.{absorbed_all, list_words};
 use crate::sums::Sums;
 use crate::words::{Words, feed_all};
 use body_handles::Handle;
-use contacts::Constraint;
 use contacts_base::{ContactEntry, ContactKey, ContactPoint};
 use fixed_geom::Refusal;
 use graph_colours::{Colours, Member, OVERFLOW};
 use joint_rows::Joint;
-use plain_world::BodyJoint;
+use plain_world::{BodyJoint, Constraint};
 
 impl Words for Joint {
     ghost words = { λ j. row_joint_words j };

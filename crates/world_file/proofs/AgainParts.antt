@@ -7,10 +7,10 @@ use Rattle.std.proofs.lemmas.List.Elements.{All-head, All-tail}
 use Rattle.std.proofs.lemmas.Option.{none-some, same_Some}
 use Rattle.body_handles.specs.SlotEntries.{is_live, is_live_at}
 use Rattle.body_handles.specs.declared.slot_table.SlotEntry.{SlotEntry}
-use Rattle.contacts.proofs.Members.{Each, IsIn}
-use Rattle.contacts.proofs.Rising.{IsRising, rising_from_increasing}
-use Rattle.contacts.specs.declared.constraint.Constraint.{Constraint}
-use Rattle.contacts.specs.declared.constraint.Constraint.TheVariants.{Joint}
+use Rattle.contacts_base.proofs.Members.{Each, IsIn}
+use Rattle.contacts_base.proofs.Rising.{IsRising, rising_from_increasing}
+use Rattle.plain_world.specs.declared.constraint.Constraint.{Constraint}
+use Rattle.plain_world.specs.declared.constraint.Constraint.TheVariants.{Joint}
 use Rattle.contacts_base.specs.Contacts.{AreKeysRising, number_of}
 use Rattle.contacts_base.specs.Keys.{key_number}
 use Rattle.contacts_base.specs.declared.contact.ContactEntry.{ContactEntry}

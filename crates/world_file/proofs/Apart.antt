@@ -10,7 +10,7 @@ use Rattle.graph_colours.specs.Movers.{has_mover}
 use Rattle.graph_colours.specs.declared.member.Movers.{Movers}
 use Rattle.graph_colours.specs.declared.member.Member.{Member}
 use Rattle.graph_colours.proofs.Cases.{or_pairs}
-use Rattle.contacts.specs.declared.constraint.Constraint.{Constraint}
+use Rattle.plain_world.specs.declared.constraint.Constraint.{Constraint}
 use Rattle.world_file.specs.Fitting.{share_no_mover, coloured, has_colour}
 use Rattle.world_file.specs.Taken.{AreTaken, IsTieTaken, is_mover_taken, is_second_taken, is_unshared}
 use Rattle.world_file.specs.declared.ties.Tie.{Tie}

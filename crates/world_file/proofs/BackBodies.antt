@@ -5,7 +5,7 @@ use Rattle.std.proofs.lemmas.Int.{ints}
 use Rattle.serde_json.specs.Data.{Data, Items, boolean, no_members, null, object, string}
 use Rattle.serde_json.specs.Find.{get}
 use Rattle.serde_json.specs.View.{items_of}
-use Rattle.contacts.proofs.Members.{Each}
+use Rattle.contacts_base.proofs.Members.{Each}
 use Rattle.fixed_geom.specs.Boxes.{Contains, IsBoxWithin, contains, covers}
 use Rattle.fixed_geom.specs.Facings.{is_facing}
 use Rattle.fixed_geom.specs.declared.boxes.Box2.{Box2}

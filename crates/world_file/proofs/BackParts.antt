@@ -6,9 +6,9 @@ use Rattle.std.proofs.lemmas.Option.{none-some}
 use Rattle.serde_json.specs.Events.{items_len}
 use Rattle.serde_json.specs.View.{items_of}
 use Rattle.body_handles.specs.declared.slot_table.SlotEntry.{SlotEntry}
-use Rattle.contacts.proofs.Members.{Each}
-use Rattle.contacts.specs.declared.constraint.Constraint.{Constraint}
-use Rattle.contacts.specs.declared.constraint.Constraint.TheVariants.{Contact}
+use Rattle.contacts_base.proofs.Members.{Each}
+use Rattle.plain_world.specs.declared.constraint.Constraint.{Constraint}
+use Rattle.plain_world.specs.declared.constraint.Constraint.TheVariants.{Contact}
 use Rattle.contacts_base.specs.Evaluate.{touches}
 use Rattle.contacts_base.specs.declared.contact.ContactEntry.{ContactEntry}
 use Rattle.contacts_base.specs.declared.contact.ContactPoint.{ContactPoint}

@@ -3,7 +3,7 @@ use Rattle.std.proofs.Common.{◌≡◌, ◌^◌, List, [], ◌∷◌, length, �
 use Rattle.std.proofs.lemmas.Int.{ints}
 use Rattle.plain_world.specs.Formed.{HasFilter}
 use Rattle.serde_json.specs.View.{items_of}
-use Rattle.contacts.proofs.Members.{Each}
+use Rattle.contacts_base.proofs.Members.{Each}
 use Rattle.fixed_geom.specs.Boxes.{IsBoxWithin}
 use Rattle.fixed_geom.specs.declared.boxes.Box2.{Box2}
 use Rattle.shapes.specs.Shapes.{IsShape, IsShapeDef}

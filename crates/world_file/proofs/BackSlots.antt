@@ -7,8 +7,8 @@ use Rattle.serde_json.specs.View.{items_of}
 use Rattle.body_handles.specs.SlotEntries.{IsSlotEntry}
 use Rattle.body_handles.specs.declared.slot_table.SlotEntry.{SlotEntry}
 use Rattle.body_handles.specs.declared.slot_table.TheConstants.{WORN_OUT}
-use Rattle.contacts.specs.declared.constraint.Constraint.{Constraint}
-use Rattle.contacts.specs.declared.constraint.Constraint.TheVariants.{Joint}
+use Rattle.plain_world.specs.declared.constraint.Constraint.{Constraint}
+use Rattle.plain_world.specs.declared.constraint.Constraint.TheVariants.{Joint}
 use Rattle.islands.specs.Labels.{Labels, label_at}
 use Rattle.islands.specs.declared.label.Label.{Label}
 use Rattle.plain_world.specs.Plain.{colour_of}

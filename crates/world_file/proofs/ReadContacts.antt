@@ -4,7 +4,7 @@ use Rattle.std.proofs.lemmas.Int.{ints}
 use Rattle.std.proofs.lemmas.Option.{none-some, same_Some}
 use Rattle.serde_json.specs.Data.{Data, Items, no_items, item}
 use Rattle.serde_json.specs.Find.{get}
-use Rattle.contacts.proofs.Members.{Each}
+use Rattle.contacts_base.proofs.Members.{Each}
 use Rattle.graph_colours.specs.declared.limits.TheConstants.{COLOURS, OVERFLOW}
 use Rattle.joint_rows.specs.Joints.{IsJoint}
 use Rattle.joint_rows.specs.declared.limits.TheConstants.{MAX_ANCHOR, MAX_JOINT_IMPULSE, MAX_JOINT_LENGTH}

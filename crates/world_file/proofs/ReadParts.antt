@@ -4,7 +4,7 @@ use Rattle.std.specs.List.{list_all}
 use Rattle.serde_json.specs.Data.{Data}
 use Rattle.serde_json.specs.Find.{get}
 use Rattle.body_handles.specs.declared.slot_table.TheConstants.{MAX_SLOTS}
-use Rattle.contacts.proofs.Members.{Each}
+use Rattle.contacts_base.proofs.Members.{Each}
 use Rattle.fixed_geom.specs.Vectors.{IsWithin}
 use Rattle.impulse_ledger.specs.Totals.{total_in}
 use Rattle.impulse_ledger.specs.declared.entry.Cause.{Cause}

@@ -9,7 +9,7 @@ use Rattle.serde_json.specs.Find.{get}
 use Rattle.fixed_geom.specs.Boxes.{IsBoxWithin, contains}
 use Rattle.fixed_geom.specs.declared.boxes.Box2.{Box2}
 use Rattle.fixed_geom.specs.declared.refusal.Refusal.TheVariants.{BadShape, OutOfRange}
-use Rattle.contacts.proofs.Members.{Each}
+use Rattle.contacts_base.proofs.Members.{Each}
 use Rattle.plain_world.specs.Formed.{HasFilter}
 use Rattle.plain_world.specs.Fats.{AreFatBoxes, EachIsFatBox}
 use Rattle.shapes.specs.Bounds.{tight_box}

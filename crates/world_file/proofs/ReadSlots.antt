@@ -7,7 +7,7 @@ use Rattle.serde_json.specs.Find.{get}
 use Rattle.body_handles.specs.SlotEntries.{IsSlotEntry}
 use Rattle.body_handles.specs.declared.slot_table.SlotEntry.{SlotEntry}
 use Rattle.body_handles.specs.declared.slot_table.TheConstants.{MAX_SLOTS, WORN_OUT}
-use Rattle.contacts.proofs.Members.{Each, all_from_each}
+use Rattle.contacts_base.proofs.Members.{Each, all_from_each}
 use Rattle.plain_world.specs.Slots.{AreMatched, body_at, is_taken, item_at}
 use Rattle.plain_world.specs.declared.body.Body.{Body}
 use Rattle.world_file_base.specs.Reading.{items_in, whole_in}

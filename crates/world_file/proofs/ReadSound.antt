@@ -8,11 +8,11 @@ use Rattle.std.specs.Option.{option_flatten}
 use Rattle.serde_json.specs.Data.{Data}
 use Rattle.body_handles.specs.SlotEntries.{IsSlotEntry}
 use Rattle.body_handles.specs.declared.slot_table.SlotEntry.{SlotEntry}
-use Rattle.contacts.proofs.Members.{Each, IsIn, all_from_each, contains_from_in, in_from_contains}
+use Rattle.contacts_base.proofs.Members.{Each, IsIn, all_from_each, contains_from_in, in_from_contains}
 use Rattle.contacts_base.specs.Contacts.{AreKeysRising}
 use Rattle.contacts_base.specs.declared.contact.ContactEntry.{ContactEntry}
-use Rattle.contacts.specs.Constraints.{constraint_number}
-use Rattle.contacts.specs.declared.constraint.Constraint.{Constraint}
+use Rattle.plain_world.specs.Constraints.{constraint_number}
+use Rattle.plain_world.specs.declared.constraint.Constraint.{Constraint}
 use Rattle.graph_colours.specs.Colours.{ids_of}
 use Rattle.graph_colours.specs.Members.{AreRising}
 use Rattle.graph_colours.specs.declared.limits.TheConstants.{COLOURS}

@@ -8,9 +8,9 @@ use Rattle.std.proofs.lemmas.List.{append-nil, length-append, map-append}
 use Rattle.std.proofs.lemmas.List.Kept.{AllPairs-cons}
 use Rattle.std.proofs.lemmas.List.Sums.{sum_by-append, sum_by-cons}
 use Rattle.std.proofs.lemmas.Option.{none-some, same_Some}
-use Rattle.contacts.proofs.Members.{Each, IsIn, all_from_each, contains_from_in, each_append, in_append, in_from_contains, in_left, in_right}
-use Rattle.contacts.specs.Constraints.{constraint_number}
-use Rattle.contacts.specs.declared.constraint.Constraint.{Constraint}
+use Rattle.contacts_base.proofs.Members.{Each, IsIn, all_from_each, contains_from_in, each_append, in_append, in_from_contains, in_left, in_right}
+use Rattle.plain_world.specs.Constraints.{constraint_number}
+use Rattle.plain_world.specs.declared.constraint.Constraint.{Constraint}
 use Rattle.graph_colours.specs.Colours.{IsColouring, all_members, ids_of}
 use Rattle.graph_colours.specs.Members.{AreApart, AreRising, is_free}
 use Rattle.graph_colours.specs.Movers.{shares}

@@ -3,8 +3,8 @@ use Rattle.std.proofs.Common.{◌≡◌, ℕ, ◌<◌, ◌≤◌, ◌==◌, ◌|
 use Rattle.std.specs.List.{list_all}
 use Rattle.std.proofs.lemmas.Bool.{false≢true}
 use Rattle.std.proofs.lemmas.Option.{none-some, same_Some, slice_get_within}
-use Rattle.contacts.proofs.Members.{Each, all_from_each, each_from, each_in}
-use Rattle.contacts.proofs.Rising.{IsRising, increasing_from_rising}
+use Rattle.contacts_base.proofs.Members.{Each, all_from_each, each_from, each_in}
+use Rattle.contacts_base.proofs.Rising.{IsRising, increasing_from_rising}
 use Rattle.contacts_base.specs.Contacts.{AreKeysRising, number_of}
 use Rattle.contacts_base.specs.Evaluate.{touches}
 use Rattle.contacts_base.specs.Keys.{key_number}

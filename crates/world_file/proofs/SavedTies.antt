@@ -3,9 +3,9 @@ use Rattle.std.proofs.Common.{◌≡◌, ℕ, suc, ◌++◌, Bool, true, false, 
 use Rattle.std.specs.List.{cons_option, flat_map}
 use Rattle.std.proofs.lemmas.List.Elements.{filter_map-append}
 use Rattle.body_handles.specs.declared.slot_table.SlotEntry.{SlotEntry}
-use Rattle.contacts.proofs.Members.{Each}
-use Rattle.contacts.specs.declared.constraint.Constraint.{Constraint}
-use Rattle.contacts.specs.declared.constraint.Constraint.TheVariants.{Joint, Contact}
+use Rattle.contacts_base.proofs.Members.{Each}
+use Rattle.plain_world.specs.declared.constraint.Constraint.{Constraint}
+use Rattle.plain_world.specs.declared.constraint.Constraint.TheVariants.{Joint, Contact}
 use Rattle.contacts_base.specs.Evaluate.{touches}
 use Rattle.contacts_base.specs.declared.contact.ContactEntry.{ContactEntry}
 use Rattle.graph_colours.specs.declared.member.Member.{Member}

@@ -12,7 +12,7 @@ use Rattle.fixed_geom.specs.declared.boxes.Box2.{Box2}
 use Rattle.fixed_geom.specs.declared.facings.Rot.{Rot}
 use Rattle.fixed_geom.specs.declared.vectors.Vec2.{Vec2}
 use Rattle.fixed_geom.proofs.FacingLemmas.{is_facing-square}
-use Rattle.contacts.proofs.Members.{IsIn}
+use Rattle.contacts_base.proofs.Members.{IsIn}
 use Rattle.serde_json.specs.Data.{Data}
 use Rattle.world_file_base.specs.Reading.{natural_of, signed_in, unsigned_in, vector_in, vector_within, whole_in}
 use Rattle.shapes.specs.Shapes.{is_between}

@@ -22,11 +22,10 @@ ghost use Rattle.world_file.specs.Taken.{
 use crate::numbered_colours::{colour_at, colours_by_number, joint_number};
 use crate::ties::Tie;
 use body_handles::SlotEntry;
-use contacts::Constraint;
 use contacts_base::ContactEntry;
 use fixed_geom::Refusal;
 use graph_colours::{ConstraintId, Movers, OVERFLOW};
-use plain_world::Plain;
+use plain_world::{Constraint, Plain};
 use std::alloc::Global;
 use std::collections::HashMap;
 use world_file_base::Broken;

@@ -3,15 +3,14 @@
 ghost use Rattle.std.specs.Prelude.{◌≡◌, ◌≤◌, ◌+◌, ℕ, Some, cond, length, nat_eq, IfOk, OnOk};
 ghost use Rattle.std.specs.Result.{IsOkUnless};
 ghost use Rattle.std.specs.HashMap.{get};
-ghost use Rattle.contacts.specs.Constraints.{constraint_number};
-ghost use Rattle.contacts.specs.declared.constraint.Constraint.TheVariants.{Joint};
+ghost use Rattle.plain_world.specs.Constraints.{constraint_number};
+ghost use Rattle.plain_world.specs.declared.constraint.Constraint.TheVariants.{Joint};
 ghost use Rattle.graph_colours.specs.declared.limits.TheConstants.{COLOURS as most_colours};
 ghost use Rattle.world_file.specs.Taken.{colour_numbered, has_number};
 
-use contacts::Constraint;
 use fixed_geom::Refusal;
 use graph_colours::{ConstraintId, OVERFLOW};
-use plain_world::Plain;
+use plain_world::{Constraint, Plain};
 use std::alloc::Global;
 use std::collections::HashMap;
 

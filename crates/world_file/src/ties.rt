@@ -18,9 +18,8 @@ ghost use Rattle.world_file.specs.Fitting.{
 };
 
 use body_handles::{Handle, SlotEntry};
-use contacts::Constraint;
 use graph_colours::Member;
-use plain_world::Body;
+use plain_world::{Body, Constraint};
 use solver_sets::{contact_movers, joint_tie, tie_with};
 use std::alloc::Global;
 use world_file_base::{Broken, SavedContact, SavedJoint, lesser};

@@ -35,12 +35,11 @@ use crate::references::{
 };
 use crate::saved_world::{Saved, read_parts};
 use crate::ties::{Tie, are_contacts_colourless, are_joints_colourless, list_ties};
-use contacts::Constraint;
 use contacts_base::ContactEntry;
 use fixed_geom::Refusal;
 use impulse_ledger::Totals;
 use islands::Label;
-use plain_world::{BodyJoint, Plain, PlainParts};
+use plain_world::{BodyJoint, Constraint, Plain, PlainParts};
 use serde_json::Value;
 use std::alloc::Global;
 use world_file_base::{

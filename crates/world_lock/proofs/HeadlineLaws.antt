@@ -4,8 +4,8 @@ use Rattle.std.specs.Prelude.{Contains}
 use Rattle.std.specs.List.{filter_map}
 use Rattle.std.proofs.lemmas.List.Elements.{All-weaker}
 use Rattle.std.proofs.lemmas.Option.{none-some, same_Some}
-use Rattle.contacts.proofs.Members.{IsIn, in_append, in_from_contains}
-use Rattle.contacts.specs.declared.constraint.Constraint.{Constraint}
+use Rattle.contacts_base.proofs.Members.{IsIn, in_append, in_from_contains}
+use Rattle.plain_world.specs.declared.constraint.Constraint.{Constraint}
 use Rattle.contacts_base.specs.declared.contact.ContactEntry.{ContactEntry}
 use Rattle.graph_colours.specs.Colours.{all_members}
 use Rattle.graph_colours.specs.declared.member.Member.{Member}

@@ -1,7 +1,7 @@
 -- Trusted: What the headline says of a world whose lock is free, part by part.
 use Rattle.std.specs.Prelude.{◌≡◌, ℕ, ◌↔◌, true, false, All, Contains, IsSome, Option, Some, option_map, pos, take}
-use Rattle.contacts.specs.Constraints.{constraint_number}
-use Rattle.contacts.specs.declared.constraint.Constraint.{Constraint}
+use Rattle.plain_world.specs.Constraints.{constraint_number}
+use Rattle.plain_world.specs.declared.constraint.Constraint.{Constraint}
 use Rattle.contacts_base.specs.Contacts.{AreKeysRising}
 use Rattle.graph_colours.specs.Colours.{IsColouring, all_members, ids_of}
 use Rattle.graph_colours.specs.Members.{AreApart}

@@ -7,11 +7,11 @@ ghost use Rattle.graph_colours.specs.Colours.{ids_of};
 ghost use Rattle.plain_world.specs.Changes.{is_awake_in};
 ghost use Rattle.world_queries.specs.Counts.{count_islands, counts_of, has_some, is_namesake, is_touching};
 
-use contacts::{Constraint, ContactTable};
+use contacts::ContactTable;
 use fixed_geom::Refusal;
 use graph_colours::{Colours, OVERFLOW};
 use islands::Label;
-use plain_world::Body;
+use plain_world::{Body, Constraint};
 use std::alloc::Global;
 use world_core::{ContactEntry, WorldCore};
 

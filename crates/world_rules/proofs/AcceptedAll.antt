@@ -7,7 +7,7 @@ use Rattle.fixed_geom.specs.Vectors.{zero_vector}
 use Rattle.fixed_geom.specs.declared.refusal.Refusal.{Refusal}
 use Rattle.fixed_geom.specs.declared.refusal.Refusal.TheVariants.{OutOfRange, WornOut}
 use Rattle.body_handles.specs.declared.handle.Handle.{Handle}
-use Rattle.contacts.proofs.Members.{Each}
+use Rattle.contacts_base.proofs.Members.{Each}
 use Rattle.contacts_base.specs.Contacts.{AreKeysRising}
 use Rattle.plain_world.specs.Bodies.{IsBody, def_refusal, made}
 use Rattle.plain_world.specs.Formed.{HaveFilters}

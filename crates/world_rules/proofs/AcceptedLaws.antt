@@ -17,7 +17,7 @@ use Rattle.shapes.specs.declared.pose.Pose.{Pose}
 use Rattle.event_feed.specs.Events.{EventLists}
 use Rattle.impulse_ledger.specs.declared.entry.Entry.{Entry}
 use Rattle.impulse_ledger.specs.declared.entry.Cause.TheVariants as causes
-use Rattle.contacts.specs.Constraints.{constraint_number}
+use Rattle.plain_world.specs.Constraints.{constraint_number}
 use Rattle.plain_world.specs.Formed.{HaveFilters}
 use Rattle.plain_world.specs.Bodies.{IsBody, def_refusal, made}
 use Rattle.plain_world.specs.Changes.{put_course, put_momenta, put_pose}

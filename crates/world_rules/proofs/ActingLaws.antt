@@ -7,8 +7,8 @@ use Rattle.fixed_geom.specs.Vectors.{IsWithin}
 use Rattle.body_handles.specs.SlotEntries.{IsSlotEntry}
 use Rattle.impulse_ledger.specs.Sums.{total}
 use Rattle.contacts_base.specs.Contacts.{AreKeysRising}
-use Rattle.contacts.specs.Constraints.{constraint_number}
-use Rattle.contacts.specs.declared.constraint.Constraint.{Constraint}
+use Rattle.plain_world.specs.Constraints.{constraint_number}
+use Rattle.plain_world.specs.declared.constraint.Constraint.{Constraint}
 use Rattle.graph_colours.specs.Colours.{ids_of}
 use Rattle.graph_colours.specs.declared.member.Member.{Member}
 use Rattle.islands.specs.Labels.{Labels, is_asleep, label_at, sleeping_name}

@@ -5,8 +5,8 @@ use Rattle.std.proofs.lemmas.Bool.{cases_eq}
 use Rattle.std.proofs.lemmas.Option.{same_Some}
 use Rattle.std.specs.Option.{option_flatten}
 use Rattle.graph_colours.specs.declared.member.Member.{Member}
-use Rattle.contacts.specs.Constraints.{constraint_number}
-use Rattle.contacts.specs.declared.constraint.Constraint.{Constraint}
+use Rattle.plain_world.specs.Constraints.{constraint_number}
+use Rattle.plain_world.specs.declared.constraint.Constraint.{Constraint}
 use Rattle.islands.specs.Labels.{label_at, sleeping_name}
 use Rattle.islands.proofs.LabelLemmas.{added_here, added_other}
 use Rattle.plain_world.specs.declared.body.Body.{Body}

@@ -6,8 +6,8 @@ use Rattle.graph_colours.specs.declared.member.Movers.{Movers}
 use Rattle.graph_colours.specs.declared.member.Member.{Member}
 use Rattle.graph_colours.specs.Members.{AreRising, inserted, without_member}
 use Rattle.graph_colours.specs.FoundMembers.{has_id}
-use Rattle.contacts.specs.Constraints.{constraint_number}
-use Rattle.contacts.specs.declared.constraint.Constraint.{Constraint}
+use Rattle.plain_world.specs.Constraints.{constraint_number}
+use Rattle.plain_world.specs.declared.constraint.Constraint.{Constraint}
 use Rattle.islands.specs.Labels.{Labels}
 use Rattle.islands.proofs.JoinLemmas.{contains_cases}
 use Rattle.plain_world.specs.declared.body.Body.{Body}

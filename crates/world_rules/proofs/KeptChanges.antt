@@ -20,7 +20,7 @@ use Rattle.impulse_ledger.specs.declared.entry.Entry.{Entry}
 use Rattle.impulse_ledger.specs.declared.entry.Cause.{Cause}
 use Rattle.impulse_ledger.specs.declared.entry.Cause.TheVariants as causes
 use Rattle.impulse_ledger.specs.Sums.{Book}
-use Rattle.contacts.specs.Constraints.{constraint_number}
+use Rattle.plain_world.specs.Constraints.{constraint_number}
 use Rattle.islands.specs.Labels.{label_at, sleeping_name}
 use Rattle.islands.specs.declared.label.Label.{Label}
 use Rattle.colour_solver.proofs.VectorLaws.{plus_zero, same_x, same_y}

@@ -8,8 +8,8 @@ use Rattle.body_handles.specs.SlotEntries.{IsSlotEntry}
 use Rattle.impulse_ledger.specs.declared.entry.Cause.{Cause}
 use Rattle.impulse_ledger.specs.declared.entry.Cause.TheVariants as causes
 use Rattle.impulse_ledger.specs.Sums.{total_of}
-use Rattle.contacts.specs.Constraints.{constraint_number}
-use Rattle.contacts.specs.declared.constraint.Constraint.{Constraint}
+use Rattle.plain_world.specs.Constraints.{constraint_number}
+use Rattle.plain_world.specs.declared.constraint.Constraint.{Constraint}
 use Rattle.graph_colours.specs.Colours.{IsColouring, ids_of}
 use Rattle.graph_colours.specs.Members.{AreApart, AreRising}
 use Rattle.graph_colours.specs.declared.limits.TheConstants.{COLOURS}

@@ -12,7 +12,7 @@ use Rattle.fixed_geom.specs.Vectors.{IsWithin, is_within}
 use Rattle.fixed_geom.specs.declared.vectors.Vec2.{Vec2}
 use Rattle.fixed_geom.specs.declared.refusal.Refusal.{Refusal}
 use Rattle.fixed_geom.specs.declared.refusal.Refusal.TheVariants.{BodyDisabled, OutOfRange, SameBody}
-use Rattle.contacts.specs.declared.constraint.Constraint.TheVariants.{Joint}
+use Rattle.plain_world.specs.declared.constraint.Constraint.TheVariants.{Joint}
 use Rattle.islands.proofs.JoinLemmas.{contains_head, contains_tail}
 use Rattle.joint_rows.specs.Joints.{IsJoint}
 use Rattle.joint_rows.specs.declared.limits.TheConstants.{MAX_ANCHOR, MAX_JOINT_LENGTH}

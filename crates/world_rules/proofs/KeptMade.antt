@@ -14,8 +14,8 @@ use Rattle.body_handles.specs.SlotEntries.{IsSlotEntry, generation_at, lowest}
 use Rattle.body_handles.proofs.LowestLemmas.{lowest-le-length}
 use Rattle.body_handles.proofs.TableLemmas.{IsSlotEntry-given}
 use Rattle.contacts_base.specs.declared.contact.ContactEntry.{ContactEntry}
-use Rattle.contacts.specs.Constraints.{constraint_number}
-use Rattle.contacts.specs.declared.constraint.Constraint.{Constraint}
+use Rattle.plain_world.specs.Constraints.{constraint_number}
+use Rattle.plain_world.specs.declared.constraint.Constraint.{Constraint}
 use Rattle.graph_colours.specs.Colours.{ids_of}
 use Rattle.islands.specs.Labels.{label_at, padded, sleeping_name}
 use Rattle.islands.specs.declared.label.Label.{Label}

@@ -1,5 +1,5 @@
 -- Laws of the crates below, of the constraints of a world.
-use Rattle.contacts.specs.Constraints.{constraint_number}
+use Rattle.plain_world.specs.Constraints.{constraint_number}
 use Rattle.sleep_wake.specs.Laws as sleeping
 use Rattle.solver_sets.specs.Laws as ties
 use Rattle.sleep_wake.proofs.BetweenLemmas as wake_between_lemmas

@@ -37,10 +37,10 @@ use Rattle.contacts_base.specs.Contacts.{number_of, lookup}
 use Rattle.contacts_base.specs.Evaluate.{apart, impulses_at, kept, kept_point, evaluated, no_impulses}
 use Rattle.contacts_base.specs.Limits.{IsContactPoint, IsContact}
 use Rattle.contacts_base.specs.Near.{is_near, one_stirs}
-use Rattle.contacts.specs.ByPairs.{contacts_between, near_pairs}
-use Rattle.contacts.specs.Changes.{entry_with, entry_of, kept_contact, surface_with, key_of}
-use Rattle.contacts.proofs.Members.{Each, each_in, each_from, each_append, all_from_each}
-use Rattle.contacts.specs.Forbidden.{is_forbidden}
+use Rattle.contacts_base.specs.ByPairs.{contacts_between, near_pairs}
+use Rattle.contacts_base.specs.Changes.{entry_with, entry_of, kept_contact, surface_with, key_of}
+use Rattle.contacts_base.proofs.Members.{Each, each_in, each_from, each_append, all_from_each}
+use Rattle.contacts_base.specs.Forbidden.{is_forbidden}
 use Rattle.graph_colours.proofs.PlaceLemmas.{same_from}
 use Rattle.body_handles.specs.declared.slot_table.TheConstants.{MAX_SLOTS}
 use Rattle.plain_world.specs.declared.body.Body.{Body}

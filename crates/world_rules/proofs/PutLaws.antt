@@ -1,6 +1,6 @@
 -- What acts, put into a world's lists with the bodies told: the world is kept, and what acts in it is just that.
 use Rattle.std.proofs.Common.{◌≡◌}
-use Rattle.contacts.specs.declared.constraint.Constraint.{Constraint}
+use Rattle.plain_world.specs.declared.constraint.Constraint.{Constraint}
 use Rattle.sleep_wake.specs.Acting.{Acting}
 use Rattle.world_rules.specs.Sets.{acting_of, with_acting}
 use Rattle.world_rules.specs.World.{World}

@@ -5,8 +5,8 @@ use Rattle.std.proofs.lemmas.List.Elements.{All-head, All-tail, All-weaker, Cont
 use Rattle.std.specs.Option.{option_map_or}
 use Rattle.graph_colours.specs.declared.member.Member.{Member}
 use Rattle.graph_colours.specs.declared.member.Movers.{Movers}
-use Rattle.contacts.specs.Constraints.{constraint_number}
-use Rattle.contacts.specs.declared.constraint.Constraint.{Constraint}
+use Rattle.plain_world.specs.Constraints.{constraint_number}
+use Rattle.plain_world.specs.declared.constraint.Constraint.{Constraint}
 use Rattle.islands.specs.declared.label.IslandState.TheVariants.{Whole, Loose}
 use Rattle.islands.specs.declared.label.Label.{Label}
 use Rattle.islands.specs.Labels.{Labels, is_loose, label_at, loosened, merged, merged_by, relabelled, sleeping_name, union_label, with_state}

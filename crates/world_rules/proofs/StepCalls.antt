@@ -1,8 +1,8 @@
 -- What the calls of a step ask for, and what its events are, of a kept world.
 use Rattle.std.proofs.Common.{◌≡◌, ℕ, ◌+◌, ◌<◌, ◌≤◌, ◌^◌, List, length, Option, sym, subst, arith, All}
 use Rattle.std.proofs.lemmas.List.Elements.{All-weaker}
-use Rattle.contacts.specs.Constraints.{constraint_number}
-use Rattle.contacts.specs.declared.constraint.Constraint.{Constraint}
+use Rattle.plain_world.specs.Constraints.{constraint_number}
+use Rattle.plain_world.specs.declared.constraint.Constraint.{Constraint}
 use Rattle.contacts_base.specs.Contacts.{AreKeysRising}
 use Rattle.contacts_base.specs.declared.contact.ContactEntry.{ContactEntry}
 use Rattle.graph_colours.specs.Colours.{all_members}

@@ -6,10 +6,10 @@ use Rattle.std.specs.List.Sorted.{IsStrictlyIncreasing}
 use Rattle.fixed_geom.specs.Vectors.{plus}
 use Rattle.body_handles.specs.declared.handle.Handle.{Handle}
 use Rattle.body_handles.specs.declared.slot_table.SlotEntry.{SlotEntry}
-use Rattle.contacts.specs.Constraints.{constraint_number}
-use Rattle.contacts.specs.declared.constraint.Constraint.{Constraint}
-use Rattle.contacts.proofs.Members.{Each}
-use Rattle.contacts.proofs.Rising.{IsRising, increasing_from_rising}
+use Rattle.plain_world.specs.Constraints.{constraint_number}
+use Rattle.plain_world.specs.declared.constraint.Constraint.{Constraint}
+use Rattle.contacts_base.proofs.Members.{Each}
+use Rattle.contacts_base.proofs.Rising.{IsRising, increasing_from_rising}
 use Rattle.body_handles.specs.Orders.{slot_of}
 use Rattle.islands.specs.Labels.{Labels}
 use Rattle.solver_sets.specs.Slept.{asleep_only_in, handles_where, sleeps}

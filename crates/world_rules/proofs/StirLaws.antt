@@ -5,8 +5,8 @@ use Rattle.std.specs.List.{filter_map}
 use Rattle.std.proofs.lemmas.Bool.{false≢true}
 use Rattle.graph_colours.specs.declared.member.Member.{Member}
 use Rattle.contacts_base.specs.declared.contact.ContactEntry.{ContactEntry}
-use Rattle.contacts.specs.Constraints.{constraint_number}
-use Rattle.contacts.specs.declared.constraint.Constraint.{Constraint}
+use Rattle.plain_world.specs.Constraints.{constraint_number}
+use Rattle.plain_world.specs.declared.constraint.Constraint.{Constraint}
 use Rattle.islands.proofs.JoinLemmas.{contains_head}
 use Rattle.plain_world.specs.declared.body.Body.{Body}
 use Rattle.plain_world.specs.Plain.{Plain}

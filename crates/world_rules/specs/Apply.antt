@@ -25,9 +25,9 @@ use Rattle.contacts_base.specs.Contacts.{contacts_without}
 use Rattle.contacts_base.specs.declared.contact.ContactEntry.{ContactEntry}
 use Rattle.graph_colours.specs.declared.limits.TheConstants.{COLOURS}
 use Rattle.graph_colours.specs.Colours.{ids_of}
-use Rattle.contacts.specs.Constraints.{constraint_number}
-use Rattle.contacts.specs.declared.constraint.Constraint.{Constraint}
-use Rattle.contacts.specs.declared.constraint.Constraint.TheVariants.{Joint}
+use Rattle.plain_world.specs.Constraints.{constraint_number}
+use Rattle.plain_world.specs.declared.constraint.Constraint.{Constraint}
+use Rattle.plain_world.specs.declared.constraint.Constraint.TheVariants.{Joint}
 use Rattle.islands.specs.Labels.{Labels}
 use Rattle.sleep_wake.specs.Widened.{widened}
 use Rattle.sleep_wake.specs.Acting.{Acting}

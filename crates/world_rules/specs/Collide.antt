@@ -7,8 +7,8 @@ use Rattle.shapes.specs.declared.shape.ShapeDef.{ShapeDef}
 use Rattle.contacts_base.specs.declared.key.ContactKey.{ContactKey}
 use Rattle.contacts_base.specs.declared.contact.ContactEntry.{ContactEntry}
 use Rattle.contacts_base.specs.declared.near.Proxy.{Proxy}
-use Rattle.contacts.specs.ByPairs.{contacts_between}
-use Rattle.contacts.specs.Changes.{keys_touching_only_in}
+use Rattle.contacts_base.specs.ByPairs.{contacts_between}
+use Rattle.contacts_base.specs.Changes.{keys_touching_only_in}
 use Rattle.plain_world.specs.declared.body.Body.{Body}
 use Rattle.plain_world.specs.declared.joint.BodyJoint.{BodyJoint}
 use Rattle.plain_world.specs.Joints.{forbidden_pairs}

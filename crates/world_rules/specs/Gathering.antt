@@ -1,6 +1,6 @@
 -- What the ticks of a step may rely on: the joints, the contacts and the constraints that act, as they are gathered.
 use Rattle.std.specs.Prelude.{List, Option, All}
-use Rattle.contacts.specs.declared.constraint.Constraint.{Constraint}
+use Rattle.plain_world.specs.declared.constraint.Constraint.{Constraint}
 use Rattle.contacts_base.specs.declared.contact.ContactEntry.{ContactEntry}
 use Rattle.contacts_base.specs.Contacts.{AreKeysRising}
 use Rattle.graph_colours.specs.Colours.{ids_of}

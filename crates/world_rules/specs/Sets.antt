@@ -1,8 +1,8 @@
 -- Trusted: The constraints, islands and colours of a world, taken together: what commands do to them, and the world
 -- that they leave.
 use Rattle.std.specs.Prelude.{ℕ, Bool, cond, List}
-use Rattle.contacts.specs.Constraints.{constraint_number}
-use Rattle.contacts.specs.declared.constraint.Constraint.{Constraint}
+use Rattle.plain_world.specs.Constraints.{constraint_number}
+use Rattle.plain_world.specs.declared.constraint.Constraint.{Constraint}
 use Rattle.graph_colours.specs.Colours.{ids_of}
 use Rattle.sleep_wake.specs.Acting.{Acting, acting}
 use Rattle.sleep_wake.specs.Bodies.{mover_gone, mover_made}

@@ -6,7 +6,7 @@ use Rattle.impulse_ledger.specs.Sums.{Book, total, total_of}
 use Rattle.body_handles.specs.SlotEntries.{IsSlotEntry}
 use Rattle.contacts_base.specs.declared.contact.ContactEntry.{ContactEntry}
 use Rattle.contacts_base.specs.Contacts.{AreKeysRising}
-use Rattle.contacts.specs.Constraints.{constraint_number}
+use Rattle.plain_world.specs.Constraints.{constraint_number}
 use Rattle.graph_colours.specs.Colours.{ids_of}
 use Rattle.plain_world.specs.declared.body.Body.{Body}
 use Rattle.plain_world.specs.Bodies.{AreBodies, IsAtRest, is_awake}

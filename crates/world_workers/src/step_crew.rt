@@ -11,12 +11,13 @@ use crate::tasks::{
     Answer, Done, Task, TaskWork, WorldSurvey, list_looks, list_pairs, list_seats, take_answers,
 };
 use colour_solver::StepSums;
-use contacts::{Constraint, EvaluatedPairs, LookedPlaces, PairLists, PairPiece};
+use contacts::{EvaluatedPairs, LookedPlaces, PairLists, PairPiece};
 use crew::{Crew, CrewDef, Gate, PieceMap, Returned, sole, start};
 use fixed_geom::Refusal;
 use graph_colours::Colours;
 use momenta::BodyState;
 use part_solver::{Part, PartMemory, PartSolver, Seat, SeatMap};
+use plain_world::Constraint;
 use std::alloc::Global;
 use std::sync::{Arc, Wait};
 use std::thread::{Scope, Threads};

@@ -6,8 +6,8 @@ ghost use Rattle.contacts_base.specs.ContactLists.{AreContacts};
 ghost use Rattle.contacts_base.specs.Proxies.{IsProxyList};
 ghost use Rattle.contacts.specs.Pairs.{ArePairs};
 ghost use Rattle.contacts.specs.ByCodes.{contacts_of};
-ghost use Rattle.contacts.specs.Changes.{keys_touching_only_in};
-ghost use Rattle.contacts.specs.ChangedKeys.{keys_not_in};
+ghost use Rattle.contacts_base.specs.Changes.{keys_touching_only_in};
+ghost use Rattle.contacts_base.specs.ChangedKeys.{keys_not_in};
 ghost use Rattle.contacts.specs.PairPieces.{evaluated_of, joined, shown};
 
 use crate::changes::Present;

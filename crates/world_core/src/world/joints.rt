@@ -7,9 +7,8 @@ use super::WorldCore;
 use crate::joining::{check_join, joint_of};
 use crate::waking_islands::wake_planned;
 use body_handles::Handle;
-use contacts::Constraint;
 use fixed_geom::Refusal;
-use plain_world::JointDef;
+use plain_world::{Constraint, JointDef};
 use solver_sets::{begin_with, end_with, joint_movers};
 use world_rules::Reply;
 

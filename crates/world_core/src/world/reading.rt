@@ -13,13 +13,13 @@ ghost use Rattle.graph_colours.specs.Colours.{ids_of};
 use super::WorldCore;
 use body_handles::{Handle, SlotEntry};
 use box_tree::BoxTree;
-use contacts::{Constraint, ContactTable};
+use contacts::ContactTable;
 use event_feed::Events;
 use fixed_geom::Vec2;
 use graph_colours::Colours;
 use impulse_ledger::Ledger;
 use islands::Islands;
-use plain_world::{Body, BodyView, body_of};
+use plain_world::{Body, BodyView, Constraint, body_of};
 use world_core_base::JointTable;
 
 impl WorldCore {

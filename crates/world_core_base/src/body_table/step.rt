@@ -29,10 +29,10 @@ use crate::telling_bodies::{tell_bodies, tell_listed};
 use crate::timing::time_bodies;
 use body_handles::MAX_SLOTS;
 use colour_solver::StepSums;
-use contacts::Constraint;
 use graph_colours::{COLOURS, Colours};
 use islands::Islands;
 use momenta::Gain;
+use plain_world::Constraint;
 
 /// Whether it takes less time to tell so many bodies one by one than to tell all.
 fn are_few(count: usize, all: usize) -> bool

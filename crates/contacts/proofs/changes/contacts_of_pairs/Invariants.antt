@@ -1,7 +1,7 @@
 use Rattle.std.proofs.Common.{◌≡◌, ◌≤◌, length, take, vec_capacity, vec_len}
-use Rattle.contacts.specs.Changes.{keys_touching_only_in}
+use Rattle.contacts_base.specs.Changes.{keys_touching_only_in}
 use Rattle.contacts.specs.ByCodes.{contacts_of}
-use Rattle.contacts.specs.ChangedKeys.{keys_not_in}
+use Rattle.contacts_base.specs.ChangedKeys.{keys_not_in}
 use Rattle.contacts.proofs.changes.contacts_of_pairs.Given as goal
 
 abbrev pub invariant-loop-code : goal.invariant-loop-code

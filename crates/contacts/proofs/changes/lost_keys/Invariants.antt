@@ -1,6 +1,6 @@
 use Rattle.std.proofs.Common.{◌≡◌, take}
-use Rattle.contacts.specs.Changes.{keys_touching_only_in}
-use Rattle.contacts.specs.ChangedKeys.{keys_not_in}
+use Rattle.contacts_base.specs.Changes.{keys_touching_only_in}
+use Rattle.contacts_base.specs.ChangedKeys.{keys_not_in}
 use Rattle.contacts.proofs.changes.lost_keys.Given as goal
 
 abbrev pub invariant-loop-entry : goal.invariant-loop-entry

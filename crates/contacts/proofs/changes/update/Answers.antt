@@ -1,6 +1,6 @@
 use Rattle.std.proofs.Common.{◌≡◌, ◌∙◌, ap, subst, sym}
 use Rattle.contacts_base.specs.Split.{Split}
-use Rattle.contacts.specs.ChangedKeys.{AreRising}
+use Rattle.contacts_base.specs.ChangedKeys.{AreRising}
 use Rattle.contacts.proofs.ChangeLemmas.{keys_not_in_rise, keys_touching_rise}
 use Rattle.contacts.proofs.changes.update.Goals as goal
 

@@ -2,7 +2,7 @@ use Rattle.std.proofs.Common.{map, inl, inr}
 use Rattle.contacts_base.specs.Contacts.{number_of as entry_number}
 use Rattle.contacts.specs.ByCodes.{allowed_codes}
 use Rattle.contacts.specs.Known.{staying, fresh, code_number}
-use Rattle.contacts.proofs.Members.{in_from_contains, contains_from_in}
+use Rattle.contacts_base.proofs.Members.{in_from_contains, contains_from_in}
 use Rattle.contacts.proofs.KnownLemmas.{near_in_parts, parts_are_near}
 use Rattle.contacts.proofs.known.near_are_known.Goals as goal
 

@@ -1,5 +1,5 @@
 use Rattle.std.proofs.Common.{None}
-use Rattle.contacts.specs.Changes.{key_if_new}
+use Rattle.contacts_base.specs.Changes.{key_if_new}
 use Rattle.contacts.proofs.FateLemmas.{keys_step}
 use Rattle.contacts.proofs.rebuild.keys_of_touching.Goals as goal
 

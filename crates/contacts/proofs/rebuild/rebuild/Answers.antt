@@ -5,7 +5,7 @@ use Rattle.contacts_base.specs.Contacts.{number_of}
 use Rattle.contacts_base.specs.Keys.{key_number}
 use Rattle.contacts_base.specs.ShortLists.{counted_in}
 use Rattle.contacts_base.specs.Merge.{AreAscending, merged}
-use Rattle.contacts.specs.Changes.{key_if_new}
+use Rattle.contacts_base.specs.Changes.{key_if_new}
 use Rattle.contacts.specs.Fates.{moved_by}
 use Rattle.contacts.proofs.JoinLaws.{new_keys_ascend}
 use Rattle.contacts.proofs.UpdateLemmas.{begun_ascend, increasing_ascends}

@@ -1,5 +1,5 @@
 use Rattle.std.proofs.Common.{◌≡◌, ◌<◌, map, take}
-use Rattle.contacts.specs.Constraints.{constraint_number}
+use Rattle.plain_world.specs.Constraints.{constraint_number}
 use Rattle.graph_colours.specs.Colours.{IsColouring}
 use Rattle.part_solver.specs.Stages.{lists_of, slot_lists, slots_of}
 use Rattle.part_solver.proofs.stages.list_stages.Given as goal

@@ -1,7 +1,7 @@
 use Rattle.std.proofs.Common.{◌≡◌, List, subst}
 use Rattle.std.specs.Prelude.{IfOk, OnOk}
 use Rattle.contacts_base.specs.declared.contact.ContactEntry.{ContactEntry}
-use Rattle.contacts.specs.Changes.{keys_touching_only_in}
+use Rattle.contacts_base.specs.Changes.{keys_touching_only_in}
 use Rattle.world_core.proofs.CollideLaws.{contacts_are_after}
 use Rattle.world_core.proofs.RisingLaws.{are_proxies}
 use Rattle.world_core.proofs.collide.collide.Goals as goal

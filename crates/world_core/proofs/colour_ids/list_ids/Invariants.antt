@@ -1,6 +1,6 @@
 use Rattle.std.proofs.Common.{◌≡◌, ◌++◌, drop, map}
 use Rattle.graph_colours.specs.declared.member.Member.{Member}
-use Rattle.contacts.specs.declared.constraint.Constraint.{Constraint}
+use Rattle.plain_world.specs.declared.constraint.Constraint.{Constraint}
 use Rattle.world_core.proofs.colour_ids.list_ids.Given as goal
 
 abbrev pub invariant-loop-member : goal.invariant-loop-member

@@ -1,4 +1,4 @@
-use Rattle.contacts.specs.Constraints.{constraint_number}
+use Rattle.plain_world.specs.Constraints.{constraint_number}
 use Rattle.sleep_wake.specs.Changes.{after_changes}
 use Rattle.world_rules.proofs.ToldLaws.{told_stays}
 use Rattle.world_core.proofs.KeepLaws.{keep_woken, turned_alike}

@@ -1,6 +1,6 @@
 use Rattle.std.proofs.Common.{subst, take, take_all}
 use Rattle.std.proofs.lemmas.List.Elements.{All-more}
-use Rattle.contacts.specs.declared.constraint.Constraint.{Constraint}
+use Rattle.plain_world.specs.declared.constraint.Constraint.{Constraint}
 use Rattle.graph_colours.specs.declared.member.Movers.{Movers}
 use Rattle.sleep_wake.specs.declared.change.Change.{Change}
 use Rattle.world_core.specs.Waking.{HasName, OfBoth, movers_in}

@@ -22,7 +22,7 @@ use Rattle.world_core_base.proofs.ContactAsleepLaws.{contacts_alike}
 use Rattle.world_core_base.proofs.JointAsleepLaws.{joints_alike}
 use Rattle.world_core_base.proofs.AsleepLaws.{alike_timed}
 use Rattle.sleep_wake.specs.SleepPhase.{sleep_phase}
-use Rattle.contacts.specs.Constraints.{constraint_number}
+use Rattle.plain_world.specs.Constraints.{constraint_number}
 use Rattle.plain_world.specs.declared.joint.BodyJoint.{BodyJoint}
 use Rattle.world_core_base.specs.Sleeping.{Sleeping}
 use Rattle.plain_world.specs.Bodies.{AreBodies}

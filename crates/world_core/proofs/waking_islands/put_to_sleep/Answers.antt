@@ -2,7 +2,7 @@ use Rattle.std.proofs.Common.{sym, ◌∙◌}
 use Rattle.colour_solver.proofs.VectorLaws.{plus_zero}
 use Rattle.plain_world.specs.Momentum.{momentum}
 use Rattle.world_core.proofs.QuietSteps.{slept_stays}
-use Rattle.contacts.specs.Constraints.{constraint_number}
+use Rattle.plain_world.specs.Constraints.{constraint_number}
 use Rattle.sleep_wake.specs.Sleeping.{slept_at}
 use Rattle.world_core.proofs.KeepLaws.{keep_rested}
 use Rattle.world_core.proofs.TellingLaws.{slept_beside, slept_on}

@@ -1,6 +1,6 @@
 use Rattle.std.proofs.Common.{sym}
 use Rattle.world_core_base.proofs.MarkedLaws.{marked_same}
-use Rattle.contacts.specs.Constraints.{constraint_number}
+use Rattle.plain_world.specs.Constraints.{constraint_number}
 use Rattle.sleep_wake.specs.Sleeping.{islands_woken}
 use Rattle.world_core.proofs.KeepLaws.{islands_alike, islands_slept, keep_woken}
 use Rattle.world_core.proofs.TellingLaws.{woken_beside}

@@ -2,7 +2,7 @@ use Rattle.std.proofs.Common.{ℕ, Option, vec_capacity}
 use Rattle.std.specs.List.{filter_map}
 use Rattle.contacts.specs.Kept.{numbers_on}
 use Rattle.contacts.specs.declared.ends.Side.TheVariants.{First, Second}
-use Rattle.contacts.specs.declared.constraint.Constraint.{Constraint}
+use Rattle.plain_world.specs.declared.constraint.Constraint.{Constraint}
 use Rattle.graph_colours.specs.declared.member.Member.{Member}
 use Rattle.packed_sets.specs.Packs.{list_at}
 use Rattle.sleep_wake.specs.Sources.{first_ties}

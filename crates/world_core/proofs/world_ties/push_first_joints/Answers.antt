@@ -2,7 +2,7 @@ use Rattle.std.proofs.Common.{get_or, ◌≡◌, ◌∷◌, ◌+◌, ℕ, Option
 use Rattle.std.specs.Prelude.{◌/◌}
 use Rattle.std.specs.List.{filter_map}
 use Rattle.std.proofs.lemmas.List.{drop_more}
-use Rattle.contacts.specs.declared.constraint.Constraint.{Constraint}
+use Rattle.plain_world.specs.declared.constraint.Constraint.{Constraint}
 use Rattle.graph_colours.specs.declared.member.Member.{Member}
 use Rattle.sleep_wake.specs.Sources.{first_ties}
 use Rattle.solver_sets.specs.Ties.{slots_of}

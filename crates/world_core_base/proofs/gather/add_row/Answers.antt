@@ -1,6 +1,6 @@
 use Rattle.std.proofs.Common.{rules, ◌≡◌, ◌∙◌, length, arith, Fits, w32}
 use Rattle.contacts_base.specs.Split.{contacts_in}
-use Rattle.contacts.specs.declared.constraint.Constraint.TheVariants as constraints
+use Rattle.plain_world.specs.declared.constraint.Constraint.TheVariants as constraints
 use Rattle.plain_world.specs.Joints.{joint_at}
 use Rattle.world_core_base.specs.Gather.{row_of}
 use Rattle.world_core_base.proofs.JointLaws.{contact_below, joint_below}

@@ -2,7 +2,7 @@ use Rattle.std.proofs.Common.{◌∙◌, length, slice_index_or, sym, subst, ari
 use Rattle.colour_solver.specs.ConstraintVisits.{AreRowsBelow, IsRowBelow}
 use Rattle.graph_colours.specs.declared.member.Member.{Member}
 use Rattle.contacts_base.specs.Split.{contacts_in}
-use Rattle.contacts.specs.declared.constraint.Constraint.{Constraint}
+use Rattle.plain_world.specs.declared.constraint.Constraint.{Constraint}
 use Rattle.world_core_base.specs.ConstraintRows.{constraint_row}
 use Rattle.world_core_base.proofs.ContactLaws.{all_more, row_more}
 use Rattle.world_core_base.proofs.RowOrderLaws.{joints_so_far}

@@ -1,5 +1,5 @@
 use Rattle.std.proofs.Common.{◌∙◌}
-use Rattle.contacts.specs.declared.constraint.Constraint.{Constraint}
+use Rattle.plain_world.specs.declared.constraint.Constraint.{Constraint}
 use Rattle.graph_colours.specs.Colours.{list_at}
 use Rattle.graph_colours.specs.declared.member.Member.{Member}
 use Rattle.world_digest.specs.ConstraintWords.{constraint_words}

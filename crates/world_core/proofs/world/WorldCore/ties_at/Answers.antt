@@ -1,5 +1,5 @@
 use Rattle.std.proofs.Common.{◌≡◌, ◌++◌, ◌∙◌, List, ap, sym}
-use Rattle.contacts.specs.declared.constraint.Constraint.{Constraint}
+use Rattle.plain_world.specs.declared.constraint.Constraint.{Constraint}
 use Rattle.graph_colours.specs.declared.member.Member.{Member}
 use Rattle.solver_sets.specs.Ties.{joint_ties_at}
 use Rattle.world_core.specs.WorldTies.{contact_ties_at}

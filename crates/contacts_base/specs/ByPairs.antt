@@ -3,9 +3,9 @@ use Rattle.std.specs.Prelude.{not, List, [], ◌∷◌, ◌++◌, map, filter}
 use Rattle.contacts_base.specs.declared.near.Proxy.{Proxy}
 use Rattle.contacts_base.specs.declared.contact.ContactEntry.{ContactEntry}
 use Rattle.contacts_base.specs.Near.{is_near}
-use Rattle.contacts.specs.declared.forbidden.BodyPair.{BodyPair}
-use Rattle.contacts.specs.Changes.{entry_of}
-use Rattle.contacts.specs.Forbidden.{is_forbidden}
+use Rattle.contacts_base.specs.declared.body_pair.BodyPair.{BodyPair}
+use Rattle.contacts_base.specs.Changes.{entry_of}
+use Rattle.contacts_base.specs.Forbidden.{is_forbidden}
 
 -- each two shapes of the list that are near one another
 abbrev pub near_pairs : List Proxy → List (Proxy × Proxy)

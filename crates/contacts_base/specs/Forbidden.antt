@@ -2,7 +2,7 @@
 use Rattle.std.specs.Prelude.{ℕ, ◌==◌, ◌&&◌, ◌||◌, Bool, List}
 use Rattle.std.specs.List.{list_any}
 use Rattle.contacts_base.specs.declared.near.Proxy.{Proxy}
-use Rattle.contacts.specs.declared.forbidden.BodyPair.{BodyPair}
+use Rattle.contacts_base.specs.declared.body_pair.BodyPair.{BodyPair}
 
 -- its first body is in the slot a, its second in the slot b
 abbrev pub is_in_order : ℕ → ℕ → BodyPair → Bool

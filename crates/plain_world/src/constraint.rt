@@ -1,7 +1,7 @@
 //! The names of constraints: what has a colour.
 
 ghost use Rattle.std.specs.Prelude.{◌≡◌};
-ghost use Rattle.contacts.specs.Constraints.{constraint_number, joint_number};
+ghost use Rattle.plain_world.specs.Constraints.{constraint_number, joint_number};
 
 use body_handles::Handle;
 use contacts_base::ContactKey;

@@ -2,7 +2,7 @@
 use Rattle.std.proofs.Common.{◌≡◌, ℕ, zero, suc, ◌<◌, ◌≤◌, List, [], ◌∷◌, ◌++◌, length, get_or, Bool, true, false, cond, inl, inr, refl, sym, arith, add-one}
 use Rattle.std.specs.List.Sorted.{IsStrictlyIncreasing}
 use Rattle.std.proofs.lemmas.List.Kept.{AllPairs-from_increasing}
-use Rattle.contacts.proofs.Members.{Each, IsIn, each_in, each_append}
+use Rattle.contacts_base.proofs.Members.{Each, IsIn, each_in, each_append}
 
 abbrev pub IsRising : List ℕ → Type 0
 IsRising [] = Unit {0}
