@@ -10,7 +10,7 @@ use crate::assertions::{same, same_items};
 use crate::contacts_forbidden::{NO_PAIR, OnePair};
 use crate::contacts_scenes::{BALL, KEY, add, lying_at, proxy_of};
 use contacts::*;
-use contacts_base::{ContactKey, Proxy, ShapeId};
+use contacts_base::{BodyPair, ContactKey, Proxy, ShapeId};
 use crew::CallingThread;
 use fixed_geom::{Box2, Refusal};
 use packed_sets::Marks;
