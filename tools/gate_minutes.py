@@ -4,8 +4,8 @@
     tools/gate_minutes.py [COMMAND..]     the command is .ci/run where none is given
 
 It looks at the kit's processes each second. Each has a crate's name among its words, so that processor time and memory
-fall to crates: a `build` is a proof, with what compiles it, a `check` is one of the edits, or the proof that they begin
-with. Run it in a clean checkout, with nothing kept, on a machine that does nothing else. It ends as the command does.
+fall to crates: a `build` is a proof, with what compiles it. A `check` is one of the edits, or the proof that they begin with;
+of a crate without edits in the gate it is the proof. Run it in a clean checkout, with nothing kept, on a machine that does nothing else. It ends as the command does.
 """
 
 import os
@@ -45,7 +45,8 @@ def task_of(words):
     """The crate that a process of the kit works for, and whether it tries edits."""
     if "--crate-name" not in words[:-1] or not words[0].rpartition("/")[2].startswith("rattle"):
         return None
-    return words[words.index("--crate-name") + 1], words[1] == "check"
+    crate = words[words.index("--crate-name") + 1]
+    return crate, words[1] == "check" and (TOP / "crates" / crate / "must-fail").is_dir()
 
 
 def watch(command):
