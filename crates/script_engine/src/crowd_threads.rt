@@ -1,8 +1,9 @@
 //! The threads of a crowd: each makes its calls through a seat of its own, its steps solved by workers of its own.
 
 use crate::calls::call;
+use crate::command_copies::copy_of;
 use fixed_geom::Refusal;
-use script_requests::{CrowdDef, copy_of};
+use script_requests::CrowdDef;
 use std::alloc::Global;
 use std::sync::Wait;
 use std::sync::atomic::{AtomicU64, Ordering};

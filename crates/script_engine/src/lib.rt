@@ -3,6 +3,7 @@
 
 mod answers;
 mod calls;
+mod command_copies;
 mod crowd_threads;
 mod crowds;
 mod engine;

@@ -1,6 +1,8 @@
 //! What standard error is told: which key of a request a refusal speaks of, what was refused in a crowd, and what is
 //! wrong with a line.
 
+ghost use Rattle.std.specs.Prelude.{◌≡◌};
+
 use crate::extended::Extended;
 use crate::requests::{CrowdDef, Request};
 use fixed_geom::{MAX_POSITION, Refusal, is_facing, is_within};
@@ -86,7 +88,9 @@ fn key_of_shape_number(def: &ShapeDef) -> &'static str {
 }
 
 /// What a refusal says that a body's shapes met: of one of them where it is refused by itself, and else of their list.
-fn explain_shapes(def: &BodyDef, refusal: Refusal) -> Explanation {
+fn explain_shapes(def: &BodyDef, refusal: Refusal) -> Explanation
+    ensures refusal { result.refusal ≡ refusal }
+{
     let defs = def.shapes.as_slice();
     let shape = refused_shape(defs, def.kind.is_static(), refusal);
     let key = match shape.and_then(|place| defs.get(place)) {
@@ -205,7 +209,9 @@ fn meaning_of(request: &Request<'_>, refusal: Refusal) -> Option<&'static str> {
 }
 
 /// What a refusal of a request says.
-pub fn explain(request: &Request<'_>, refusal: Refusal) -> Explanation {
+pub fn explain(request: &Request<'_>, refusal: Refusal) -> Explanation
+    ensures refusal { result.refusal ≡ refusal }
+{
     if let Request::Command(Command::CreateBody(def)) = request {
         let segments = def.kind.is_static();
         if check(def.shapes.as_slice(), segments).err() == Some(refusal) {

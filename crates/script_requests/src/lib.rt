@@ -10,4 +10,4 @@ mod requests;
 
 pub use explanation::{BadLine, CrowdRefusals, Explanation, explain};
 pub use extended::{Extended, RayRequest};
-pub use requests::{CrowdDef, Request, copy_of, request_of};
+pub use requests::{CrowdDef, Request, request_of};

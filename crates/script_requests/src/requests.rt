@@ -1,11 +1,11 @@
 //! What a line asks for.
 
-ghost use Rattle.std.specs.Prelude.{◌≡◌, IfOk};
-ghost use Rattle.std.specs.Result.{IsOkUnless};
+ghost use Rattle.std.specs.Prelude.{◌≡◌, IfOk, IfSome, false};
+ghost use Rattle.script_requests.specs.Requests.{is_extended};
 
 use crate::extended::{Extended, take_box, take_extended};
 use body_handles::Handle;
-use fixed_geom::{Box2, Refusal, Rot, Vec2, ZERO_VECTOR};
+use fixed_geom::{Box2, Rot, Vec2, ZERO_VECTOR};
 use json::Scratch;
 use momenta::MassData;
 use plain_world::{BodyDef, Course, JointDef, Kind};
@@ -45,43 +45,6 @@ pub enum Request<'a> {
     Crowd(CrowdDef),
     /// What only the extended form has.
     Extended(Extended),
-}
-
-/// A copy of a command.
-pub fn copy_of(command: &Command) -> Result<Command, Refusal>
-    ensures copy { IfOk result (λ copy. copy ≡ command.now) }
-    ensures memory_only { IsOkUnless result Refusal.NoMemory }
-{
-    match command {
-        Command::CreateBody(def) => Ok(Command::CreateBody(copy_of_def(def)?)),
-        Command::CreateJoint(def) => Ok(Command::CreateJoint(*def)),
-        Command::DestroyBody(body) => Ok(Command::DestroyBody(*body)),
-        Command::DestroyJoint(joint) => Ok(Command::DestroyJoint(*joint)),
-        Command::Push(body, by) => Ok(Command::Push(*body, *by)),
-        Command::PushAt(body, by, offset) => Ok(Command::PushAt(*body, *by, *offset)),
-        Command::SetPose(body, pose) => Ok(Command::SetPose(*body, *pose)),
-        Command::SetVelocity(body, course) => Ok(Command::SetVelocity(*body, *course)),
-        Command::SetGravity(by) => Ok(Command::SetGravity(*by)),
-        Command::Disable(body) => Ok(Command::Disable(*body)),
-        Command::Enable(body) => Ok(Command::Enable(*body)),
-        Command::Wake(body) => Ok(Command::Wake(*body)),
-        Command::Sleep(body) => Ok(Command::Sleep(*body)),
-        Command::Step(ticks) => Ok(Command::Step(*ticks)),
-    }
-}
-
-fn copy_of_def(def: &BodyDef) -> Result<BodyDef, Refusal>
-    ensures copy { IfOk result (λ copy. copy ≡ def.now) }
-    ensures memory_only { IsOkUnless result Refusal.NoMemory }
-{
-    let shapes = def.shapes.try_copy()?;
-    Ok(BodyDef {
-        kind: def.kind,
-        mass: def.mass,
-        x: def.x,
-        rot: def.rot,
-        shapes,
-    })
 }
 
 /// The mass of a body that isn't dynamic.
@@ -208,7 +171,9 @@ fn take_command<'a>(alloc: Global, fields: &mut Fields<'a>, name: &str) -> Optio
     Some(command)
 }
 
-fn take_ray<'a>(fields: &mut Fields<'a>) -> Request<'a> {
+fn take_ray<'a>(fields: &mut Fields<'a>) -> Request<'a>
+    ensures plain { is_extended result ≡ false }
+{
     let from = fields.take_vector("from");
     Request::Ray(from, fields.take_vector("along"))
 }
@@ -236,7 +201,9 @@ fn take_calls<'a>(alloc: Global, line: &mut Line<'a>, calls: &mut Vec<Command>) 
     }
 }
 
-fn take_crowd<'a>(alloc: Global, line: &mut Line<'a>) -> Request<'a> {
+fn take_crowd<'a>(alloc: Global, line: &mut Line<'a>) -> Request<'a>
+    ensures plain { is_extended result ≡ false }
+{
     line.own.take_each("each");
     let times = line.own.take_unsigned("times");
     if times < 1 || MOST_TIMES < times {
@@ -249,7 +216,9 @@ fn take_crowd<'a>(alloc: Global, line: &mut Line<'a>) -> Request<'a> {
 
 /// The request of a line by its name, of the extended form too where that is asked for; `None` where something is
 /// wrong, which is noted in the line's own object then.
-fn take_request<'a>(alloc: Global, line: &mut Line<'a>, extended: bool) -> Option<Request<'a>> {
+fn take_request<'a>(alloc: Global, line: &mut Line<'a>, extended: bool) -> Option<Request<'a>>
+    ensures plain { extended ≡ false → IfSome result (λ request. is_extended request ≡ false) }
+{
     let name = line.own.take_text("do");
     if extended {
         if let Some(request) = take_extended(&mut line.own, name) {
@@ -260,7 +229,9 @@ fn take_request<'a>(alloc: Global, line: &mut Line<'a>, extended: bool) -> Optio
 }
 
 /// The request of this name in the plain form.
-fn take_plain<'a>(alloc: Global, line: &mut Line<'a>, name: &'a str) -> Option<Request<'a>> {
+fn take_plain<'a>(alloc: Global, line: &mut Line<'a>, name: &'a str) -> Option<Request<'a>>
+    ensures plain { IfSome result (λ request. is_extended request ≡ false) }
+{
     match name {
         "show" => Some(Request::Show(line.own.take_id("body"))),
         "ledger" => Some(Request::Ledger),
@@ -280,13 +251,15 @@ fn take_plain<'a>(alloc: Global, line: &mut Line<'a>, name: &'a str) -> Option<R
 }
 
 /// Reads a line, with or without its end, in the extended form where that is asked for. The scratch grows to the
-/// longest line that was read.
+/// longest line that was read. Where the extended form isn't asked for, no request of it is answered.
 pub fn request_of<'a>(
     alloc: Global,
     bytes: &'a [u8],
     scratch: &'a mut Scratch,
     extended: bool,
-) -> Result<Request<'a>, LineFault<'a>> {
+) -> Result<Request<'a>, LineFault<'a>>
+    ensures plain { extended ≡ false → IfOk result (λ request. is_extended request ≡ false) }
+{
     let mut line = Line::new(alloc);
     line.read(alloc, bytes, scratch);
     let request = take_request(alloc, &mut line, extended);
