@@ -1,6 +1,5 @@
 //! The numbers of contacts that come and go, by balls on the ground.
 
-ghost use Rattle.std.specs.Prelude.{IfOk};
 ghost use Rattle.check_parts.specs.Scenes.{ArePairs};
 
 use crate::assertions::{same, same_items};
@@ -12,7 +11,7 @@ use contacts_base::{ContactKey, ShapeId};
 use fixed_geom::{Refusal, Vec2};
 use shapes::Shape;
 use std::alloc::Global;
-use std::test::Fail;
+use std::process::Abort;
 
 /// A floor under all balls.
 const GROUND: Shape = Shape::Segment {
@@ -92,12 +91,13 @@ fn drop_body(contacts: &mut ContactTable, slot: u32)
 
 /// The numbers once three balls lie, once the first is lifted, once the fourth comes down, and once it goes as the
 /// first comes down again.
-fn come_and_go(alloc: Global) -> Result<[Numbers; 4], Refusal> {
-    let mut contacts = ContactTable::new(alloc);
-    let three = put_at(alloc, &mut contacts, &[DOWN, DOWN, DOWN, UP])?;
-    let lifted = put_at(alloc, &mut contacts, &[UP, DOWN, DOWN, UP])?;
-    let fourth = put_at(alloc, &mut contacts, &[UP, DOWN, DOWN, DOWN])?;
-    let again = put_at(alloc, &mut contacts, &[DOWN, DOWN, DOWN, UP])?;
+fn come_and_go(alloc: Global, contacts: &mut ContactTable) -> Result<[Numbers; 4], Refusal>
+    requires { ArePairs contacts.old.contacts }
+{
+    let three = put_at(alloc, contacts, &[DOWN, DOWN, DOWN, UP])?;
+    let lifted = put_at(alloc, contacts, &[UP, DOWN, DOWN, UP])?;
+    let fourth = put_at(alloc, contacts, &[UP, DOWN, DOWN, DOWN])?;
+    let again = put_at(alloc, contacts, &[DOWN, DOWN, DOWN, UP])?;
     Ok([three, lifted, fourth, again])
 }
 
@@ -109,17 +109,18 @@ fn a_contact_keeps_its_number_until_it_goes_and_the_next_one_gets_it(rt: HostRun
         [None, Some(1), Some(2), Some(0)],
         [Some(3), Some(1), Some(2), None],
     ];
-    same(&rt, &come_and_go(rt.alloc()), &Ok(numbered));
+    let mut contacts = ContactTable::new(rt.alloc());
+    same(&rt, &come_and_go(rt.alloc(), &mut contacts), &Ok(numbered));
 }
 
-/// The contacts of four balls that lie, and of those but for the one in slot 2, which are then still two lists.
-fn without_one(alloc: Global) -> Result<ContactTable, Refusal>
-    ensures pairs { IfOk result (λ contacts. ArePairs contacts.contacts) }
+/// Four balls come to lie, and that in slot 2 goes: its contacts and those of the others are then still two lists.
+fn lay_all_but_one(alloc: Global, contacts: &mut ContactTable) -> Result<(), Refusal>
+    requires { ArePairs contacts.old.contacts }
+    ensures pairs { ArePairs contacts.new.contacts }
 {
-    let mut contacts = ContactTable::new(alloc);
-    put_at(alloc, &mut contacts, &[DOWN, DOWN, DOWN, DOWN])?;
-    drop_body(&mut contacts, 2);
-    Ok(contacts)
+    put_at(alloc, contacts, &[DOWN, DOWN, DOWN, DOWN])?;
+    drop_body(contacts, 2);
+    Ok(())
 }
 
 /// The numbers of the contacts, whether they are one list, how many the last change made and ended, and below which
@@ -135,13 +136,18 @@ fn shown(contacts: &ContactTable) -> (Numbers, bool, [usize; 3]) {
 
 /// What is shown once a body's contacts are dropped, once a sweep has made the lists one, and once nothing was carried
 /// out.
-fn swept(alloc: Global) -> Result<[(Numbers, bool, [usize; 3]); 3], Refusal> {
-    let mut contacts = without_one(alloc)?;
-    let dropped = shown(&contacts);
-    put_at(alloc, &mut contacts, &[DOWN, DOWN, DOWN, DOWN])?;
-    let again = shown(&contacts);
+fn swept(
+    alloc: Global,
+    contacts: &mut ContactTable,
+) -> Result<[(Numbers, bool, [usize; 3]); 3], Refusal>
+    requires { ArePairs contacts.old.contacts }
+{
+    lay_all_but_one(alloc, contacts)?;
+    let dropped = shown(contacts);
+    put_at(alloc, contacts, &[DOWN, DOWN, DOWN, DOWN])?;
+    let again = shown(contacts);
     contacts.commit_pending();
-    Ok([dropped, again, shown(&contacts)])
+    Ok([dropped, again, shown(contacts)])
 }
 
 #[test]
@@ -149,7 +155,8 @@ fn numbers_stay_over_a_drop_a_sweep_and_a_commit(rt: HostRuntime) {
     let four = [Some(0), Some(1), Some(2), Some(3)];
     let dropped = ([Some(0), None, Some(2), Some(3)], false, [0, 1, 4]);
     let told = [dropped, (four, true, [1, 0, 4]), (four, true, [0, 0, 4])];
-    same(&rt, &swept(rt.alloc()), &Ok(told));
+    let mut contacts = ContactTable::new(rt.alloc());
+    same(&rt, &swept(rt.alloc(), &mut contacts), &Ok(told));
 }
 
 /// The numbers of the contacts that have the body in a slot on one side, ascending: of eight at most, which are more
@@ -172,30 +179,58 @@ fn thread(
     Ok(list)
 }
 
-#[test]
-fn the_threads_of_a_body_have_its_contacts_alone(rt: HostRuntime) -> Result<(), Fail> {
-    let contacts = without_one(rt.alloc())?;
-    let ground = &thread(rt.alloc(), &contacts, Side::First, 0)?;
-    same_items(&rt, ground, &[0, 2, 3]);
-    let ball = &thread(rt.alloc(), &contacts, Side::Second, 3)?;
-    same_items(&rt, ball, &[2]);
-    let on_the_other_side = &thread(rt.alloc(), &contacts, Side::First, 3)?;
-    same_items(&rt, on_the_other_side, &[]);
-    let dropped = &thread(rt.alloc(), &contacts, Side::Second, 2)?;
-    same_items(&rt, dropped, &[]);
+/// Looks whether the contacts that have the body in a slot on one side have these numbers.
+fn same_thread(
+    rt: &impl Abort,
+    alloc: Global,
+    contacts: &ContactTable,
+    side: Side,
+    slot: u32,
+    numbers: &[u32],
+) -> Result<(), Refusal> {
+    let thread = thread(alloc, contacts, side, slot)?;
+    same_items(rt, &thread, numbers);
     Ok(())
 }
 
-/// What the numbers 0 to 2 tell where two balls are at these heights.
-fn told(alloc: Global, heights: &[i64]) -> Result<[Option<NumberedContact>; 3], Refusal> {
-    let mut contacts = ContactTable::new(alloc);
-    put_at(alloc, &mut contacts, &[DOWN, DOWN])?;
-    put_at(alloc, &mut contacts, heights)?;
+fn same_threads(rt: &impl Abort, alloc: Global, contacts: &mut ContactTable) -> Result<(), Refusal>
+    requires { ArePairs contacts.old.contacts }
+{
+    lay_all_but_one(alloc, contacts)?;
+    same_thread(rt, alloc, contacts, Side::First, 0, &[0, 2, 3])?;
+    same_thread(rt, alloc, contacts, Side::Second, 3, &[2])?;
+    same_thread(rt, alloc, contacts, Side::First, 3, &[])?;
+    same_thread(rt, alloc, contacts, Side::Second, 2, &[])
+}
+
+#[test]
+fn the_threads_of_a_body_have_its_contacts_alone(rt: HostRuntime) {
+    let mut contacts = ContactTable::new(rt.alloc());
+    let looked = same_threads(&rt, rt.alloc(), &mut contacts);
+    same(&rt, &looked, &Ok(()));
+}
+
+/// What the numbers 0 to 2 tell once two balls that lay are at these heights.
+fn told(
+    alloc: Global,
+    contacts: &mut ContactTable,
+    heights: &[i64],
+) -> Result<[Option<NumberedContact>; 3], Refusal>
+    requires { ArePairs contacts.old.contacts }
+{
+    put_at(alloc, contacts, &[DOWN, DOWN])?;
+    put_at(alloc, contacts, heights)?;
     Ok([
         contacts.contact(0),
         contacts.contact(1),
         contacts.contact(2),
     ])
+}
+
+/// The same, where there are no contacts before.
+fn told_at(alloc: Global, heights: &[i64]) -> Result<[Option<NumberedContact>; 3], Refusal> {
+    let mut contacts = ContactTable::new(alloc);
+    told(alloc, &mut contacts, heights)
 }
 
 #[test]
@@ -209,22 +244,29 @@ fn a_number_tells_the_key_and_whether_the_shapes_touch(rt: HostRuntime) {
         touching: true,
     };
     let apart = [Some(first(false)), Some(second), None];
-    same(&rt, &told(rt.alloc(), &[APART, DOWN]), &Ok(apart));
+    same(&rt, &told_at(rt.alloc(), &[APART, DOWN]), &Ok(apart));
     let touching = [Some(first(true)), Some(second), None];
-    same(&rt, &told(rt.alloc(), &[DOWN, DOWN]), &Ok(touching));
+    same(&rt, &told_at(rt.alloc(), &[DOWN, DOWN]), &Ok(touching));
     let gone = [Some(first(true)), None, None];
-    same(&rt, &told(rt.alloc(), &[DOWN, UP]), &Ok(gone));
+    same(&rt, &told_at(rt.alloc(), &[DOWN, UP]), &Ok(gone));
 }
 
 /// How many contacts the ground has, and the numbers of all, once its body is dropped.
-fn without_ground(alloc: Global) -> Result<(usize, Numbers, usize), Refusal> {
-    let mut contacts = without_one(alloc)?;
-    contacts.drop_of_body(0);
-    let left = count(alloc, &contacts)?;
-    Ok((left, numbers(&contacts), contacts.gone().len()))
+fn without_ground(
+    alloc: Global,
+    contacts: &mut ContactTable,
+) -> Result<(usize, Numbers, usize), Refusal>
+    requires { ArePairs contacts.old.contacts }
+{
+    lay_all_but_one(alloc, contacts)?;
+    drop_body(contacts, 0);
+    let left = count(alloc, contacts)?;
+    Ok((left, numbers(contacts), contacts.gone().len()))
 }
 
 #[test]
 fn a_body_that_is_dropped_lets_its_numbers_go(rt: HostRuntime) {
-    same(&rt, &without_ground(rt.alloc()), &Ok((0, [None; 4], 3)));
+    let mut contacts = ContactTable::new(rt.alloc());
+    let left = without_ground(rt.alloc(), &mut contacts);
+    same(&rt, &left, &Ok((0, [None; 4], 3)));
 }

@@ -158,13 +158,28 @@ pub(crate) fn count(alloc: Global, contacts: &ContactTable) -> Result<usize, Ref
     Ok(contacts.to_entries(alloc)?.len())
 }
 
+/// The same, and how many contacts there are then.
+fn collide_and_count(
+    alloc: Global,
+    contacts: &mut ContactTable,
+    shapes: PairSweep,
+    forbidden: OnePair,
+) -> Result<(Touches, usize), Refusal>
+    requires pairs { ArePairs contacts.old.contacts }
+    ensures pairs { ArePairs contacts.new.contacts }
+{
+    let touches = collide(alloc, contacts, shapes, forbidden)?;
+    let left = count(alloc, contacts)?;
+    Ok((touches, left))
+}
+
 /// How many contacts begin and end where a capsule lies at this height on its floor, and how many there are then.
 fn laid_at(alloc: Global, contacts: &mut ContactTable, y: i64) -> Result<[usize; 3], Refusal>
     requires { ArePairs contacts.old.contacts }
     ensures pairs { ArePairs contacts.new.contacts }
 {
-    let touches = collide(alloc, contacts, lying_at(alloc, y)?, NO_PAIR)?;
-    let left = count(alloc, contacts)?;
+    let floor = lying_at(alloc, y)?;
+    let (touches, left) = collide_and_count(alloc, contacts, floor, NO_PAIR)?;
     Ok([touches.begin.len(), touches.end.len(), left])
 }
 
@@ -209,21 +224,23 @@ fn a_contact_is_kept_while_its_shapes_are_near(rt: HostRuntime) {
     same(&rt, &kept(rt.alloc()), &Ok((counts, 0)));
 }
 
+/// The capsule and its floor may no longer touch.
+const FLOOR_AND_CAPSULE: OnePair = OnePair {
+    pair: Some(BodyPair { a: 1, b: 0 }),
+};
+
 /// The touches of a capsule on its floor once both pass through one another, and how many contacts are left.
+fn joined_in(alloc: Global, contacts: &mut ContactTable) -> Result<(Touches, usize), Refusal>
+    requires { ArePairs contacts.old.contacts }
+{
+    laid_at(alloc, contacts, 20_000)?;
+    collide_and_count(alloc, contacts, lying_at(alloc, 20_000)?, FLOOR_AND_CAPSULE)
+}
+
+/// The same, where there are no contacts before.
 fn joined(alloc: Global) -> Result<(Touches, usize), Refusal> {
     let mut contacts = ContactTable::new(alloc);
-    laid_at(alloc, &mut contacts, 20_000)?;
-    let floor_and_capsule = OnePair {
-        pair: Some(BodyPair { a: 1, b: 0 }),
-    };
-    let touches = collide(
-        alloc,
-        &mut contacts,
-        lying_at(alloc, 20_000)?,
-        floor_and_capsule,
-    )?;
-    let left = count(alloc, &contacts)?;
-    Ok((touches, left))
+    joined_in(alloc, &mut contacts)
 }
 
 #[test]
@@ -257,13 +274,18 @@ const NEXT: ContactKey = ContactKey {
 };
 
 /// The touches of the row and how many contacts it has, before its ball in slot 5 moves and after it.
+fn moved_in(alloc: Global, contacts: &mut ContactTable) -> Result<[(Touches, usize); 2], Refusal>
+    requires { ArePairs contacts.old.contacts }
+{
+    let before = collide_and_count(alloc, contacts, row(alloc, 0)?, NO_PAIR)?;
+    let after = collide_and_count(alloc, contacts, row(alloc, 950_000)?, NO_PAIR)?;
+    Ok([before, after])
+}
+
+/// The same, where there are no contacts before.
 fn moved(alloc: Global) -> Result<[(Touches, usize); 2], Refusal> {
     let mut contacts = ContactTable::new(alloc);
-    let first = collide(alloc, &mut contacts, row(alloc, 0)?, NO_PAIR)?;
-    let before = count(alloc, &contacts)?;
-    let then = collide(alloc, &mut contacts, row(alloc, 950_000)?, NO_PAIR)?;
-    let after = count(alloc, &contacts)?;
-    Ok([(first, before), (then, after)])
+    moved_in(alloc, &mut contacts)
 }
 
 #[test]
