@@ -3,9 +3,10 @@
 
     tools/gate_minutes.py [COMMAND..]     the command is .ci/run where none is given
 
-It looks at the kit's processes each second. Each has a crate's name among its words, so that processor time and memory
-fall to crates: a `build` is a proof, with what compiles it. A `check` is one of the edits, or the proof that they begin with;
-of a crate without edits in the gate it is the proof. Run it in a clean checkout, with nothing kept, on a machine that does nothing else. It ends as the command does.
+It looks each second at the kit's processes below the command. Each has a crate's name among its words, so that processor
+time and memory fall to crates: a `build` is a proof, with what compiles it. A `check` is one of the edits, or the proof that they begin with;
+of a crate without edits in the gate it is the proof. Run it in a clean checkout, with nothing kept, on a machine that does
+nothing else. It ends as the command does.
 """
 
 import os
@@ -29,6 +30,16 @@ def words_of(process):
         return Path(f"/proc/{process}/cmdline").read_bytes().decode(errors="replace").split("\0")
     except OSError:
         return []
+
+
+def is_below(process, above):
+    """Whether a process is one that another has started, or one that those have."""
+    while process not in ("", "0", "1", above):
+        try:
+            process = Path(f"/proc/{process}/stat").read_text().rsplit(") ", 1)[1].split()[1]
+        except (OSError, IndexError):
+            return False
+    return process == above
 
 
 def use_of(process):
@@ -57,7 +68,7 @@ def watch(command):
     while running.poll() is None:
         for process in filter(str.isdigit, os.listdir("/proc")):
             task = task_of(words_of(process))
-            use = task and use_of(process)
+            use = task and is_below(process, str(running.pid)) and use_of(process)
             if use:
                 used[process, task] = use
         time.sleep(1)
