@@ -90,7 +90,7 @@ def table_of(minutes, processor_minutes, used):
     """What GATE says."""
     rows = rows_of(used)
     processors = os.cpu_count()
-    yield f"On {processors} processors with nothing else to do the whole gate took {minutes:.0f} minutes by the clock, and {processor_minutes:.0f} of a processor."
+    yield f"On {processors} processors the whole gate took {minutes:.0f} minutes by the clock, and {processor_minutes:.0f} of a processor."
     yield ""
     yield "| Crate | Its proof, minutes of a processor | Its edits | Most memory, GB |"
     yield "|---|---|---|---|"
